@@ -1,0 +1,5 @@
+pub mod Counts
+pub mod Images
+pub mod Keys
+pub mod Lists
+pub mod Moments

@@ -1,6 +1,5 @@
 -- How a new volume is laid out, by its number of blocks and their size.
-use Rattle.std.specs.Prelude.{◌≡◌, ◌⊎◌, ◌<◌, ◌≤◌, ℕ, pos, ◌+◌, ◌-◌, ◌*◌, ◌/◌, ◌^◌, nat_le, if◌then◌else◌}
-use Rattle.bfs_bytes.specs.declared.Run.{Run}
+use Rattle.std.specs.Prelude.{◌≡◌, ◌⊎◌, ◌<◌, ◌≤◌, ℕ, pos, ◌+◌, ◌*◌, ◌^◌, nat_le, if◌then◌else◌}
 use Rattle.bfs_super.specs.Conditions.{natural, ceil, block_of_run}
 use Rattle.bfs_super.specs.declared.sup.Super.{Super}
 use Rattle.bfs_super.specs.declared.geometry.Geometry.{Geometry}

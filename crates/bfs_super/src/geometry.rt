@@ -101,11 +101,7 @@ fn shift_of(blocks: u64, first: u32) -> u32
 }
 
 /// The layout of a volume with another length of the log, of 2 to 2,048 blocks.
-pub fn plan_with_log(
-    blocks: u64,
-    block_size: u32,
-    log_blocks: u16,
-) -> Result<Geometry, TooSmall>
+pub fn plan_with_log(blocks: u64, block_size: u32, log_blocks: u16) -> Result<Geometry, TooSmall>
     requires size { IsBlockSize block_size }
     requires length { blocks ≤ 4194304 }
     requires log_low { 2 ≤ log_blocks }

@@ -1,0 +1,4 @@
+mod Changed
+mod Held
+mod Pieces
+mod TwoItems

@@ -1,0 +1,71 @@
+// The program `bfs`: volumes of the Be File System in image files. Its top call is `bfs`, whose contract says how
+// each command ends and what it leaves on the disk (specs/Tool.antt, specs/Label.antt).
+#![tactic(auto)]
+
+mod label;
+mod line;
+mod output;
+#[cfg(test)]
+mod tests;
+mod tool;
+mod words;
+
+use bfs_disk::FileDisk;
+use bfs_ports::{Fixed, Mem, NoGate, Output};
+use std::alloc::{AllocError, Global};
+use std::process::ExitCode;
+use std::{env, io};
+use words::Argument;
+
+/// The image's path, and the words behind it. A word that isn't UTF-8 stands for a faulty command line.
+#[derive(Drop)]
+struct CommandLine {
+    image: Option<String>,
+    words: Vec<Argument>,
+}
+
+fn command_line(rt: &HostRuntime) -> Result<CommandLine, AllocError> {
+    let alloc = rt.alloc();
+    let mut line = CommandLine {
+        image: None,
+        words: Vec::new(alloc),
+    };
+    let Ok(args) = env::args(rt) else {
+        line.words.push(Argument::of(alloc, "")?)?;
+        return Ok(line);
+    };
+    for (i, word) in args.enumerate() {
+        if i == 1 {
+            line.image = Some(word);
+        } else if i > 1 {
+            line.words.push(Argument::of(alloc, word.as_str())?)?;
+        }
+    }
+    Ok(line)
+}
+
+fn main(rt: HostRuntime) -> ExitCode {
+    let alloc = rt.alloc();
+    let Ok(line) = command_line(&rt) else {
+        return ExitCode::from(7);
+    };
+    let path = match &line.image {
+        Some(path) => path.as_str(),
+        None => "",
+    };
+    let Ok(disk) = FileDisk::named(&rt, path) else {
+        return ExitCode::from(7);
+    };
+    let mut out = Output::over(io::writer(&rt));
+    let mut script = Mem::source(Vec::new(alloc));
+    let (status, _disk) = tool::bfs(
+        &rt,
+        &line.words,
+        disk,
+        &mut script,
+        &mut out,
+        Fixed::clock(0),
+        &NoGate,
+    );
+    ExitCode::from(status)
+}

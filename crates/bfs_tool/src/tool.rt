@@ -1,0 +1,102 @@
+// The top call.
+ghost use Rattle.std.specs.Prelude.{◌≡◌, ◌⊎◌, ◌↔◌, ◌≤◌, ℕ, List, []};
+ghost use Rattle.bfs_base.specs.Counts.{Rose};
+ghost use Rattle.bfs_disk.specs.State.{State, ReadsAs, Tells, Holds};
+ghost use Rattle.bfs_super.specs.Label.{IsLabel};
+ghost use Rattle.bfs_tool.specs.declared.label.Ending.{Ending};
+ghost use Rattle.bfs_tool.specs.Label.{EndsBy, OldOrNew, labelled, label_status, label_text};
+ghost use Rattle.bfs_tool.specs.Tool.{IsLabelCommand, IsFaulty, Prints, usage_text};
+
+use crate::label::relabel;
+use crate::output::report;
+use crate::words::{Argument, Command, read_words};
+use bfs_disk::Disk;
+use bfs_ports::{Clock, Gate, Sink, Source};
+
+const USAGE: &str =
+    "usage: bfs IMAGE (label NAME | mk --blocks N [--block-size B] [--name NAME] | check | sh [-j N] | soak SEED COUNT [-j N])\n";
+
+// Prints how `label` ended, and tells the status.
+fn label<D: Disk, W: Sink>(disk: &mut D, name: &[u8], out: &mut W) -> u8
+    requires { IsLabel name.now }
+    ensures ends { (ending : Ending) × (result ≡ label_status ending)
+        × Prints (W.written out.old) (W.written out.new) (W.faults out.old) (W.faults out.new) (label_text ending)
+        × ((image : List ℕ) → Tells (D.state disk.old) (λ s. ReadsAs s image) → EndsBy image ending) }
+    ensures refused { (result ≡ 3) ⊎ (result ≡ 11) → D.state disk.new ≡ D.state disk.old }
+    ensures done { (image : List ℕ) → Tells (D.state disk.old) (Holds image) → result ≡ 0 → Tells (D.state disk.new) (Holds (labelled name.now image)) }
+    ensures moments { (image : List ℕ) → Tells (D.state disk.old) (Holds image) → (c : List ℕ) → D.since disk.new (D.clock disk.old) c → OldOrNew name.now image c }
+    ensures disk_failed { result ≡ 4 → Rose (D.faults disk.old) (D.faults disk.new) }
+    ensures others { (result ≡ 2) ⊎ (result ≡ 6) → ⊥ }
+    ensures disk_later { D.faults disk.old ≤ D.faults disk.new }
+    ensures output_later { W.faults out.old ≤ W.faults out.new }
+{
+    let ending = relabel(disk, name);
+    let line = ending.line();
+    report(out, line.bytes(), ending.status())
+}
+
+// Runs the command that the words ask for.
+fn run<D: Disk, W: Sink>(words: &[Argument], disk: &mut D, out: &mut W) -> u8
+    ensures usage { words.now ≡ [] → (result ≡ 0) ⊎ (result ≡ 6) }
+    ensures faulty { (result ≡ 2) ↔ IsFaulty words.now }
+    ensures texts { words.now ≡ [] ⊎ IsFaulty words.now → Prints (W.written out.old) (W.written out.new) (W.faults out.old) (W.faults out.new) usage_text }
+    ensures idle { words.now ≡ [] ⊎ IsFaulty words.now → D.state disk.new ≡ D.state disk.old }
+    ensures label { (name : List ℕ) → IsLabelCommand words.now name → (ending : Ending) × (result ≡ label_status ending)
+        × Prints (W.written out.old) (W.written out.new) (W.faults out.old) (W.faults out.new) (label_text ending)
+        × ((image : List ℕ) → Tells (D.state disk.old) (λ s. ReadsAs s image) → EndsBy image ending) }
+    ensures refused { (result ≡ 3) ⊎ (result ≡ 11) → D.state disk.new ≡ D.state disk.old }
+    ensures done { (name image : List ℕ) → IsLabelCommand words.now name → Tells (D.state disk.old) (Holds image) → result ≡ 0 → Tells (D.state disk.new) (Holds (labelled name image)) }
+    ensures moments { (image : List ℕ) → Tells (D.state disk.old) (Holds image) → (c : List ℕ) → D.since disk.new (D.clock disk.old) c
+        → (c ≡ image) ⊎ ((name : List ℕ) × IsLabelCommand words.now name × (c ≡ labelled name image)) }
+    ensures disk_failed { result ≡ 4 → Rose (D.faults disk.old) (D.faults disk.new) }
+    ensures output_failed { result ≡ 6 → (words.now ≡ []) × Rose (W.faults out.old) (W.faults out.new) }
+    ensures disk_later { D.faults disk.old ≤ D.faults disk.new }
+    ensures output_later { W.faults out.old ≤ W.faults out.new }
+{
+    match read_words(words) {
+        Command::Usage => report(out, USAGE.as_bytes(), 0),
+        Command::Faulty => report(out, USAGE.as_bytes(), 2),
+        Command::Label(name) => label(disk, name, out),
+    }
+}
+
+/// Runs the command that the words ask for, and hands the disk back with the status.
+///
+/// Statuses: 0 done, 2 faulty words, 3 not a volume, 4 the disk failed, 6 the output failed, 11 the log isn't empty.
+pub fn bfs<X, D: Disk + Send, R: Source, W: Sink, C: Clock + Send + Drop, G: Gate + Sync>(
+    _rt: &X,
+    words: &[Argument],
+    mut disk: D,
+    _script: &mut R,
+    out: &mut W,
+    _clock: C,
+    _gate: &G,
+) -> (u8, D)
+    // No words print the usage text. Words that are no command end with status 2, and only they.
+    ensures usage { words.now ≡ [] → (result.0 ≡ 0) ⊎ (result.0 ≡ 6) }
+    ensures faulty { (result.0 ≡ 2) ↔ IsFaulty words.now }
+    ensures texts { words.now ≡ [] ⊎ IsFaulty words.now → Prints (W.written out.old) (W.written out.new) (W.faults out.old) (W.faults out.new) usage_text }
+    ensures idle { words.now ≡ [] ⊎ IsFaulty words.now → D.state result.1 ≡ D.state disk }
+
+    // `label NAME` ends by what the disk reads, with the status and the text of that ending.
+    ensures label { (name : List ℕ) → IsLabelCommand words.now name → (ending : Ending) × (result.0 ≡ label_status ending)
+        × Prints (W.written out.old) (W.written out.new) (W.faults out.old) (W.faults out.new) (label_text ending)
+        × ((image : List ℕ) → Tells (D.state disk) (λ s. ReadsAs s image) → EndsBy image ending) }
+
+    // At the statuses 3 and 11 the disk is as before, and at 0 the label is on the disk.
+    ensures refused { (result.0 ≡ 3) ⊎ (result.0 ≡ 11) → D.state result.1 ≡ D.state disk }
+    ensures done { (name image : List ℕ) → IsLabelCommand words.now name → Tells (D.state disk) (Holds image) → result.0 ≡ 0 → Tells (D.state result.1) (Holds (labelled name image)) }
+
+    // A crash at any moment leaves the old image, or the one with the new label.
+    ensures moments { (image : List ℕ) → Tells (D.state disk) (Holds image) → (c : List ℕ) → D.since result.1 (D.clock disk) c
+        → (c ≡ image) ⊎ ((name : List ℕ) × IsLabelCommand words.now name × (c ≡ labelled name image)) }
+
+    // A failed disk and a failed output each have their cause in a risen count.
+    ensures disk_failed { result.0 ≡ 4 → Rose (D.faults disk) (D.faults result.1) }
+    ensures output_failed { result.0 ≡ 6 → (words.now ≡ []) × Rose (W.faults out.old) (W.faults out.new) }
+    ensures disk_later { D.faults disk ≤ D.faults result.1 }
+    ensures output_later { W.faults out.old ≤ W.faults out.new }
+{
+    let status = run(words, &mut disk, out);
+    (status, disk)
+}

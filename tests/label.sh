@@ -1,0 +1,51 @@
+#!/bin/sh
+# `label` on a real file of 4,194,304 bytes: the bytes that change, the statuses, and what blkid says.
+set -u
+root=$(dirname "$(dirname "$(readlink -f "$0")")")
+work=$(mktemp -d)
+trap 'rm -rf "$work"' EXIT
+failed=0
+passed=0
+
+check() { # NAME CONDITION..
+    name=$1
+    shift
+    if "$@"; then passed=$((passed + 1)); else failed=$((failed + 1)); echo "label.sh: failed: $name"; fi
+}
+
+image=$work/volume.img
+python3 "$root/tests/volume.py" "$image"
+cp "$image" "$work/before.img"
+
+"$root/bfs" "$image" label new >"$work/out"
+check 'status 0' test $? -eq 0
+check 'nothing printed' test ! -s "$work/out"
+cmp -l "$work/before.img" "$image" | awk '{ print $1 - 1 }' >"$work/places"
+check 'only bytes 512 to 543 differ' awk '$1 < 512 || $1 > 543 { bad = 1 } END { exit bad }' "$work/places"
+check 'the new label' test "$(dd if="$image" bs=1 skip=512 count=32 2>/dev/null | od -An -v -tx1 | tr -d ' \n')" = \
+    "6e65770000000000000000000000000000000000000000000000000000000000"
+
+"$root/bfs" "$image" label "$(printf 'n%.0s' $(seq 32))" >"$work/out" 2>&1
+check 'a label of 32 letters is refused' test $? -eq 2
+printf '\302' >"$work/word"
+"$root/bfs" "$image" label "$(cat "$work/word")" >"$work/out" 2>&1
+check 'a word that is not UTF-8 is refused' test $? -eq 2
+check 'with the usage text' grep -q '^usage: bfs IMAGE' "$work/out"
+"$root/bfs" "$work/missing.img" label new >"$work/out" 2>&1
+check 'a missing file is a failed disk' test $? -eq 4
+head -c 512 "$work/before.img" >"$work/short.img"
+"$root/bfs" "$work/short.img" label new >"$work/out" 2>&1
+check 'one sector is too short' test $? -eq 3
+check 'and told so' test "$(cat "$work/out")" = 'finding short 1 2'
+"$root/bfs" "$image" label new >/dev/full
+check 'label prints nothing to a full device' test $? -eq 0
+"$root/bfs" "$image" >/dev/full
+check 'a full output' test $? -eq 6
+
+if command -v blkid >/dev/null 2>&1; then
+    check 'blkid names the new label' sh -c "blkid -p '$image' | grep -q 'LABEL=\"new\"'"
+else
+    echo 'label.sh: skipped: blkid is not installed'
+fi
+echo "$passed passed, $failed failed"
+test "$failed" -eq 0

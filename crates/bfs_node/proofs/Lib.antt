@@ -1,0 +1,12 @@
+pub mod AllRows
+mod Begun
+mod Headers
+pub mod Kept
+pub mod Linked
+mod Made
+mod Numbers
+pub mod Order
+pub mod PageLayout
+pub mod Parts
+mod RowsRead
+mod RowsWritten

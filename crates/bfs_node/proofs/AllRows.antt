@@ -1,11 +1,11 @@
 -- What holds of each row of a list holds of each row of its parts, and of rows joined.
-use Rattle.std.proofs.Common.{◌≡◌, ◌<◌, ◌≤◌, ◌+◌, ◌-◌, ℕ, pos, zero, suc, List, [], ◌∷◌, ◌++◌, length, take, drop, insert, remove, ap, sym, ◌∙◌, subst, arith, length-append, length-take, length-drop}
+use Rattle.std.proofs.Common.{ℤ, ◌≡◌, ◌<◌, ◌≤◌, ◌+◌, ◌-◌, ℕ, pos, zero, suc, List, [], ◌∷◌, ◌++◌, length, take, drop, insert, remove, ap, sym, ◌∙◌, subst, arith, length-append, length-take, length-drop, set}
 use Rattle.std.proofs.lemmas.List.{take-append-drop, get_or-drop, get_or-take}
 use Rattle.std.proofs.Math.Seq.{take-add}
 use Rattle.bfs_base.specs.Keys.{IsKey}
 use Rattle.bfs_base.specs.declared.kind.KeyKind.{KeyKind}
 use Rattle.bfs_base.specs.declared.kind.KeyKind.TheVariants.{Text, I32, U32, I64, U64, F32, F64}
-use Rattle.bfs_node.specs.Page.{Row, key_of, row_in, keys_of, IsKeyLength}
+use Rattle.bfs_node.specs.Page.{HasKeys, Row, key_of, row_in, keys_of, IsKeyLength}
 use Rattle.bfs_node.proofs.RowsRead.{keys_of-append, keys-next}
 
 module _ (P : Row → Type 0) where
@@ -37,6 +37,14 @@ module _ (P : Row → Type 0) where
 
   pub all-part : (xs : List Row) (from n : ℕ) → AllRows xs → AllRows (take n (drop from xs))
   all-part xs from n a = all-take n (drop from xs) (all-drop from xs a)
+
+-- where a row keeps its key
+pub keys-set : (kind : KeyKind) (rows : List Row) (i : ℕ) (v : ℤ) → HasKeys kind rows → HasKeys kind (set rows i (key_of (row_in rows i), v))
+keys-set kind [] i v a m h = absurd (omega arith)
+keys-set kind (x ∷ rows) zero v a zero h = a 0 (omega arith)
+keys-set kind (x ∷ rows) zero v a (suc m) h = a (suc m) (omega arith)
+keys-set kind (x ∷ rows) (suc i) v a zero h = a 0 (omega arith)
+keys-set kind (x ∷ rows) (suc i) v a (suc m) h = keys-set kind rows i v (λ k z. a (suc k) (omega arith)) m (omega arith)
 
 -- a key has a length of its kind
 pub key-length : (kind : KeyKind) (key : List ℕ) → IsKey kind key → IsKeyLength kind (length key)

@@ -10,3 +10,4 @@ pub mod PageLayout
 pub mod Parts
 mod RowsRead
 mod RowsWritten
+pub mod Valued

@@ -95,7 +95,7 @@ head_bytes links count bytes =
 unfoldable pub blank_page : List ℕ
 blank_page = head_bytes null_links 0 0 ++ replicate 996 0
 
--- how many bytes a key of a kind has, at least and at most
+-- how many bytes a key of a kind has, at least and at most; a tree of a floating point kind has no keys here
 abbrev pub least_key : KeyKind → ℕ
 least_key Text = 1
 least_key I32 = 4

@@ -1,12 +1,12 @@
 // Changes the rows and the links of a page that is lent.
-ghost use Rattle.std.specs.Prelude.{◌≡◌, ◌≤◌, ◌<◌, ◌+◌, ◌↔◌, ℕ, List, [], length, take, drop, insert, remove, IsTrue};
+ghost use Rattle.std.specs.Prelude.{◌≡◌, ◌≤◌, ◌<◌, ◌+◌, ◌↔◌, ℕ, List, [], length, take, drop, insert, remove, slice_set, IsTrue};
 ghost use Rattle.std.specs.Int.{w64};
 ghost use Rattle.bfs_base.specs.Keys.{IsKey};
 ghost use Rattle.bfs_bytes.specs.Fields.{Puts, signed64_bytes};
-ghost use Rattle.bfs_node.specs.Page.{HasLayout, HasKeys, HasRoom, rows_of, links_of, null_links, blank_page};
+ghost use Rattle.bfs_node.specs.Page.{HasLayout, HasKeys, HasRoom, rows_of, row_in, key_of, keys_of, taken_by, links_of, null_links, blank_page};
 
 use crate::NULL_LINKS;
-use crate::read::{key_bytes, links, row_count};
+use crate::read::{key_bytes, links, row_count, value_place};
 use crate::write::{emptied, inserted, parted, removed};
 use bfs_bytes::put_i64;
 
@@ -17,6 +17,15 @@ pub fn has_room(page: &[u8], key: &[u8]) -> bool
 {
     let bytes = key_bytes(page);
     key.len() <= 1024 && (28 + bytes + key.len() + 7) / 8 * 8 + 10 * (row_count(page) + 1) <= 1024
+}
+
+/// How many bytes of a page no row takes: a row takes its key, two bytes for the key's end and eight for the
+/// value, and the keys are filled up to a multiple of eight.
+pub fn free_bytes(page: &[u8]) -> usize
+    requires { HasLayout page.now }
+    ensures { result + taken_by (length (rows_of page.now)) (length (keys_of (rows_of page.now))) ≡ 1024 }
+{
+    1024 - ((28 + key_bytes(page) + 7) / 8 * 8 + 10 * row_count(page))
 }
 
 /// Puts a row into a page, before the row at this place or behind the last one.
@@ -44,6 +53,18 @@ pub fn remove_row(page: &mut [u8], i: usize)
     let mut next = [0u8; 1024];
     removed(page, i, &mut next);
     page.copy_from_slice(&next);
+}
+
+/// Writes the value of the row at a place.
+pub fn set_row_value(page: &mut [u8], i: usize, value: i64)
+    requires page { HasLayout page.old }
+    requires place { i < length (rows_of page.old) }
+    ensures page { HasLayout page.new }
+    ensures rows { rows_of page.new ≡ slice_set (rows_of page.old) i (key_of (row_in (rows_of page.old) i), value) }
+    ensures links { links_of page.new ≡ links_of page.old }
+{
+    let at = value_place(page, i);
+    put_i64(page, at, value);
 }
 
 /// Moves the rows from a place on, in their order, into another page, which gets three null links.

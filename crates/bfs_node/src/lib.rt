@@ -17,8 +17,8 @@ mod write;
 pub use bfs_base::KeyKind;
 pub use check_page::{check, is_key};
 pub use edit::{
-    blank, has_room, insert_row, remove_row, set_left_link, set_overflow_link, set_right_link,
-    split_rows,
+    blank, free_bytes, has_room, insert_row, remove_row, set_left_link, set_overflow_link,
+    set_right_link, set_row_value, split_rows,
 };
 pub use fault::{PageFault, PageKind, TreeFault};
 pub use header::{Header, PAGE, data_type};

@@ -1,8 +1,8 @@
 // A page that is lent, to be changed.
-ghost use Rattle.std.specs.Prelude.{◌≡◌, ◌≤◌, ◌<◌, ◌↔◌, [], length, take, drop, insert, remove, IsTrue, IfOk, IfErr};
+ghost use Rattle.std.specs.Prelude.{◌≡◌, ◌≤◌, ◌<◌, ◌↔◌, [], length, take, drop, insert, remove, slice_set, IsTrue, IfOk, IfErr};
 ghost use Rattle.bfs_base.specs.Keys.{IsKey, IsTreeKind};
 ghost use Rattle.bfs_node.specs.Faults.{IsPageRefusal};
-ghost use Rattle.bfs_node.specs.Page.{IsPage, HasRoom, page_of, rows_of, links_of, null_links, blank_page};
+ghost use Rattle.bfs_node.specs.Page.{IsPage, HasRoom, page_of, rows_of, row_in, key_of, links_of, null_links, blank_page};
 
 use crate::{KeyKind, PageFault, PageView, check, edit};
 
@@ -90,6 +90,17 @@ impl<'a> PageMut<'a> {
         ensures links { links_of self.new.page.now ≡ links_of self.old.page.now }
     {
         edit::remove_row(self.page, i);
+    }
+
+    /// Writes the value of the row at a place.
+    pub fn set_value(&mut self, i: usize, value: i64)
+        requires { i < length (rows_of self.old.page.now) }
+        ensures same_reference { self.new.page.ghost_name ≡ self.old.page.ghost_name }
+        ensures kind { self.new.kind ≡ self.old.kind }
+        ensures rows { rows_of self.new.page.now ≡ slice_set (rows_of self.old.page.now) i (key_of (row_in (rows_of self.old.page.now) i), value) }
+        ensures links { links_of self.new.page.now ≡ links_of self.old.page.now }
+    {
+        edit::set_row_value(self.page, i, value);
     }
 
     /// Moves the rows from a place on, in their order, into another page, which becomes a page of the same kind of

@@ -67,13 +67,23 @@ pub fn row_key(page: &[u8], i: usize) -> &[u8]
     cut(page, 28 + start(page, i), 28 + end(page, i))
 }
 
+/// Where the value of a row stands.
+pub fn value_place(page: &[u8], i: usize) -> usize
+    requires page { HasLayout page.now }
+    requires place { i < length (rows_of page.now) }
+    ensures place { result ≡ base_at page.now + 2 * count_at page.now + 8 * i }
+    ensures within { result + 8 ≤ length page.now }
+{
+    base(page) + 2 * row_count(page) + 8 * i
+}
+
 /// The value of the row at a place.
 pub fn row_value(page: &[u8], i: usize) -> i64
     requires page { HasLayout page.now }
     requires place { i < length (rows_of page.now) }
     ensures { result ≡ value_of (row_in (rows_of page.now) i) }
 {
-    i64_at(page, base(page) + 2 * row_count(page) + 8 * i)
+    i64_at(page, value_place(page, i))
 }
 
 /// The page to the left, or -1. Of a free page, the next free one, or -1.

@@ -3,7 +3,7 @@ ghost use Rattle.std.specs.Prelude.{◌≡◌, length};
 
 use crate::{
     Header, KeyKind, Links, NULL_LINKS, PageFault, PageMut, PageView, blank, check, data_type,
-    is_key, page_links,
+    free_bytes, is_key, page_links,
 };
 
 /// Copies bytes into a page, where they fit.
@@ -72,6 +72,14 @@ fn has_rows(page: &[u8; 1024], rows: &[(&[u8], i64)]) -> bool {
             true
         }
         Err(_) => false,
+    }
+}
+
+/// How many bytes of a page are free, if it is one.
+fn free(page: &[u8; 1024]) -> Option<usize> {
+    match check(page, KeyKind::Text) {
+        Ok(()) => Some(free_bytes(page)),
+        Err(_) => None,
     }
 }
 
@@ -201,6 +209,7 @@ fn a_page_takes_rows_up_to_its_last_byte(rt: HostRuntime) {
     }
     assert!(rt; !put(&mut page, KeyKind::Text, &long[..192], 0));
     assert!(rt; put(&mut page, KeyKind::Text, &long[..191], i64::MAX));
+    assert!(rt; free(&page) == Some(0));
     assert!(rt; !put(&mut page, KeyKind::Text, b"a", 0));
     let mut small = [0u8; 1024];
     blank(&mut small);
@@ -289,7 +298,7 @@ fn rows_go_out_and_move(rt: HostRuntime) {
         assert!(rt; put(&mut page, KeyKind::Text, key, value));
     }
     assert!(rt; cut(&mut page, &mut into));
-    assert!(rt; has_rows(&page, &[(b"alpha", 1)]));
+    assert!(rt; has_rows(&page, &[(b"alpha", 11)]));
     assert!(rt; has_rows(&into, &[(b"cc", 3), (b"dodo", 4), (b"eta", 5)]));
     let links = Links {
         left: 2048,
@@ -305,6 +314,7 @@ fn cut(page: &mut [u8; 1024], into: &mut [u8; 1024]) -> bool {
         Ok(mut page) => {
             let five = page.view().count() == 5;
             if five {
+                page.set_value(0, 11);
                 page.set_left(2048);
                 page.set_right(-9);
                 page.set_overflow(i64::MAX);

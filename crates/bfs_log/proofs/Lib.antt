@@ -1,0 +1,6 @@
+pub mod Bounds
+pub mod Listed
+pub mod Printed
+pub mod Written
+pub mod Logged
+pub mod Replays

@@ -1,0 +1,4 @@
+pub mod Ring
+pub mod Entry
+pub mod Found
+pub mod Replay

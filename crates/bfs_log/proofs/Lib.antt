@@ -4,3 +4,5 @@ pub mod Printed
 pub mod Written
 pub mod Logged
 pub mod Replays
+pub mod Emptied
+pub mod Walks

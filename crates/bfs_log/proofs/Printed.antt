@@ -26,7 +26,7 @@ number_read : (n x at : ℕ) (front rest : List ℕ) → length front ≡ at →
 unfolding unsigned_at unsigned_bytes
 number_read n x at front rest long fits = ap (little_number n) (drop_at front (little_bytes n x ++ rest) at long) ∙ little_number-reads_back n x rest fits
 
-signed_read : (z : ℤ) (at : ℕ) (front rest : List ℕ) → FitsSigned w32 z → length front ≡ at → signed32_at (front ++ (signed32_bytes z ++ rest)) at ≡ z
+pub signed_read : (z : ℤ) (at : ℕ) (front rest : List ℕ) → FitsSigned w32 z → length front ≡ at → signed32_at (front ++ (signed32_bytes z ++ rest)) at ≡ z
 unfolding signed32_at signed32_bytes
 signed_read z at front rest fits long =
     let below = Fits-of_z {w = w32} {z = z} fits in

@@ -225,12 +225,12 @@ module _ (image result : List ℕ) (log : Replayed image result) where
   full : log_from (super_of image) ≢ log_to (super_of image) → result ≡ overwritten 1 new_sector written
   full other = log.same ∙ cond-false (log_from (super_of image) == log_to (super_of image)) image (overwritten 1 new_sector written) (ne_eqb (log_from (super_of image)) (log_to (super_of image)) other)
 
-  empty : log_from (super_of image) ≡ log_to (super_of image) → result ≡ image
-  empty same = log.same ∙ cond-true (log_from (super_of image) == log_to (super_of image)) image (overwritten 1 new_sector written) (eq-eqb (log_from (super_of image)) (log_to (super_of image)) same)
+  pub replayed_same : log_from (super_of image) ≡ log_to (super_of image) → result ≡ image
+  replayed_same same = log.same ∙ cond-true (log_from (super_of image) == log_to (super_of image)) image (overwritten 1 new_sector written) (eq-eqb (log_from (super_of image)) (log_to (super_of image)) same)
 
   pub replayed_size : length result ≡ length image
   replayed_size = ⊎_elim
-      (λ same. ap length (empty same))
+      (λ same. ap length (replayed_same same))
       (λ other. ap length (full other) ∙ length-pasted 1 1 new_sector written new_fits new_whole ∙ long_written)
       (cases_eq (log_from (super_of image)) (log_to (super_of image)))
 
@@ -245,7 +245,7 @@ module _ (image result : List ℕ) (log : Replayed image result) where
       ⊎_elim
       (λ same.
       let none : log.entries ≡ [] = empty_log image log.valid log.entries same log.log in
-      ap (block r b) (empty same) ∙ ap (λ (es : List (List Home)). over (homes_of es) (blocks_of image) b) (sym none))
+      ap (block r b) (replayed_same same) ∙ ap (λ (es : List (List Home)). over (homes_of es) (blocks_of image) b) (sym none))
       (λ other.
       ap (block r b) (full other)
       ∙ same_block r b written (overwritten 1 new_sector written) (length-pasted 1 1 new_sector written new_fits new_whole)
@@ -258,7 +258,7 @@ module _ (image result : List ℕ) (log : Replayed image result) where
   replayed_rest b j low none ne =
       let r = block_sectors (super_of image) in
       ⊎_elim
-      (λ same. ap (sector (r * b + j)) (empty same))
+      (λ same. ap (sector (r * b + j)) (replayed_same same))
       (λ other.
       ap (sector (r * b + j)) (full other)
       ∙ ⊎_elim

@@ -10,7 +10,10 @@ mod read;
 mod ring;
 
 pub use entry::{EntryFault, Place, Runs};
-pub use laws::{replay_gives_one, replayed_image, stopped_replay_goes_on};
+pub use laws::{
+    homes_stand_behind, replay_gives_one, replayed_image, replayed_superblock,
+    stopped_replay_goes_on, walk_over_entries,
+};
 pub use print::log_print;
 pub use read::log_entry;
 pub use ring::{ring_next, ring_used};

@@ -153,7 +153,8 @@ pub fn log_entry(block: &[u8], place: &Place) -> Result<Runs, EntryFault>
         Err(fault) => return Err(fault),
     };
     let blocks = 1 + named;
-    let room = ring_used(place.start, place.end, place.length);
+    let length = u64::from(place.geometry.log.len);
+    let room = ring_used(place.start, place.end, length);
     if room < blocks {
         return Err(EntryFault::PastEnd { blocks, room });
     }

@@ -1,0 +1,34 @@
+-- What is told of a volume's blocks: a map from numbers to bytes. A block that is not in the map may have any bytes.
+use Rattle.std.specs.Prelude.{◌≡◌, ℕ, ◌+◌, ◌*◌, List, take, drop, length, Bool, ◌||◌, ◌==◌, nat_le, Option, Some, None, IfSome, if◌then◌else◌}
+
+-- the bytes are those told of the block, where they are told
+abbrev pub AreOfBlock : Option (ℕ → Option (List ℕ)) → ℕ → List ℕ → Type 0
+AreOfBlock told block bytes = IfSome told (λ m. IfSome (m block) (λ b. bytes ≡ b))
+
+-- the map with this block changed
+abbrev pub with_block : ℕ → List ℕ → (ℕ → Option (List ℕ)) → ℕ → Option (List ℕ)
+with_block block bytes m k = if k == block then Some bytes else m k
+
+-- each block that is told has this length
+abbrev pub AreSized : ℕ → Option (ℕ → Option (List ℕ)) → Type 0
+AreSized size told = IfSome told (λ m. (k : ℕ) → IfSome (m k) (λ bytes. length bytes ≡ size))
+
+-- the blocks of a list of bytes, as far as they lie inside
+abbrev pub blocks_of : ℕ → List ℕ → ℕ → Option (List ℕ)
+blocks_of size bytes k = if nat_le (size * k + size) (length bytes) then Some (take size (drop (size * k) bytes)) else None
+
+-- what a memory holds: the length of a block, and the bytes of all blocks, one after another
+pub record Memory : Type 0 where
+  pub block_size : ℕ
+  pub bytes : List ℕ
+
+-- the changed blocks, and this one
+abbrev pub with_number : ℕ → (ℕ → Bool) → ℕ → Bool
+with_number block changed k = (k == block) || changed k
+
+-- What no call of an `Edits` changes: the names of the references that it holds, the pairs that stand
+-- once the call is given up, and what is told below it.
+pub record Frame : Type 0 where
+  pub names : List ℕ
+  pub kept : List (ℕ × List ℕ)
+  pub below : Option (ℕ → Option (List ℕ))

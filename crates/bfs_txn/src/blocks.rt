@@ -1,0 +1,56 @@
+// A volume's blocks, to be read and changed.
+ghost use Rattle.std.specs.Prelude.{◌≡◌, ◌≤◌, ◌+◌, ℕ, Bool, List, Option, OnOk, OnErr, length};
+ghost use Rattle.std.specs.Option.{option_map};
+ghost use Rattle.bfs_txn.specs.Told.{AreOfBlock, AreSized, Frame, with_block, with_number};
+ghost use Rattle.bfs_txn.specs.Faults.{Counts, IsCaused};
+
+use crate::BlockFault;
+use std::alloc::AllocError;
+
+/// Blocks that can be read.
+pub trait Blocks {
+    /// What is told of the blocks, where anything is.
+    ghost told: { Self → Option (ℕ → Option (List ℕ)) };
+
+    /// The length of a block.
+    ghost size: { Self → ℕ };
+
+    /// The counts of what lies below.
+    ghost counts: { Self → Counts };
+
+    /// What stays.
+    ghost frame: { Self → Frame };
+
+    /// Reads a block: the bytes told of it, or any where none are told.
+    fn get(&mut self, block: u64, into: &mut [u8]) -> Result<(), BlockFault>
+        requires { length into.old ≡ size self.old }
+        ensures bytes { OnOk result (AreOfBlock (told self.old) block into.new) }
+        ensures told { told self.new ≡ told self.old }
+        ensures size { size self.new ≡ size self.old }
+        ensures frame { frame self.new ≡ frame self.old }
+        ensures cause { IsCaused (counts self.old) (counts self.new) result };
+
+    /// What is told of a block has a block's length.
+    ghost sized: { (b : Self) → AreSized (size b) (told b) };
+}
+
+/// Blocks that can be changed.
+pub trait Edits: Blocks {
+    /// The blocks that have been changed.
+    ghost changed: { Self → ℕ → Bool };
+
+    /// At most so many blocks have been changed.
+    ghost pairs: { Self → ℕ };
+
+    /// Changes a block.
+    fn set(&mut self, block: u64, from: &[u8]) -> Result<(), AllocError>
+        requires { length from.now ≡ Self.size self.old }
+        ensures told { OnOk result (Self.told self.new ≡ option_map (with_block block from.now) (Self.told self.old)) }
+        ensures kept { OnErr result (Self.told self.new ≡ Self.told self.old) }
+        ensures changed { OnOk result ((k : ℕ) → changed self.new k ≡ with_number block (changed self.old) k) }
+        ensures same { OnErr result ((k : ℕ) → changed self.new k ≡ changed self.old k) }
+        ensures pairs { pairs self.new ≤ pairs self.old + 1 }
+        ensures size { Self.size self.new ≡ Self.size self.old }
+        ensures frame { Self.frame self.new ≡ Self.frame self.old }
+        ensures counts { Self.counts self.new ≡ Self.counts self.old };
+}

@@ -1,0 +1,105 @@
+// One call's changes over an open group, over what lies below.
+ghost use Rattle.std.specs.Prelude.{◌≡◌, ◌≤◌, ℕ, List, [], ◌∷◌, length, take, Option, is_some};
+ghost use Rattle.std.specs.Option.{option_map};
+ghost use Rattle.bfs_txn.specs.Changed.{newest, over, Ascends, AreOfSize, AreLayered};
+
+use crate::{BlockFault, Blocks, Changed, Edits};
+use std::alloc::AllocError;
+
+/// What one call changes, above an open group of changes and the blocks below. One of [`Overlay::keep`] and
+/// [`Overlay::drop_call`] ends it.
+pub struct Overlay<'a, B: Blocks> {
+    group: &'a mut Changed,
+    under: &'a mut B,
+    mark: usize,
+    ghost layered: { AreLayered mark (B.size under.now) group.now },
+}
+
+impl<B: Blocks> Blocks for Overlay<'_, B> {
+    ghost use Rattle.bfs_txn.specs.Laws.{over_sized};
+
+    ghost told = { λ o. option_map (over o.group.now) (B.told o.under.now) };
+
+    ghost size = { λ o. B.size o.under.now };
+
+    ghost counts = { λ o. B.counts o.under.now };
+
+    ghost frame = { λ o. record { names = o.group.ghost_name ∷ o.under.ghost_name ∷ []; kept = take o.mark o.group.now; below = B.told o.under.now } };
+
+    ghost sized = { λ o. over_sized o.mark (B.size o.under.now) o.group.now (B.told o.under.now) o.layered (B.sized o.under.now) };
+
+    fn get(&mut self, block: u64, into: &mut [u8]) -> Result<(), BlockFault> {
+        if let Some(bytes) = self.group.find_above(self.mark, block) {
+            into.copy_from_slice(bytes);
+            return Ok(());
+        }
+        self.under.get(block, into)
+    }
+}
+
+impl<B: Blocks> Edits for Overlay<'_, B> {
+    ghost changed = { λ o k. is_some (newest o.group.now k) };
+
+    ghost pairs = { λ o. length o.group.now };
+
+    fn set(&mut self, block: u64, from: &[u8]) -> Result<(), AllocError> {
+        self.group.put_above(self.mark, block, from)
+    }
+}
+
+impl<'a, B: Blocks> Overlay<'a, B> {
+    /// Begins a call over an open group and what lies below.
+    pub fn begin(open: &'a mut Changed, under: &'a mut B) -> Overlay<'a, B>
+        requires ascends { Ascends «open».old }
+        requires sized { AreOfSize (B.size under.old) «open».old }
+        ensures open { result.group.ghost_name ≡ «open».entry.ghost_name }
+        ensures under { result.under.ghost_name ≡ under.entry.ghost_name }
+        ensures open_now { result.group.now ≡ «open».old }
+        ensures under_now { result.under.now ≡ under.old }
+        ensures mark { result.mark ≡ length «open».old }
+    {
+        let mark = open.len();
+        Overlay {
+            group: open,
+            under,
+            mark,
+        }
+    }
+
+    /// How many pairs the open group has with those of the call, some of which may be of one block.
+    pub fn pairs(&self) -> usize
+        ensures { result ≡ length self.now.group.now }
+    {
+        self.group.len()
+    }
+
+    /// Puts the call's changes into the open group, which then reads as the overlay did. Takes no memory.
+    pub fn keep(self)
+        ensures reads { (k : ℕ) → newest self.exit.0.now k ≡ newest self.entry.group.now k }
+        ensures told { option_map (over self.exit.0.now) (B.told self.exit.1.0.now) ≡ option_map (over self.entry.group.now) (B.told self.entry.under.now) }
+        ensures ascends { Ascends self.exit.0.now }
+        ensures sized { AreOfSize (B.size self.exit.1.0.now) self.exit.0.now }
+        ensures len { length self.exit.0.now ≤ length self.entry.group.now }
+        ensures under { self.exit.1.0.now ≡ self.entry.under.now }
+    {
+        let Overlay {
+            group,
+            under: _,
+            mark,
+        } = self;
+        group.merge(mark);
+    }
+
+    /// Gives the call's changes up: the open group is as it was when the call began. Takes no memory.
+    pub fn drop_call(self)
+        ensures open { self.exit.0.now ≡ take self.entry.mark self.entry.group.now }
+        ensures under { self.exit.1.0.now ≡ self.entry.under.now }
+    {
+        let Overlay {
+            group,
+            under: _,
+            mark,
+        } = self;
+        group.truncate(mark);
+    }
+}

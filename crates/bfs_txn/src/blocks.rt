@@ -18,6 +18,12 @@ pub trait Blocks {
     /// The counts of what lies below.
     ghost counts: { Self → Counts };
 
+    /// The blocks that have been changed, which is none where nothing can be changed.
+    ghost changed: { Self → ℕ → Bool };
+
+    /// At most so many blocks have been changed.
+    ghost pairs: { Self → ℕ };
+
     /// What stays.
     ghost frame: { Self → Frame };
 
@@ -27,6 +33,8 @@ pub trait Blocks {
         ensures bytes { OnOk result (AreOfBlock (told self.old) block into.new) }
         ensures told { told self.new ≡ told self.old }
         ensures size { size self.new ≡ size self.old }
+        ensures changed { changed self.new ≡ changed self.old }
+        ensures pairs { pairs self.new ≡ pairs self.old }
         ensures frame { frame self.new ≡ frame self.old }
         ensures cause { IsCaused (counts self.old) (counts self.new) result };
 
@@ -36,20 +44,14 @@ pub trait Blocks {
 
 /// Blocks that can be changed.
 pub trait Edits: Blocks {
-    /// The blocks that have been changed.
-    ghost changed: { Self → ℕ → Bool };
-
-    /// At most so many blocks have been changed.
-    ghost pairs: { Self → ℕ };
-
     /// Changes a block.
     fn set(&mut self, block: u64, from: &[u8]) -> Result<(), AllocError>
         requires { length from.now ≡ Self.size self.old }
         ensures told { OnOk result (Self.told self.new ≡ option_map (with_block block from.now) (Self.told self.old)) }
         ensures kept { OnErr result (Self.told self.new ≡ Self.told self.old) }
-        ensures changed { OnOk result ((k : ℕ) → changed self.new k ≡ with_number block (changed self.old) k) }
-        ensures same { OnErr result ((k : ℕ) → changed self.new k ≡ changed self.old k) }
-        ensures pairs { pairs self.new ≤ pairs self.old + 1 }
+        ensures changed { OnOk result ((k : ℕ) → Self.changed self.new k ≡ with_number block (Self.changed self.old) k) }
+        ensures same { OnErr result (Self.changed self.new ≡ Self.changed self.old) }
+        ensures pairs { Self.pairs self.new ≤ Self.pairs self.old + 1 }
         ensures size { Self.size self.new ≡ Self.size self.old }
         ensures frame { Self.frame self.new ≡ Self.frame self.old }
         ensures counts { Self.counts self.new ≡ Self.counts self.old };

@@ -25,7 +25,7 @@ impl Model for MemBlocks {
 }
 
 impl Blocks for MemBlocks {
-    ghost use Rattle.std.specs.Prelude.{Some, None, []};
+    ghost use Rattle.std.specs.Prelude.{Some, None, [], false};
     ghost use Rattle.bfs_txn.specs.Told.{blocks_of};
     ghost use Rattle.bfs_txn.specs.Laws.{memory_sized};
 
@@ -34,6 +34,10 @@ impl Blocks for MemBlocks {
     ghost size = { λ m. m.block_size };
 
     ghost counts = { λ m. record { faults = 0; stops = 0; stop = None } };
+
+    ghost changed = { λ m k. false };
+
+    ghost pairs = { λ m. 0 };
 
     ghost frame = { λ m. record { names = []; kept = []; below = None } };
 

@@ -24,6 +24,10 @@ impl<B: Blocks> Blocks for Overlay<'_, B> {
 
     ghost counts = { λ o. B.counts o.under.now };
 
+    ghost changed = { λ o k. is_some (newest o.group.now k) };
+
+    ghost pairs = { λ o. length o.group.now };
+
     ghost frame = { λ o. record { names = o.group.ghost_name ∷ o.under.ghost_name ∷ []; kept = take o.mark o.group.now; below = B.told o.under.now } };
 
     ghost sized = { λ o. over_sized o.mark (B.size o.under.now) o.group.now (B.told o.under.now) o.layered (B.sized o.under.now) };
@@ -38,10 +42,6 @@ impl<B: Blocks> Blocks for Overlay<'_, B> {
 }
 
 impl<B: Blocks> Edits for Overlay<'_, B> {
-    ghost changed = { λ o k. is_some (newest o.group.now k) };
-
-    ghost pairs = { λ o. length o.group.now };
-
     fn set(&mut self, block: u64, from: &[u8]) -> Result<(), AllocError> {
         self.group.put_above(self.mark, block, from)
     }

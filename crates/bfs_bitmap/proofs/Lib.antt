@@ -1,0 +1,6 @@
+pub mod InBytes
+pub mod Sizes
+pub mod Looks
+pub mod Searches
+pub mod Marked
+pub mod Back

@@ -1,0 +1,6 @@
+pub mod Bits
+pub mod Runs
+pub mod Windows
+pub mod Searches
+pub mod Fills
+pub mod Givens

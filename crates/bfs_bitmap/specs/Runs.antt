@@ -1,0 +1,131 @@
+-- Free space: which blocks a bitmap marks as used, which are reserved, and free runs.
+use Rattle.std.specs.Prelude.{◌≡◌, ◌≤◌, ◌<◌, ◌⊎◌, ℕ, zero, suc, ◌+◌, ◌-◌, ◌*◌, ◌/◌, ◌%◌, pos, ◌≤ℤ◌, List, [], ◌∷◌, length, Bool, true, false, not, ◌==◌, ◌&&◌, ◌||◌, nat_lt, if◌then◌else◌, Option, Some, None, unwrap_or, filter, slice_index_or}
+use Rattle.bfs_bytes.specs.declared.Run.{Run}
+use Rattle.bfs_super.specs.Conditions.{natural}
+use Rattle.bfs_bitmap.specs.Bits.{bit_of, in_run, is_clear}
+use Rattle.bfs_bitmap.specs.declared.given.Given.{Given}
+use Rattle.bfs_bitmap.specs.declared.fault.RunFault.{RunFault}
+use Rattle.bfs_bitmap.specs.declared.fault.RunFault.TheVariants.{NoRun, Block}
+use Rattle.bfs_txn.specs.Faults.{Counts, IsCauseOf}
+
+-- What a bitmap knows beside the bits on the disk: sizes; the runs that were given back; the last number of a group;
+-- and the lowest block that may be free, now and when a call was last kept or dropped.
+pub record Room : Type 0 where
+  pub block_size : ℕ
+  pub blocks : ℕ
+  pub group_blocks : ℕ
+  pub given : List Given
+  pub last : ℕ
+  pub low : ℕ
+  pub low_kept : ℕ
+
+-- the bits in a block
+abbrev pub per_block : Room → ℕ
+per_block v = 8 * v.block_size
+
+-- the bit of a block: bitmap block 1 + k / bits has it at k mod bits
+abbrev pub marked : ℕ → (ℕ → Option (List ℕ)) → ℕ → ℕ
+marked bits m k = bit_of (unwrap_or (m (1 + k / bits)) []) (k % bits)
+
+-- is the block in a run that was given back and isn't free yet?
+abbrev pub is_reserved : List Given → ℕ → Bool
+is_reserved [] k = false
+is_reserved (g ∷ gs) k = in_run g.first g.len k || is_reserved gs k
+
+-- is the block neither used nor reserved?
+abbrev pub is_free : Room → (ℕ → Option (List ℕ)) → ℕ → Bool
+is_free v m k = nat_lt k v.blocks && ((marked (per_block v) m k == 0) && not (is_reserved v.given k))
+
+-- a run of free blocks in one group
+pub record IsFreeRun (v : Room) (m : ℕ → Option (List ℕ)) (first len : ℕ) : Type 0 where
+  pub one_group : first % v.group_blocks + len ≤ v.group_blocks
+  pub free : (k : ℕ) → first ≤ k → k < first + len → is_free v m k ≡ true
+
+-- the free blocks below a number
+abbrev pub free_count : Room → (ℕ → Option (List ℕ)) → ℕ → ℕ
+free_count v m zero = 0
+free_count v m (suc k) = (if is_free v m k then 1 else 0) + free_count v m k
+
+-- each block of the bitmap is told
+pub record HasBitmap (v : Room) (m : ℕ → Option (List ℕ)) : Type 0 where
+  pub told : (j : ℕ) → per_block v * j < v.blocks → (bytes : List ℕ) × (m (1 + j) ≡ Some bytes) × (length bytes ≡ v.block_size)
+
+-- the bitmap is told, and below its lowest block nothing is free
+pub record Fits (v : Room) (m : ℕ → Option (List ℕ)) : Type 0 where
+  pub has : HasBitmap v m
+  pub nothing_below : (k : ℕ) → k < v.low → is_free v m k ≡ false
+
+-- the first block of a run
+abbrev pub first_of : Room → Run → ℕ
+first_of v run = natural run.group * v.group_blocks + run.start
+
+-- a run that lies in one group of the volume
+pub record IsInside (v : Room) (run : Run) : Type 0 where
+  pub group : pos 0 ≤ℤ run.group
+  pub one_group : run.start + run.len ≤ v.group_blocks
+  pub inside : first_of v run + run.len ≤ v.blocks
+
+-- the bits of a run are so, and nothing else changes
+pub record Marks (v : Room) (first len bit : ℕ) (old new : ℕ → Option (List ℕ)) : Type 0 where
+  pub marks : (k : ℕ) → k < v.blocks → marked (per_block v) new k ≡ (if in_run first len k then bit else marked (per_block v) old k)
+  pub others : (b : ℕ) → (b ≡ 0) ⊎ (v.blocks ≤ per_block v * (b - 1)) → new b ≡ old b
+  pub has : HasBitmap v new
+
+abbrev pub none_given : Given
+none_given = record { first = 0; len = 0; group = None; kept = false }
+
+-- the sizes of a valid superblock, and runs inside the volume
+pub record HasSizes (v : Room) : Type 0 where
+  pub some_bytes : 0 < v.block_size
+  pub few_bytes : v.block_size ≤ 8192
+  pub few_blocks : v.blocks ≤ 4194304
+  pub some_group : 0 < v.group_blocks
+  pub few_group : v.group_blocks ≤ 65536
+  pub low : v.low ≤ v.blocks
+  pub low_kept : v.low_kept ≤ v.blocks
+  pub given : (i : ℕ) → i < length v.given → (slice_index_or v.given i none_given).first + (slice_index_or v.given i none_given).len ≤ v.blocks
+
+-- the bytes show which blocks of one bitmap block are free
+abbrev pub Shows : Room → (ℕ → Option (List ℕ)) → ℕ → List ℕ → Type 0
+Shows v m j bytes = (i : ℕ) → i < per_block v → is_clear bytes i ≡ is_free v m (per_block v * j + i)
+
+-- between two places the first block that is free, or that isn't
+pub record IsNext (v : Room) (m : ℕ → Option (List ℕ)) (from to : ℕ) (clear : Bool) (at : ℕ) : Type 0 where
+  pub before : (k : ℕ) → from ≤ k → k < at → is_free v m k ≡ not clear
+  pub here : at < to → is_free v m at ≡ clear
+
+-- what a bitmap is once the call is given up: runs given back in it and its lowest block are those from before
+abbrev pub as_kept : Room → Room
+as_kept v = record v { given = filter (λ g. g.kept) v.given; low = v.low_kept }
+
+-- no free run of so many blocks begins below a place
+abbrev pub NoRunBelow : Room → (ℕ → Option (List ℕ)) → ℕ → ℕ → Type 0
+NoRunBelow v m wanted at = (g : ℕ) → g < at → ¬ IsFreeRun v m g wanted
+
+-- The run that was taken: the free run with the lowest first block among those of at least `wanted` blocks, all of it
+-- or as many as `longest` of its blocks. Its bits are set.
+pub record IsTaken (v : Room) (m : ℕ → Option (List ℕ)) (wanted longest first len : ℕ) : Type 0 where
+  pub free : IsFreeRun v m first len
+  pub lowest : NoRunBelow v m wanted first
+  pub whole : (len ≡ longest) ⊎ (¬ IsFreeRun v m first (len + 1))
+
+-- no free run of so many blocks is there, and so many blocks are free
+pub record HasNoRun (v : Room) (m : ℕ → Option (List ℕ)) (wanted free : ℕ) : Type 0 where
+  pub none : (g : ℕ) → ¬ IsFreeRun v m g wanted
+  pub count : free ≡ free_count v m v.blocks
+
+-- the told map after a run was marked, with what the bitmap then keeps
+pub record IsMarked (v new : Room) (first len bit : ℕ) (m : ℕ → Option (List ℕ)) (told : Option (ℕ → Option (List ℕ))) : Type 0 where
+  pub map : ℕ → Option (List ℕ)
+  pub is : told ≡ Some map
+  pub marks : Marks v first len bit m map
+  pub fits : Fits new map
+
+-- why no run was taken: there is none, or a block of the bitmap could not be had
+abbrev pub IsNoRun : Room → (ℕ → Option (List ℕ)) → ℕ → RunFault → Type 0
+IsNoRun v m wanted (NoRun asked free) = (asked ≡ wanted) × HasNoRun v m wanted free
+IsNoRun v m wanted (Block fault) = Unit {0}
+
+abbrev pub IsRunCause : Counts → Counts → RunFault → Type 0
+IsRunCause old new (NoRun asked free) = Unit {0}
+IsRunCause old new (Block fault) = IsCauseOf old new fault

@@ -1,0 +1,104 @@
+// Gives runs back, and frees them once their group has left the log.
+ghost use Rattle.std.specs.Prelude.{◌≡◌, ◌≤◌, ◌<◌, ◌⊎◌, ◌+◌, ◌∷◌, ◌++◌, [], ℕ, List, length, Option, Some, None, OnOk, OnErr, IfErr, map, filter, not, true, false};
+ghost use Rattle.bfs_bitmap.specs.Runs.{Fits, IsMarked, IsInside, as_kept, first_of};
+ghost use Rattle.bfs_bitmap.specs.Givens.{numbered, settled, is_left};
+ghost use Rattle.bfs_bitmap.specs.Fills.{IsBitmapBlock};
+ghost use Rattle.bfs_txn.specs.Faults.{IsCaused};
+
+use crate::given::{drop_left, drop_unsettled, number_all, settle_all};
+use crate::window::Window;
+use crate::{Bitmap, Given};
+use bfs_bytes::Run;
+use bfs_txn::{BlockFault, Edits};
+
+impl Bitmap {
+    /// Gives a run back: its bits are cleared, and it stays reserved until its group is released. After a refusal the
+    /// call that asked is to be dropped.
+    pub fn give_back<E: Edits>(&mut self, edits: &mut E, run: Run) -> Result<(), BlockFault>
+        requires size { E.size edits.old ≡ self.old.block_size }
+        requires inside { IsInside self.old run }
+        ensures given { OnOk result (self.new ≡ record self.old { given = self.old.given ++ (record { first = first_of self.old run; len = run.len; group = None; kept = false }) ∷ [] }) }
+        ensures marked { (m : ℕ → Option (List ℕ)) → E.told edits.old ≡ Some m → Fits self.old m → OnOk result (IsMarked self.old self.new (first_of self.old run) run.len 0 m (E.told edits.new)) }
+        ensures err { OnErr result (self.new ≡ self.old) }
+        ensures kept { as_kept self.new ≡ as_kept self.old }
+        ensures changed { (k : ℕ) → E.changed edits.new k ≡ true → (E.changed edits.old k ≡ true) ⊎ IsBitmapBlock self.old k }
+        ensures size { E.size edits.new ≡ E.size edits.old }
+        ensures frame { E.frame edits.new ≡ E.frame edits.old }
+        ensures cause { IsCaused (E.counts edits.old) (E.counts edits.new) result }
+    {
+        let mut window = match Window::new(self.alloc, self.block_size) {
+            Ok(window) => window,
+            Err(_) => return Err(BlockFault::NoMemory),
+        };
+        let first = self.first_block(run);
+        let len = run.len as u64;
+        match self.fill(edits, &mut window.bytes, first, len, false) {
+            Ok(()) => {}
+            Err(fault) => return Err(fault),
+        }
+        self.add(first, len)
+    }
+
+    /// The first block of a run.
+    fn first_block(&self, run: Run) -> u64
+        requires { IsInside self.now run }
+        ensures value { result ≡ first_of self.now run }
+        ensures inside { result + run.len ≤ self.now.blocks }
+    {
+        run.group as u64 * self.group_blocks + u64::from(run.start)
+    }
+
+    /// Adds a run to those that were given back.
+    fn add(&mut self, first: u64, len: u64) -> Result<(), BlockFault>
+        requires { first + len ≤ self.old.blocks }
+        ensures ok { OnOk result (self.new ≡ record self.old { given = self.old.given ++ (record { first = first; len = len; group = None; kept = false }) ∷ [] }) }
+        ensures err { OnErr result (self.new ≡ self.old) }
+        ensures cause { IfErr result (λ fault. fault ≡ BlockFault.NoMemory) }
+    {
+        let given = Given {
+            first,
+            len,
+            group: None,
+            kept: false,
+        };
+        match self.given.push(given) {
+            Ok(()) => Ok(()),
+            Err(_) => Err(BlockFault::NoMemory),
+        }
+    }
+
+    /// Gives this group's number to the runs that were given back since the last such call. Takes no memory.
+    pub fn close_group(&mut self, group: u64)
+        requires { self.old.last < group }
+        ensures { self.new ≡ record self.old { given = map (numbered group) self.old.given; last = group } }
+    {
+        number_all(&mut self.given, group);
+        self.last = group;
+    }
+
+    /// Frees the runs that were given back in groups up to this number. Takes no memory.
+    pub fn release(&mut self, group: u64)
+        ensures given { self.new ≡ record self.old { given = filter (λ g. not (is_left group g)) self.old.given; low = 0; low_kept = 0 } }
+        ensures fits { (m : ℕ → Option (List ℕ)) → Fits self.old m → Fits self.new m }
+    {
+        drop_left(&mut self.given, group);
+        self.low = 0;
+        self.low_kept = 0;
+    }
+
+    /// Keeps what was given back since a call was last kept or dropped. Takes no memory.
+    pub fn keep(&mut self)
+        ensures { self.new ≡ record self.old { given = map settled self.old.given; low_kept = self.old.low } }
+    {
+        settle_all(&mut self.given);
+        self.low_kept = self.low;
+    }
+
+    /// Takes the runs out again that were given back since a call was last kept or dropped. Takes no memory.
+    pub fn drop_call(&mut self)
+        ensures { self.new ≡ as_kept self.old }
+    {
+        drop_unsettled(&mut self.given);
+        self.low = self.low_kept;
+    }
+}

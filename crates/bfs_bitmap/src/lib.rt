@@ -1,0 +1,20 @@
+// The free space of a volume: a bitmap on the disk, and the runs that were given back and aren't free yet. Free runs
+// and what is kept beside the disk stand in specs/Runs, bits in lists of bytes in specs/Bits.
+#![tactic(auto)]
+
+mod bitmap;
+mod bits;
+mod fault;
+mod fill;
+mod give;
+mod given;
+mod search;
+mod take;
+mod window;
+
+pub use bitmap::Bitmap;
+pub use fault::RunFault;
+pub use given::Given;
+
+#[cfg(test)]
+mod tests;

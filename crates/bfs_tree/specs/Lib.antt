@@ -1,0 +1,12 @@
+pub mod Names
+pub mod Orders
+pub mod Trees
+pub mod Listings
+pub mod States
+pub mod Refusals
+pub mod Answers
+pub mod Changes
+pub mod Steps
+pub mod Histories
+pub mod Laws
+pub mod Kept

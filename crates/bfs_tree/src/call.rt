@@ -1,0 +1,134 @@
+// The calls of a volume.
+ghost use Rattle.std.specs.Prelude.{◌≡◌};
+ghost use Rattle.bfs_tree.specs.Trees.{is_file, is_dir, is_link};
+
+use crate::{Bytes, Key};
+use bfs_base::KeyKind;
+
+/// What a node is.
+#[derive(Clone, Copy, Debug, PartialEq, Eq)]
+pub enum Kind {
+    File,
+    Dir,
+    Link,
+}
+
+impl Kind {
+    pub fn is_file(self) -> bool
+        ensures { result ≡ is_file self }
+    {
+        matches!(self, Kind::File)
+    }
+
+    pub fn is_dir(self) -> bool
+        ensures { result ≡ is_dir self }
+    {
+        matches!(self, Kind::Dir)
+    }
+
+    pub fn is_link(self) -> bool
+        ensures { result ≡ is_link self }
+    {
+        matches!(self, Kind::Link)
+    }
+}
+
+/// What a new node is to be: a link is made with its target.
+#[derive(Debug, Drop)]
+pub enum MakeKind {
+    File,
+    Dir,
+    Link { target: Bytes },
+}
+
+/// A call: 1 to 17 in the order of the list are the calls on names, attributes and indices, and the last
+/// three are the service entries, which hold a piece of a file, let it go, and ask for what is durable.
+///
+/// `mode` is at most 0o7777, `uid` and `gid` are below 2^31. Ids, places, lengths and sizes count in bytes.
+/// An attribute's `kind` is its type code.
+#[derive(Debug, Drop)]
+pub enum Call {
+    Make {
+        dir: u64,
+        name: Bytes,
+        kind: MakeKind,
+        mode: u32,
+    },
+    Remove {
+        dir: u64,
+        name: Bytes,
+    },
+    Rename {
+        dir: u64,
+        name: Bytes,
+        to_dir: u64,
+        to_name: Bytes,
+    },
+    Lookup {
+        dir: u64,
+        name: Bytes,
+    },
+    List {
+        dir: u64,
+    },
+    Stat {
+        id: u64,
+    },
+    SetMode {
+        id: u64,
+        mode: u32,
+        uid: u32,
+        gid: u32,
+    },
+    SetSize {
+        id: u64,
+        size: u64,
+    },
+    ReadLink {
+        id: u64,
+    },
+    AttrWrite {
+        id: u64,
+        name: Bytes,
+        kind: u32,
+        bytes: Bytes,
+    },
+    AttrRead {
+        id: u64,
+        name: Bytes,
+    },
+    AttrRemove {
+        id: u64,
+        name: Bytes,
+    },
+    AttrList {
+        id: u64,
+    },
+    IndexMake {
+        name: Bytes,
+        kind: KeyKind,
+    },
+    IndexRemove {
+        name: Bytes,
+    },
+    IndexList,
+    IndexFind {
+        name: Bytes,
+        low: Key,
+        high: Key,
+    },
+    Hold {
+        id: u64,
+        at: u64,
+        length: u64,
+        write: bool,
+    },
+    Release {
+        id: u64,
+        bytes: Bytes,
+        whole: bool,
+        before: u64,
+        after: u64,
+    },
+    Sync,
+}

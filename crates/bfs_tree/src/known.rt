@@ -1,0 +1,52 @@
+// The bytes of files that are known.
+ghost use Rattle.std.specs.Prelude.{◌≡◌, ◌&&◌, ◌==◌, ◌<◌, ◌^◌, ◌+◌, ◌≤◌, not, IfOk, length, reverse};
+ghost use Rattle.std.specs.FinMap.{retain_keys};
+ghost use Rattle.bfs_tree.specs.States.{learn};
+ghost use Rattle.bfs_tree.specs.Kept.{known_of, is_among, stays};
+
+use crate::model::KnownByte;
+use std::alloc::{AllocError, Global};
+
+/// Places of a file: all of them, those from one on, or so many from one on.
+#[derive(Clone, Copy)]
+pub(crate) enum Places {
+    All,
+    From { place: u64 },
+    Piece { at: u64, count: u64 },
+}
+
+impl Places {
+    fn has(self, place: u64) -> bool
+        ensures { result ≡ is_among self place }
+    {
+        match self {
+            Places::All => true,
+            Places::From { place: first } => first <= place,
+            Places::Piece { at, count } => at <= place && place - at < count,
+        }
+    }
+}
+
+fn does_stay(id: u64, places: Places, known: &KnownByte) -> bool
+    ensures { result ≡ stays id places (known.now.id, known.now.place) }
+{
+    !(places.has(known.place) && known.id == id)
+}
+
+/// What is known but for these places of a file.
+pub(crate) fn forget(
+    alloc: Global,
+    known: &[KnownByte],
+    id: u64,
+    places: Places,
+) -> Result<Vec<KnownByte>, AllocError>
+    ensures { IfOk result (λ v. known_of v.items ≡ retain_keys (known_of known.now) (stays id places)) }
+{
+    let mut kept = Vec::new(alloc);
+    for byte in known {
+        if does_stay(id, places, byte) {
+            kept.push(*byte)?;
+        }
+    }
+    Ok(kept)
+}

@@ -1,0 +1,4 @@
+mod Meets
+mod Planned
+mod Trees
+mod Whole

@@ -1,0 +1,3 @@
+pub mod Format
+pub mod Laid
+pub mod Written

@@ -1,0 +1,65 @@
+// Formats a disk.
+ghost use Rattle.std.specs.Prelude.{◌≡◌, ◌⊎◌, ◌≤◌, ◌<◌, ◌+◌, ◌*◌, ◌/◌, ℕ, List, length, OnOk, IfErr};
+ghost use Rattle.bfs_base.specs.Counts.{Rose};
+ghost use Rattle.bfs_disk.specs.State.{State, Tells, Holds, IsQuiet, ReadsAs};
+ghost use Rattle.bfs_super.specs.Label.{IsLabel};
+ghost use Rattle.bfs_mkfs.specs.Laid.{IsPlanned, IsLaid};
+ghost use Rattle.bfs_mkfs.specs.Format.{IsRefused, HasCauseIn};
+ghost use Rattle.bfs_mkfs.specs.Written.{HasSectors};
+
+use crate::steps::write_volume;
+use crate::volume::{bitmap, superblock, trees};
+use bfs_disk::Disk;
+use bfs_super::Geometry;
+use std::alloc::Global;
+
+/// Why a volume could not be formatted.
+#[derive(Clone, Copy, Debug, PartialEq, Eq)]
+pub enum FormatFault {
+    /// A disk call failed: the disk's count of faults rose from one number to the other.
+    Disk { before: u64, after: u64 },
+    NoMemory,
+}
+
+/// Makes the disk a new, empty volume with this layout, label and stamp (seconds in the upper 48 bits).
+///
+/// All memory is taken before the disk is touched. Blocks that are neighbours go in one disk call: the superblock's
+/// sector is cleared, then come the bitmap and the five trees, and last the superblock, with a barrier after each.
+pub fn format<D: Disk>(
+    alloc: Global,
+    disk: &mut D,
+    geometry: &Geometry,
+    label: &[u8],
+    stamp: i64,
+) -> Result<(), FormatFault>
+    requires plan { IsPlanned geometry.now }
+    requires label { IsLabel label.now }
+    requires room { HasSectors (D.size disk.old) (geometry.now.blocks * (geometry.now.block_size / 512)) }
+
+    // At Ok the disk is quiet and reads as the new volume.
+    ensures laid { (image : List ℕ) → Tells (D.state disk.old) (Holds image)
+        → OnOk result (Tells (D.state disk.new) (λ s. IsQuiet s × ((c : List ℕ) → ReadsAs s c → IsLaid geometry.now label.now stamp c))) }
+
+    // A crash at any moment leaves the old image, one whose superblock is refused, or the new volume.
+    ensures moments { (image : List ℕ) → Tells (D.state disk.old) (Holds image) → (c : List ℕ) → D.since disk.new (D.clock disk.old) c
+        → (c ≡ image) ⊎ (IsRefused c ⊎ IsLaid geometry.now label.now stamp c) }
+    ensures later { D.faults disk.old ≤ D.faults disk.new }
+    ensures cause { IfErr result (HasCauseIn (D.faults disk.old) (D.faults disk.new)) }
+{
+    let Ok(bitmap) = bitmap(alloc, *geometry) else {
+        return Err(FormatFault::NoMemory);
+    };
+    let Ok(trees) = trees(alloc, *geometry, stamp) else {
+        return Err(FormatFault::NoMemory);
+    };
+    let block = superblock(*geometry, label).print();
+    let at = u64::from(geometry.block_size / 512);
+    let before = disk.faults();
+    match write_volume(disk, &block, at, &bitmap, at * geometry.root, &trees) {
+        Ok(()) => Ok(()),
+        Err(_) => Err(FormatFault::Disk {
+            before,
+            after: disk.faults(),
+        }),
+    }
+}

@@ -5,3 +5,5 @@ pub mod Children
 pub mod Sorting
 pub mod Free
 pub mod Knowns
+pub mod Lasts
+pub mod Empties

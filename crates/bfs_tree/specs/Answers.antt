@@ -64,3 +64,8 @@ IsAnswer session (calls.IndexFind name low high) s reply = IsSomeAnd (get s.tree
 IsAnswer session (calls.Hold id at count writes) s reply = reply ≡ Done
 IsAnswer session (calls.Release id bytes whole before after) s reply = (reply ≡ Done) × IsSomeAnd (last_hold s.holds session id) (λ hold. IsTrue whole → Ends s hold bytes)
 IsAnswer session calls.Sync s reply = (upto : ℕ) × (reply ≡ Synced upto)
+
+-- What a call needs of its session: for a Release a hold on that id, and bytes that may be its. Other calls need nothing.
+abbrev pub IsReady : ℕ → Call → State → Type 0
+IsReady session (calls.Release id bytes whole before after) s = IsSomeAnd (last_hold s.holds session id) (λ hold. IsTrue whole → Ends s hold bytes)
+IsReady session _ s = Unit {0}

@@ -1,7 +1,8 @@
 -- What is true of steps and histories, whatever keeps them.
-use Rattle.std.specs.Prelude.{◌≡◌, ◌⊎◌, List, [], ◌∷◌, ◌++◌, Some, IsTrue}
+use Rattle.std.specs.Prelude.{◌≡◌, ◌⊎◌, List, [], ◌∷◌, ◌++◌, Some, IsTrue, ℕ, ℤ}
 use Rattle.bfs_tree.specs.declared.reply.Reply.{Reply}
 use Rattle.bfs_tree.specs.declared.reply.Entry.{Entry}
+use Rattle.bfs_tree.specs.Trees.{IsPlain, empty_tree}
 use Rattle.bfs_tree.specs.States.{State}
 use Rattle.bfs_tree.specs.Refusals.{own_refusal}
 use Rattle.bfs_tree.specs.Steps.{Step, next, is_by_disk}
@@ -23,3 +24,7 @@ LegalGoesOn = (t0 : Mounted) (history : List Entry) (entry : Entry) → Legal t0
 -- what a legal history begins with is legal
 abbrev pub PrefixIsLegal : Type 0
 PrefixIsLegal = (t0 : Mounted) (history more : List Entry) → Legal t0 (history ++ more) → Legal t0 history
+
+-- the tree of a new volume is plain
+abbrev pub EmptyIsPlain : Type 0
+EmptyIsPlain = (root : ℕ) (stamp : ℤ) → IsPlain (empty_tree root stamp)

@@ -82,7 +82,7 @@ is_full tree id node = is_dir node.kind && has_children tree.root id (entries tr
 abbrev pub is_past : ℕ → ℕ → ℕ → Bool
 is_past size at count = nat_lt size at || nat_lt (size - at) count
 
--- the search asks for keys of another kind, where the index is there
+-- NoIndex where there is no such index, and else what comes for its kind
 abbrev pub at_index : Option KeyKind → (KeyKind → List (Bool × Reply)) → List (Bool × Reply)
 at_index None rest = (true, NoIndex) ∷ []
 at_index (Some kind) rest = rest kind

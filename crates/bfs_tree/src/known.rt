@@ -50,3 +50,28 @@ pub(crate) fn forget(
     }
     Ok(kept)
 }
+
+/// What is known, and these bytes of a file from a place on. Places end at 2^64 - 1, and what would go past
+/// them finds no memory.
+pub(crate) fn learn(
+    alloc: Global,
+    known: &[KnownByte],
+    id: u64,
+    at: u64,
+    bytes: &[u8],
+) -> Result<Vec<KnownByte>, AllocError>
+    ensures { IfOk result (λ v. known_of v.items ≡ learn (known_of known.now) id at bytes.now) }
+{
+    let mut all = Vec::from_slice(alloc, known)?;
+    for (i, byte) in bytes.iter().enumerate() {
+        let Some(place) = at.checked_add(i as u64) else {
+            return Err(AllocError);
+        };
+        all.push(KnownByte {
+            id,
+            place,
+            byte: *byte,
+        })?;
+    }
+    Ok(all)
+}

@@ -1,5 +1,5 @@
 // Laws of steps and histories: each is the contract of a function that does nothing.
-ghost use Rattle.bfs_tree.specs.Laws.{StateIsDetermined, RefusalIsUnique, LegalGoesOn, PrefixIsLegal};
+ghost use Rattle.bfs_tree.specs.Laws.{EmptyIsPlain, StateIsDetermined, RefusalIsUnique, LegalGoesOn, PrefixIsLegal};
 
 /// The state before an entry and the entry determine the state after it.
 pub fn state_is_determined()
@@ -19,4 +19,9 @@ pub fn legal_goes_on()
 /// What a legal history begins with is legal.
 pub fn prefix_is_legal()
     ensures { PrefixIsLegal }
+{}
+
+/// The tree of a new volume is plain.
+pub fn empty_is_plain()
+    ensures { EmptyIsPlain }
 {}

@@ -2,6 +2,7 @@
 // The definitions stand in specs/: Trees, Refusals, Answers, Changes, Steps and Histories.
 #![tactic(auto)]
 
+mod apply;
 mod bytes;
 mod call;
 mod finds;
@@ -28,7 +29,9 @@ pub use bfs_base::KeyKind;
 pub use bytes::{Attributes, Bytes, FoundRows, Indices, Names};
 pub use call::{Call, Kind, MakeKind};
 pub use keys::{code_of, is_float, is_kind, key_order};
-pub use laws::{legal_goes_on, prefix_is_legal, refusal_is_unique, state_is_determined};
+pub use laws::{
+    empty_is_plain, legal_goes_on, prefix_is_legal, refusal_is_unique, state_is_determined,
+};
 pub use model::Model;
 pub use names::{
     BY_NAME, BY_SIZE, BY_TIME, is_bad_attribute_name, is_bad_name, is_bad_target, is_built_in,

@@ -54,6 +54,7 @@ pub struct Model {
     pub(crate) indices: BTreeMap<Vec<u8>, KeyKind>,
     pub(crate) holds: Vec<Hold>,
     pub(crate) known: Vec<KnownByte>,
+    pub(crate) answered: u64,
 }
 
 impl Node {

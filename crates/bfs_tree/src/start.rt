@@ -43,6 +43,7 @@ impl Model {
             indices: built_in_indices(alloc)?,
             holds: Vec::new(alloc),
             known: Vec::new(alloc),
+            answered: 0,
         })
     }
 }

@@ -1,5 +1,5 @@
 // Worked calls, with the replies that they must have.
-use crate::{Bytes, Key, KeyKind, MakeKind, Model, Reply};
+use crate::{Bytes, Call, Key, KeyKind, MakeKind, Model, Reply};
 use std::alloc::{AllocError, Global};
 use std::test::Fail;
 
@@ -89,7 +89,8 @@ fn step(alloc: Global, tree: &mut Model, number: u8) -> Result<Reply, AllocError
         28 => tree.index_list(),
         29 => tree.make(ROOT, b"s", &link(alloc)?, 0o777, 29),
         30 => tree.read_link(2),
-        _ => Ok(tree.sync(0)),
+        31 => tree.apply(1, &Call::Stat { id: 1 }, 31),
+        _ => tree.apply(1, &Call::Sync, 32),
     }
 }
 
@@ -138,6 +139,7 @@ fn calls_have_the_replies_of_the_worked_rows(rt: HostRuntime) -> Result<(), Fail
         (29, "ok"),
         (30, "ok"),
         (31, "ok"),
+        (32, "ok"),
     ] {
         let reply = step(rt.alloc(), &mut tree, number)?;
         assert_eq!(rt; word(&reply), want, "call {number}");

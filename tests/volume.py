@@ -1,4 +1,4 @@
-"""Writes the image of an empty volume of 4,096 blocks of 1,024 bytes: its superblock alone, over zeros.
+"""Writes the image of a volume of 4,096 blocks of 1,024 bytes: its superblock and the inode of its root directory, over zeros.
 
 usage: volume.py IMAGE
 The values are those of the public format (Haiku's bfs.h), for a log of 512 blocks behind one bitmap block.
@@ -19,8 +19,23 @@ def superblock(label: bytes = b"untitled") -> bytes:
     return bytes(sector)
 
 
+def root_inode() -> bytes:
+    """The inode of the root directory: block 514, a stream of two blocks behind it, no attributes."""
+    block = bytearray(1024)
+    struct.pack_into("<iiHH", block, 0, 0x3BBE0AD9, 0, 514, 1)
+    struct.pack_into("<iiii", block, 12, 0, 0, 0o40755, 1)
+    struct.pack_into("<iHH", block, 44, 0, 514, 1)
+    struct.pack_into("<i", block, 64, 1024)
+    struct.pack_into("<iHH", block, 72, 0, 515, 2)
+    struct.pack_into("<q", block, 168, 2048)
+    struct.pack_into("<q", block, 208, 2048)
+    return bytes(block)
+
+
 if __name__ == "__main__":
     with open(sys.argv[1], "wb") as image:
         image.truncate(4096 * 1024)
         image.seek(512)
         image.write(superblock())
+        image.seek(514 * 1024)
+        image.write(root_inode())

@@ -3,7 +3,9 @@ use Rattle.std.proofs.Common.{◌≡◌, ◌≤◌, ◌<◌, ◌+◌, ℕ, zero,
 use Rattle.std.proofs.lemmas.List.{get_or-map, length-map}
 use Rattle.bfs_bitmap.specs.declared.given.Given.{Given}
 use Rattle.bfs_bitmap.specs.Bits.{in_run}
-use Rattle.bfs_bitmap.specs.Runs.{Room, marked, is_reserved, is_free, Marks, Fits, IsMarked, per_block, none_given}
+use Rattle.bfs_bitmap.specs.Runs.{Room, marked, is_reserved, is_free, Marks, Fits, IsMarked, IsSettled, as_kept, per_block, none_given}
+use Rattle.std.specs.List.{list_all}
+use Rattle.bfs_bitmap.specs.Givens.{numbered, settled, is_left}
 use Rattle.bfs_bitmap.specs.Fills.{IsTold}
 
 -- each run lies in so many blocks
@@ -81,3 +83,117 @@ gave v w m told first n len g e same at long fits all =
         or_same : (t : Bool) → (t || false) ≡ t
         or_same true = refl
         or_same false = refl
+
+-- whose runs were all kept
+all_kept : (gs : List Given) → list_all (λ g. g.kept) gs ≡ true → filter (λ g. g.kept) gs ≡ gs
+all_kept [] h = refl
+all_kept (g ∷ gs) h = by_test (g.kept) refl (all_kept gs) h
+  where
+    by_test : (t : Bool) → g.kept ≡ t → (list_all (λ x. x.kept) gs ≡ true → filter (λ x. x.kept) gs ≡ gs) → (t && list_all (λ x. x.kept) gs) ≡ true → cond t (g ∷ filter (λ x. x.kept) gs) (filter (λ x. x.kept) gs) ≡ g ∷ gs
+    by_test true e ih a = ap (λ l. g ∷ l) (ih a)
+    by_test false e ih a = absurd (bad a)
+      where
+        bad : false ≡ true → ⊥
+        bad z = cc
+
+length-kept : (gs : List Given) → length (filter (λ g. g.kept) gs) ≤ length gs
+length-kept [] = omega arith
+length-kept (g ∷ gs) = by_test (g.kept) (length-kept gs)
+  where
+    by_test : (t : Bool) → length (filter (λ x. x.kept) gs) ≤ length gs → length (cond t (g ∷ filter (λ x. x.kept) gs) (filter (λ x. x.kept) gs)) ≤ length (g ∷ gs)
+    by_test true h = omega arith
+    by_test false h = omega arith
+
+same_tail : (g x : Given) (ys bs : List Given) → g ∷ ys ≡ x ∷ bs → ys ≡ bs
+same_tail g x ys bs e = cc
+
+kept_all : (gs : List Given) → filter (λ g. g.kept) gs ≡ gs → list_all (λ g. g.kept) gs ≡ true
+kept_all [] h = refl
+kept_all (g ∷ gs) h = by_test (g.kept) (kept_all gs) h
+  where
+    by_test : (t : Bool) → (filter (λ x. x.kept) gs ≡ gs → list_all (λ x. x.kept) gs ≡ true) → cond t (g ∷ filter (λ x. x.kept) gs) (filter (λ x. x.kept) gs) ≡ g ∷ gs → (t && list_all (λ x. x.kept) gs) ≡ true
+    by_test true ih e = ih (same_tail g g (filter (λ x. x.kept) gs) gs e)
+    by_test false ih e = absurd (omega (arith, length-kept gs, ap (λ (l : List Given). length l) e))
+
+all_mapped : (f : Given → Given) (gs : List Given) → ((g : Given) → g.kept ≡ true → (f g).kept ≡ true) → list_all (λ g. g.kept) gs ≡ true → list_all (λ g. g.kept) (map f gs) ≡ true
+all_mapped f [] keeps h = refl
+all_mapped f (g ∷ gs) keeps h = ap (λ t. t && list_all (λ x. x.kept) (map f gs)) (keeps g (first_of_and (g.kept) (list_all (λ x. x.kept) gs) h)) ∙ all_mapped f gs keeps (second_of_and (g.kept) (list_all (λ x. x.kept) gs) h)
+  where
+    first_of_and : (a b : Bool) → (a && b) ≡ true → a ≡ true
+    first_of_and true b e = refl
+    first_of_and false b e = e
+
+    second_of_and : (a b : Bool) → (a && b) ≡ true → b ≡ true
+    second_of_and true b e = e
+    second_of_and false b e = absurd (bad e)
+      where
+        bad : false ≡ true → ⊥
+        bad z = cc
+
+all_settled : (gs : List Given) → list_all (λ g. g.kept) (map settled gs) ≡ true
+all_settled [] = refl
+all_settled (g ∷ gs) = all_settled gs
+
+all_filtered : (p : Given → Bool) (gs : List Given) → list_all (λ g. g.kept) gs ≡ true → list_all (λ g. g.kept) (filter p gs) ≡ true
+all_filtered p [] h = refl
+all_filtered p (g ∷ gs) h = by_test (p g) (all_filtered p gs (second_of_and (g.kept) (list_all (λ x. x.kept) gs) h))
+  where
+    second_of_and : (a b : Bool) → (a && b) ≡ true → b ≡ true
+    second_of_and true b e = e
+    second_of_and false b e = absurd (bad e)
+      where
+        bad : false ≡ true → ⊥
+        bad z = cc
+
+    first_of_and : (a b : Bool) → (a && b) ≡ true → a ≡ true
+    first_of_and true b e = refl
+    first_of_and false b e = e
+
+    by_test : (t : Bool) → list_all (λ x. x.kept) (filter p gs) ≡ true → list_all (λ x. x.kept) (cond t (g ∷ filter p gs) (filter p gs)) ≡ true
+    by_test true ih = ap (λ t. t && list_all (λ x. x.kept) (filter p gs)) (first_of_and (g.kept) (list_all (λ x. x.kept) gs) h) ∙ ih
+    by_test false ih = ih
+
+kept_filtered : (gs : List Given) → list_all (λ g. g.kept) (filter (λ g. g.kept) gs) ≡ true
+kept_filtered [] = refl
+kept_filtered (g ∷ gs) = by_test (g.kept) refl (kept_filtered gs)
+  where
+    by_test : (t : Bool) → g.kept ≡ t → list_all (λ x. x.kept) (filter (λ x. x.kept) gs) ≡ true → list_all (λ x. x.kept) (cond t (g ∷ filter (λ x. x.kept) gs) (filter (λ x. x.kept) gs)) ≡ true
+    by_test true e ih = ap (λ t. t && list_all (λ x. x.kept) (filter (λ x. x.kept) gs)) e ∙ ih
+    by_test false e ih = ih
+
+-- a room whose runs were all kept, and whose lowest block is that of a kept call
+settled_room : (v : Room) → list_all (λ g. g.kept) v.given ≡ true → v.low ≡ v.low_kept → IsSettled v
+settled_room v all low = ap (λ (l : List Given). record v { given = l; low = v.low_kept }) (all_kept v.given all) ∙ ap (λ (n : ℕ). record v { low = n }) (sym low)
+
+pub settled_numbered : (v w : Room) (group : ℕ) → w ≡ record v { given = map (numbered group) v.given; last = group } → IsSettled v → IsSettled w
+settled_numbered v w group e is =
+    subst IsSettled (sym e) (settled_room (record v { given = map (numbered group) v.given; last = group }) (all_mapped (numbered group) v.given (λ g h. h) (kept_all v.given (ap (λ (r : Room). r.given) is))) (sym (ap (λ (r : Room). r.low) is)))
+
+pub settled_left : (v w : Room) (p : Given → Bool) → w ≡ record v { given = filter p v.given; low = 0; low_kept = 0 } → IsSettled v → IsSettled w
+settled_left v w p e is =
+    subst IsSettled (sym e) (settled_room (record v { given = filter p v.given; low = 0; low_kept = 0 }) (all_filtered p v.given (kept_all v.given (ap (λ (r : Room). r.given) is))) refl)
+
+pub settled_kept : (v w : Room) → w ≡ record v { given = map settled v.given; low_kept = v.low } → IsSettled w
+settled_kept v w e = subst IsSettled (sym e) (settled_room (record v { given = map settled v.given; low_kept = v.low }) (all_settled v.given) refl)
+
+pub settled_dropped : (v w : Room) → w ≡ as_kept v → IsSettled w
+settled_dropped v w e = subst IsSettled (sym e) (settled_room (as_kept v) (kept_filtered v.given) refl)
+
+reserved-map : (f : Given → Given) (gs : List Given) (k : ℕ) → ((g : Given) → (f g).first ≡ g.first) → ((g : Given) → (f g).len ≡ g.len) → is_reserved (map f gs) k ≡ is_reserved gs k
+reserved-map f [] k first len = refl
+reserved-map f (g ∷ gs) k first len =
+    ap (λ (n : ℕ). in_run n (f g).len k || is_reserved (map f gs) k) (first g) ∙ ap (λ (n : ℕ). in_run g.first n k || is_reserved (map f gs) k) (len g) ∙ ap (λ t. in_run g.first g.len k || t) (reserved-map f gs k first len)
+
+-- the same blocks are reserved, and nothing new is free
+fits_reserved : (v w : Room) (m : ℕ → Option (List ℕ)) (gs : List Given) (last low_kept : ℕ) → w ≡ record v { given = gs; last = last; low_kept = low_kept } → ((k : ℕ) → is_reserved gs k ≡ is_reserved v.given k) → Fits v m → Fits w m
+fits_reserved v w m gs last low_kept e same fits =
+    subst (λ (r : Room). Fits r m) (sym e) (record {
+      has = record { told = fits.has.told };
+      nothing_below = λ k h. ap (λ t. nat_lt k v.blocks && ((marked (per_block v) m k == 0) && not t)) (same k) ∙ fits.nothing_below k h;
+    })
+
+pub fits_numbered : (v w : Room) (group : ℕ) → w ≡ record v { given = map (numbered group) v.given; last = group } → (m : ℕ → Option (List ℕ)) → Fits v m → Fits w m
+fits_numbered v w group e m = fits_reserved v w m (map (numbered group) v.given) group v.low_kept e (λ k. reserved-map (numbered group) v.given k (λ g. refl) (λ g. refl))
+
+pub fits_kept : (v w : Room) → w ≡ record v { given = map settled v.given; low_kept = v.low } → (m : ℕ → Option (List ℕ)) → Fits v m → Fits w m
+fits_kept v w e m = fits_reserved v w m (map settled v.given) v.last v.low e (λ k. reserved-map settled v.given k (λ g. refl) (λ g. refl))

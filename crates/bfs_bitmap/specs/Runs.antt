@@ -98,6 +98,10 @@ pub record IsNext (v : Room) (m : ℕ → Option (List ℕ)) (from to : ℕ) (cl
 abbrev pub as_kept : Room → Room
 as_kept v = record v { given = filter (λ g. g.kept) v.given; low = v.low_kept }
 
+-- no run was given back, and no block taken, since a call was last kept or dropped
+abbrev pub IsSettled : Room → Type 0
+IsSettled v = as_kept v ≡ v
+
 -- no free run of so many blocks begins below a place
 abbrev pub NoRunBelow : Room → (ℕ → Option (List ℕ)) → ℕ → ℕ → Type 0
 NoRunBelow v m wanted at = (g : ℕ) → g < at → ¬ IsFreeRun v m g wanted

@@ -1,6 +1,6 @@
 // Gives runs back, and frees them once their group has left the log.
 ghost use Rattle.std.specs.Prelude.{◌≡◌, ◌≤◌, ◌<◌, ◌⊎◌, ◌+◌, ◌∷◌, ◌++◌, [], ℕ, List, length, Option, Some, None, OnOk, OnErr, IfErr, map, filter, not, true, false};
-ghost use Rattle.bfs_bitmap.specs.Runs.{Fits, IsMarked, IsInside, as_kept, first_of};
+ghost use Rattle.bfs_bitmap.specs.Runs.{Fits, IsMarked, IsInside, IsSettled, as_kept, first_of};
 ghost use Rattle.bfs_bitmap.specs.Givens.{numbered, settled, is_left};
 ghost use Rattle.bfs_bitmap.specs.Fills.{IsBitmapBlock};
 ghost use Rattle.bfs_txn.specs.Faults.{IsCaused};
@@ -70,7 +70,9 @@ impl Bitmap {
     /// Gives this group's number to the runs that were given back since the last such call. Takes no memory.
     pub fn close_group(&mut self, group: u64)
         requires { self.old.last < group }
-        ensures { self.new ≡ record self.old { given = map (numbered group) self.old.given; last = group } }
+        ensures given { self.new ≡ record self.old { given = map (numbered group) self.old.given; last = group } }
+        ensures fits { (m : ℕ → Option (List ℕ)) → Fits self.old m → Fits self.new m }
+        ensures settled { IsSettled self.old → IsSettled self.new }
     {
         number_all(&mut self.given, group);
         self.last = group;
@@ -80,6 +82,7 @@ impl Bitmap {
     pub fn release(&mut self, group: u64)
         ensures given { self.new ≡ record self.old { given = filter (λ g. not (is_left group g)) self.old.given; low = 0; low_kept = 0 } }
         ensures fits { (m : ℕ → Option (List ℕ)) → Fits self.old m → Fits self.new m }
+        ensures settled { IsSettled self.old → IsSettled self.new }
     {
         drop_left(&mut self.given, group);
         self.low = 0;
@@ -88,7 +91,9 @@ impl Bitmap {
 
     /// Keeps what was given back since a call was last kept or dropped. Takes no memory.
     pub fn keep(&mut self)
-        ensures { self.new ≡ record self.old { given = map settled self.old.given; low_kept = self.old.low } }
+        ensures given { self.new ≡ record self.old { given = map settled self.old.given; low_kept = self.old.low } }
+        ensures fits { (m : ℕ → Option (List ℕ)) → Fits self.old m → Fits self.new m }
+        ensures settled { IsSettled self.new }
     {
         settle_all(&mut self.given);
         self.low_kept = self.low;
@@ -96,7 +101,8 @@ impl Bitmap {
 
     /// Takes the runs out again that were given back since a call was last kept or dropped. Takes no memory.
     pub fn drop_call(&mut self)
-        ensures { self.new ≡ as_kept self.old }
+        ensures given { self.new ≡ as_kept self.old }
+        ensures settled { IsSettled self.new }
     {
         drop_unsettled(&mut self.given);
         self.low = self.low_kept;

@@ -1,7 +1,8 @@
-use Rattle.std.proofs.Common.{sym, subst, List, arith, not}
+use Rattle.std.proofs.Common.{◌≡◌, ◌∙◌, ap, map, filter, sym, subst, List, arith, not}
 use Rattle.bfs_bitmap.specs.declared.given.Given.{Given}
 use Rattle.bfs_bitmap.specs.Givens.{is_left}
-use Rattle.bfs_bitmap.proofs.Back.{AreWithin, within_filter}
+use Rattle.bfs_bitmap.specs.Runs.{Room, as_kept}
+use Rattle.bfs_bitmap.proofs.Back.{fits_kept, fits_numbered, settled_kept, settled_numbered, settled_left, settled_dropped, AreWithin, within_filter}
 use Rattle.bfs_bitmap.proofs.bitmap.Bitmap.release.Goals as goal
 
 pub invariant_of-self : goal.invariant_of-self
@@ -15,3 +16,11 @@ invariant_of-self c = record {
   low_kept = omega arith;
   given = subst (λ (l : List Given). AreWithin c.self.inside.blocks l) (sym c.drop_left.ensures) (within_filter c.self.inside.blocks (λ g. not (is_left c.args.group g)) c.self.inside.given.items c.self.invariant.given);
 }
+
+pub returns-clause-settled : goal.returns-clause-settled
+returns-clause-settled c =
+    let room : List Given → Room =
+    λ l. record { block_size = c.self.inside.block_size; blocks = c.self.inside.blocks; group_blocks = c.self.inside.group_blocks; given = l; last = c.self.inside.last; low = 0; low_kept = 0 } in
+    let change : Room → Room = λ v. record v { given = filter (λ g. not (is_left c.args.group g)) v.given; low = 0; low_kept = 0 } in
+    let is : room c.drop_left.new.given.items ≡ change c.args.self.now = ap room c.drop_left.ensures ∙ ap change c.self.view_is in
+    settled_left c.args.self.now (room c.drop_left.new.given.items) (λ g. not (is_left c.args.group g)) is

@@ -1,5 +1,5 @@
 // Is a block the inode of a number?
-ghost use Rattle.std.specs.Prelude.{◌≡◌, ◌≤◌, ◌+ℤ◌, ◌*ℤ◌, ◌↔◌, ◌^◌, pos, IsTrue, OnOk, IfErr};
+ghost use Rattle.std.specs.Prelude.{◌≡◌, ◌≤◌, ◌↔◌, ◌^◌, IsTrue, OnOk, IfErr};
 ghost use Rattle.bfs_inode.specs.Block.{IsBlock};
 ghost use Rattle.bfs_inode.specs.Refusals.{IsInode, IsRefusal, Names, number_of};
 

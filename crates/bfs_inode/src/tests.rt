@@ -1,5 +1,4 @@
 // Inodes as bytes that were written down elsewhere.
-ghost use Rattle.std.specs.Prelude.{◌≡◌, length};
 
 use crate::{InodeFault, InodeMut, InodeView, SMALL_DATA, check};
 use bfs_bytes::Run;

@@ -1,9 +1,9 @@
 // Is it a page?
-ghost use Rattle.std.specs.Prelude.{◌≡◌, ◌≤◌, ◌<◌, ◌+◌, ◌*◌, ◌↔◌, length, IsTrue, OnOk, IfErr};
+ghost use Rattle.std.specs.Prelude.{◌≡◌, ◌≤◌, ◌+◌, ◌*◌, ◌↔◌, length, IsTrue, OnOk, IfErr};
 ghost use Rattle.bfs_base.specs.Keys.{IsKey, IsTreeKind};
 ghost use Rattle.bfs_node.specs.Faults.{IsPageRefusal};
 ghost use Rattle.bfs_node.specs.Search.{IsSought};
-ghost use Rattle.bfs_node.specs.Page.{IsPage, least_key, most_key, count_at, base_at, end_at};
+ghost use Rattle.bfs_node.specs.Page.{IsPage, least_key, most_key, base_at, end_at};
 
 use crate::{KeyKind, PageFault};
 use bfs_bytes::u16_at;

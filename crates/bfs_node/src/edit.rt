@@ -1,13 +1,11 @@
 // Changes the rows and the links of a page that is lent.
-ghost use Rattle.std.specs.Prelude.{◌≡◌, ◌≤◌, ◌<◌, ◌+◌, ◌↔◌, ℕ, List, [], length, take, drop, insert, remove, slice_set, IsTrue};
-ghost use Rattle.std.specs.Int.{w64};
-ghost use Rattle.bfs_base.specs.Keys.{IsKey};
+ghost use Rattle.std.specs.Prelude.{◌≡◌, ◌≤◌, ◌<◌, ◌+◌, ◌↔◌, [], length, take, drop, insert, remove, slice_set, IsTrue};
 ghost use Rattle.bfs_bytes.specs.Fields.{Puts, signed64_bytes};
-ghost use Rattle.bfs_node.specs.Page.{HasLayout, HasKeys, HasRoom, rows_of, row_in, key_of, keys_of, taken_by, links_of, null_links, blank_page};
+ghost use Rattle.bfs_node.specs.Page.{HasLayout, HasRoom, rows_of, row_in, key_of, keys_of, taken_by, links_of, null_links, blank_page};
 
 use crate::NULL_LINKS;
-use crate::read::{key_bytes, links, row_count, value_place};
-use crate::write::{emptied, inserted, parted, removed};
+use crate::read::{key_bytes, page_links, row_count, value_place};
+use crate::write::{make_blank, make_part, make_with_row, make_without_row};
 use bfs_bytes::put_i64;
 
 /// Whether a page has room for one more row, with this key.
@@ -38,7 +36,7 @@ pub fn insert_row(page: &mut [u8], i: usize, key: &[u8], value: i64)
     ensures links { links_of page.new ≡ links_of page.old }
 {
     let mut next = [0u8; 1024];
-    inserted(page, i, key, value, &mut next);
+    make_with_row(page, i, key, value, &mut next);
     page.copy_from_slice(&next);
 }
 
@@ -51,7 +49,7 @@ pub fn remove_row(page: &mut [u8], i: usize)
     ensures links { links_of page.new ≡ links_of page.old }
 {
     let mut next = [0u8; 1024];
-    removed(page, i, &mut next);
+    make_without_row(page, i, &mut next);
     page.copy_from_slice(&next);
 }
 
@@ -82,8 +80,8 @@ pub fn split_rows(page: &mut [u8], into: &mut [u8], at: usize)
     let count = row_count(page);
     let mut front = [0u8; 1024];
     let mut back = [0u8; 1024];
-    parted(page, 0, at, links(page), &mut front);
-    parted(page, at, count, NULL_LINKS, &mut back);
+    make_part(page, 0, at, page_links(page), &mut front);
+    make_part(page, at, count, NULL_LINKS, &mut back);
     page.copy_from_slice(&front);
     into.copy_from_slice(&back);
 }
@@ -97,7 +95,7 @@ pub fn blank(page: &mut [u8])
     ensures links { links_of page.new ≡ null_links }
 {
     let mut next = [0u8; 1024];
-    emptied(&mut next);
+    make_blank(&mut next);
     page.copy_from_slice(&next);
 }
 

@@ -1,5 +1,5 @@
 // The header of a tree.
-ghost use Rattle.std.specs.Prelude.{◌≡◌, ◌≤◌, length, IfOk, IfErr};
+ghost use Rattle.std.specs.Prelude.{◌≡◌, length, IfOk, IfErr};
 ghost use Rattle.bfs_base.specs.Keys.{IsTreeKind};
 ghost use Rattle.bfs_bytes.specs.Fields.{Puts};
 ghost use Rattle.bfs_node.specs.Header.{header_at, header_bytes, code_of, HasKind, IsHeader};

@@ -26,8 +26,7 @@ pub use links::{Links, NULL_LINKS};
 pub use lookup::search;
 pub use page_mut::PageMut;
 pub use read::{
-    key_bytes, left_link, links as page_links, overflow_link, right_link, row_count, row_key,
-    row_value,
+    key_bytes, left_link, overflow_link, page_links, right_link, row_count, row_key, row_value,
 };
 pub use view::PageView;
 

@@ -1,5 +1,5 @@
 // Looks a key up among the rows of a page.
-ghost use Rattle.std.specs.Prelude.{◌≡◌, ◌≤◌, ◌<◌, ◌+◌, length};
+ghost use Rattle.std.specs.Prelude.{◌≡◌, length};
 ghost use Rattle.bfs_base.specs.Keys.{key_cmp};
 ghost use Rattle.bfs_node.specs.Page.{IsPage, IsKeyLength, rows_of};
 ghost use Rattle.bfs_node.specs.Search.{IsSought, Ascends, IsPlace, IsInRows};

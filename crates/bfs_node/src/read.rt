@@ -23,7 +23,7 @@ pub fn key_bytes(page: &[u8]) -> usize
 }
 
 /// Where the keys' ends begin.
-fn base(page: &[u8]) -> usize
+fn ends_base(page: &[u8]) -> usize
     requires { HasLayout page.now }
     ensures { result ≡ base_at page.now }
 {
@@ -31,23 +31,23 @@ fn base(page: &[u8]) -> usize
 }
 
 /// Where the key of a row ends, counted from the first key.
-fn end(page: &[u8], i: usize) -> usize
+fn key_end(page: &[u8], i: usize) -> usize
     requires page { HasLayout page.now }
     requires place { i < count_at page.now }
     ensures end { result ≡ end_at page.now i }
     ensures within { result ≤ key_bytes_at page.now }
 {
-    u16_at(page, base(page) + 2 * i) as usize
+    u16_at(page, ends_base(page) + 2 * i) as usize
 }
 
 /// Where the key of a row starts, counted from the first key; of the place behind the last row, where that ends.
-pub fn start(page: &[u8], i: usize) -> usize
+pub fn key_start(page: &[u8], i: usize) -> usize
     requires page { HasLayout page.now }
     requires place { i ≤ length (rows_of page.now) }
     ensures field { result ≡ start_at page.now i }
     ensures rows { result ≡ length (keys_of (take i (rows_of page.now))) }
 {
-    if i == 0 { 0 } else { end(page, i - 1) }
+    if i == 0 { 0 } else { key_end(page, i - 1) }
 }
 
 fn cut(page: &[u8], from: usize, to: usize) -> &[u8]
@@ -64,7 +64,7 @@ pub fn row_key(page: &[u8], i: usize) -> &[u8]
     requires place { i < length (rows_of page.now) }
     ensures { result.now ≡ key_of (row_in (rows_of page.now) i) }
 {
-    cut(page, 28 + start(page, i), 28 + end(page, i))
+    cut(page, 28 + key_start(page, i), 28 + key_end(page, i))
 }
 
 /// Where the value of a row stands.
@@ -74,7 +74,7 @@ pub fn value_place(page: &[u8], i: usize) -> usize
     ensures place { result ≡ base_at page.now + 2 * count_at page.now + 8 * i }
     ensures within { result + 8 ≤ length page.now }
 {
-    base(page) + 2 * row_count(page) + 8 * i
+    ends_base(page) + 2 * row_count(page) + 8 * i
 }
 
 /// The value of the row at a place.
@@ -111,7 +111,7 @@ pub fn overflow_link(page: &[u8]) -> i64
 }
 
 /// The three links.
-pub fn links(page: &[u8]) -> Links
+pub fn page_links(page: &[u8]) -> Links
     requires { length page.now ≡ 1024 }
     ensures { result ≡ links_of page.now }
 {

@@ -1,5 +1,4 @@
 // Headers and pages as bytes that were written down elsewhere.
-ghost use Rattle.std.specs.Prelude.{◌≡◌, length};
 
 use crate::{
     Header, KeyKind, Links, NULL_LINKS, PageFault, PageMut, PageView, blank, check, data_type,

@@ -1,10 +1,10 @@
 // Makes pages of rows.
-ghost use Rattle.std.specs.Prelude.{◌≡◌, ◌≤◌, ◌<◌, ◌+◌, ◌-◌, ◌*◌, ◌^◌, ℕ, List, [], ◌∷◌, ◌++◌, length, take, drop, insert, remove};
+ghost use Rattle.std.specs.Prelude.{◌≡◌, ◌≤◌, ◌<◌, ◌+◌, ◌-◌, ◌*◌, List, [], ◌∷◌, ◌++◌, length, take, drop, insert, remove};
 ghost use Rattle.bfs_bytes.specs.Fields.{Puts};
-ghost use Rattle.bfs_node.specs.Page.{Row, HasLayout, HasRoom, rows_of, row_in, keys_of, key_of, links_of, base_of, taken_by, head_bytes, blank_page, null_links};
+ghost use Rattle.bfs_node.specs.Page.{Row, HasLayout, HasRoom, rows_of, keys_of, links_of, base_of, taken_by, head_bytes, null_links};
 ghost use Rattle.bfs_node.specs.Written.{part, two, Written, Holds};
 
-use crate::read::{key_bytes, links, row_count, row_key, row_value, start};
+use crate::read::{key_bytes, key_start, page_links, row_count, row_key, row_value};
 use crate::{Links, NULL_LINKS};
 use bfs_bytes::{put_bytes, put_i64, put_u16};
 
@@ -98,7 +98,7 @@ fn copy_rows(
 }
 
 /// Makes a page of the old one's rows with one more.
-pub fn inserted(old: &[u8], i: usize, key: &[u8], value: i64, page: &mut [u8])
+pub fn make_with_row(old: &[u8], i: usize, key: &[u8], value: i64, page: &mut [u8])
     requires old { HasLayout old.now }
     requires place { i ≤ length (rows_of old.now) }
     requires room { HasRoom (rows_of old.now) key.now }
@@ -108,14 +108,14 @@ pub fn inserted(old: &[u8], i: usize, key: &[u8], value: i64, page: &mut [u8])
 {
     let count = row_count(old);
     let bytes = key_bytes(old) + key.len();
-    let table = begin(page, links(old), count + 1, bytes);
+    let table = begin(page, page_links(old), count + 1, bytes);
     let start = copy_rows(old, 0, i, page, table, 0, 0);
     let end = write_row(page, table, i, start, key, value);
     let _ = copy_rows(old, i, count, page, table, i + 1, end);
 }
 
 /// Makes a page of the old one's rows but one.
-pub fn removed(old: &[u8], i: usize, page: &mut [u8])
+pub fn make_without_row(old: &[u8], i: usize, page: &mut [u8])
     requires old { HasLayout old.now }
     requires place { i < length (rows_of old.now) }
     requires size { length page.old ≡ 1024 }
@@ -124,13 +124,13 @@ pub fn removed(old: &[u8], i: usize, page: &mut [u8])
 {
     let count = row_count(old);
     let bytes = key_bytes(old) - row_key(old, i).len();
-    let table = begin(page, links(old), count - 1, bytes);
+    let table = begin(page, page_links(old), count - 1, bytes);
     let start = copy_rows(old, 0, i, page, table, 0, 0);
     let _ = copy_rows(old, i + 1, count, page, table, i, start);
 }
 
 /// Makes a page of some of the old one's rows, from one place to another, with these links.
-pub fn parted(old: &[u8], from: usize, to: usize, links: Links, page: &mut [u8])
+pub fn make_part(old: &[u8], from: usize, to: usize, links: Links, page: &mut [u8])
     requires old { HasLayout old.now }
     requires order { from ≤ to }
     requires within { to ≤ length (rows_of old.now) }
@@ -138,13 +138,13 @@ pub fn parted(old: &[u8], from: usize, to: usize, links: Links, page: &mut [u8])
     ensures rows { Holds page.new (take (to - from) (drop from (rows_of old.now))) }
     ensures links { links_of page.new ≡ links }
 {
-    let bytes = start(old, to) - start(old, from);
+    let bytes = key_start(old, to) - key_start(old, from);
     let table = begin(page, links, to - from, bytes);
     let _ = copy_rows(old, from, to, page, table, 0, 0);
 }
 
 /// Makes a page that was all zeros an empty leaf with three null links.
-pub fn emptied(page: &mut [u8])
+pub fn make_blank(page: &mut [u8])
     requires { length page.old ≡ 1024 }
     ensures rows { Holds page.new [] }
     ensures links { links_of page.new ≡ null_links }

@@ -8,7 +8,7 @@ use Rattle.bfs_node.proofs.Begun.{links-head}
 use Rattle.bfs_node.proofs.Made.{made, same-inserted}
 use Rattle.bfs_node.proofs.PageLayout.{holds-rows}
 use Rattle.bfs_node.proofs.RowsRead.{keys-le, key_pushed, nothing-written}
-use Rattle.bfs_node.proofs.write.inserted.Goals as goal
+use Rattle.bfs_node.proofs.write.make_with_row.Goals as goal
 
 pub copy_rows-start-requires-clause-room : goal.copy_rows-start-requires-clause-room
 copy_rows-start-requires-clause-room c = omega (arith, keys-le (rows_of c.args.old.now) c.args.i, c.key_bytes.ensures.rows, c.begin-table.ensures.base)
@@ -19,7 +19,7 @@ write_row-end-requires-clause-key c =
 
 pub returns-clause-links : goal.returns-clause-links
 returns-clause-links c =
-    links-head c.copy_rows.new.page c.begin-table.new.page (c.copy_rows.ensures.head ∙ c.write_row-end.ensures.head ∙ c.copy_rows-start.ensures.head) ∙ c.begin-table.ensures.links ∙ c.links.ensures
+    links-head c.copy_rows.new.page c.begin-table.new.page (c.copy_rows.ensures.head ∙ c.write_row-end.ensures.head ∙ c.copy_rows-start.ensures.head) ∙ c.begin-table.ensures.links ∙ c.page_links.ensures
 
 pub returns-clause-rows : goal.returns-clause-rows
 returns-clause-rows c =

@@ -1,6 +1,6 @@
 use Rattle.std.proofs.Common.{arith}
 use Rattle.bfs_node.proofs.RowsRead.{nothing-written}
-use Rattle.bfs_node.proofs.write.emptied.Goals as goal
+use Rattle.bfs_node.proofs.write.make_blank.Goals as goal
 
 pub returns-clause-rows : goal.returns-clause-rows
 returns-clause-rows c = record {

@@ -7,7 +7,7 @@ use Rattle.bfs_node.proofs.Begun.{links-head}
 use Rattle.bfs_node.proofs.Made.{made, same-removed}
 use Rattle.bfs_node.proofs.PageLayout.{holds-rows, length-rows_of}
 use Rattle.bfs_node.proofs.RowsRead.{keys-le, keys-next, nothing-written}
-use Rattle.bfs_node.proofs.write.removed.Goals as goal
+use Rattle.bfs_node.proofs.write.make_without_row.Goals as goal
 
 pub overflow_sub-bytes : goal.overflow_sub-bytes
 overflow_sub-bytes c = omega (arith, ap length c.row_key.ensures, keys-removed (rows_of c.args.old.now) c.args.i c.requires.place, c.key_bytes.ensures.rows)
@@ -34,7 +34,7 @@ copy_rows-requires-clause-ends c =
 
 pub returns-clause-links : goal.returns-clause-links
 returns-clause-links c =
-    links-head c.copy_rows.new.page c.begin-table.new.page (c.copy_rows.ensures.head ∙ c.copy_rows-start.ensures.head) ∙ c.begin-table.ensures.links ∙ c.links.ensures
+    links-head c.copy_rows.new.page c.begin-table.new.page (c.copy_rows.ensures.head ∙ c.copy_rows-start.ensures.head) ∙ c.begin-table.ensures.links ∙ c.page_links.ensures
 
 pub returns-clause-rows : goal.returns-clause-rows
 returns-clause-rows c =

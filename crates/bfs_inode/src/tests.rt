@@ -198,3 +198,29 @@ fn each_writer_changes_its_own_bytes(rt: HostRuntime) {
     place(&mut want, 72, &[3; 144]);
     assert!(rt; block == want);
 }
+
+#[test]
+fn a_block_of_any_bytes_has_an_answer(rt: HostRuntime) {
+    let root = root();
+    let mut state = 7u64;
+    for size in [1024usize, 2048, 4096, 8192] {
+        for kept in [0usize, 4, 12, 28] {
+            let mut block = [0u8; 8192];
+            for byte in block.iter_mut() {
+                state = state
+                    .wrapping_mul(6364136223846793005)
+                    .wrapping_add(1442695040888963407);
+                *byte = (state >> 56) as u8;
+            }
+            // the root's first fields stay, so that the later conditions are reached
+            for i in 0..28 {
+                if i < kept {
+                    block[i] = root[i];
+                }
+            }
+            if size >= 1024 && size <= 8192 {
+                assert!(rt; check(&block[..size], 514, 13).is_err(), "{kept} of {size}");
+            }
+        }
+    }
+}

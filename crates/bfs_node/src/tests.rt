@@ -325,3 +325,26 @@ fn cut(page: &mut [u8; 1024], into: &mut [u8; 1024]) -> bool {
         Err(_) => false,
     }
 }
+
+#[test]
+fn a_page_of_any_bytes_has_an_answer(rt: HostRuntime) {
+    let mut state = 7u64;
+    let mut good = 0u32;
+    for _ in 0..1000 {
+        let mut page = [0u8; 1024];
+        for byte in page.iter_mut() {
+            state = state
+                .wrapping_mul(6364136223846793005)
+                .wrapping_add(1442695040888963407);
+            *byte = (state >> 56) as u8 & 3;
+        }
+        // few rows and few bytes of keys, so that the ends of keys are reached; one page in sixteen has none of both
+        page[25] = 0;
+        page[27] = 0;
+        if find(&page, KeyKind::Text, b"k").is_some() {
+            good = good.wrapping_add(1);
+        }
+        assert!(rt; Header::of(&page).is_err());
+    }
+    assert!(rt; good > 0 && good < 1000);
+}

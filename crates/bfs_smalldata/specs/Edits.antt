@@ -1,5 +1,5 @@
 -- Lists of items by their names, and what the calls answer.
-use Rattle.std.specs.Prelude.{◌≡◌, ◌≤◌, ℕ, ◌+◌, if◌then◌else◌, List, [], ◌∷◌, length, take, drop, get_or, Option, Some, None, IfSome, IsSomeAnd, find, count_by}
+use Rattle.std.specs.Prelude.{◌≡◌, ◌≤◌, ◌<◌, ℕ, ◌+◌, if◌then◌else◌, List, [], ◌∷◌, length, take, drop, get_or, Option, Some, None, IfSome, IsSomeAnd, find, count_by}
 use Rattle.std.specs.Str.{bytes_eq}
 use Rattle.bfs_smalldata.specs.declared.item.Item as found
 use Rattle.bfs_smalldata.specs.Items.{Item, sizes_of, items_of}
@@ -30,6 +30,10 @@ AreDistinct items = (name : List ℕ) → count_by (λ item. bytes_eq item.name 
 -- an item of this name with so many bytes ends inside the area, once one of the same name is out
 abbrev pub HasRoom : List ℕ → List ℕ → ℕ → Type 0
 HasRoom area name n = IfSome (items_of area) (λ items. sizes_of (without name items) + (8 + length name + 3 + n + 1) ≤ length area)
+
+-- such an item fits: there is room for it, and the two bytes of its size can tell how many bytes it has
+abbrev pub IsFitting : List ℕ → List ℕ → ℕ → Type 0
+IsFitting area name n = (n < 65536) × HasRoom area name n
 
 -- the type of an item, and where its bytes stand in the area
 pub record IsPlaceOf (area : List ℕ) (item : Item) (place : found.Item) : Type 0 where

@@ -4,7 +4,7 @@ ghost use Rattle.std.specs.Bool.{OnFalse};
 ghost use Rattle.std.specs.Option.{option_map, option_and_then};
 ghost use Rattle.bfs_bytes.specs.Fields.{Puts};
 ghost use Rattle.bfs_smalldata.specs.Items.{Item, items_of, sizes_of, bytes_of};
-ghost use Rattle.bfs_smalldata.specs.Edits.{named, before, without, with_item, HasRoom, StandsAt, IsClear};
+ghost use Rattle.bfs_smalldata.specs.Edits.{named, before, without, with_item, IsFitting, StandsAt, IsClear};
 
 use crate::walk::span_of;
 use bfs_bytes::{put_bytes, put_u16, put_u32};
@@ -48,9 +48,7 @@ fn write_item(area: &mut [u8], at: usize, kind: u32, name: &[u8], bytes: &[u8])
 /// is zeros then.
 pub fn put(area: &mut [u8], kind: u32, name: &[u8], bytes: &[u8])
     requires area { IsSome (items_of area.old) }
-    // An item's sizes have two bytes each. An inode's area has at most 7,960.
-    requires small { length area.old < 65536 }
-    requires fits { HasRoom area.old name.now (length bytes.now) }
+    requires fits { IsFitting area.old name.now (length bytes.now) }
     requires some { 1 ≤ length name.now }
     requires short { length name.now ≤ 255 }
     ensures items { items_of area.new ≡ option_map (with_item (record { kind = kind; name = name.now; bytes = bytes.now })) (items_of area.old) }

@@ -10,7 +10,7 @@ const OWN_NAME: &[u8] = &[0x13];
 
 // Puts an item where the area is one and has room.
 fn put_if(area: &mut [u8], kind: u32, name: &[u8], bytes: &[u8]) -> bool {
-    if area.len() >= 65536 || name.is_empty() || name.len() > 255 {
+    if name.is_empty() || name.len() > 255 {
         return false;
     }
     match list_end(area) {
@@ -143,4 +143,19 @@ fn an_area_of_any_bytes_has_an_answer(rt: HostRuntime) {
             let _ = take_if(&mut area, &name);
         }
     }
+}
+
+// Whether an item of this name with so many bytes fits, if the area is one.
+fn fits_if(area: &[u8], name: &[u8], size: usize) -> Option<bool> {
+    match list_end(area) {
+        Ok(_) => Some(fits(area, name, size)),
+        Err(_) => None,
+    }
+}
+
+#[test]
+fn an_item_has_at_most_65535_bytes(rt: HostRuntime) {
+    let area = [0u8; 66_000];
+    assert_eq!(rt; fits_if(&area, b"x", 65_535), Some(true));
+    assert_eq!(rt; fits_if(&area, b"x", 65_536), Some(false));
 }

@@ -4,7 +4,7 @@ ghost use Rattle.std.specs.Option.{option_and_then};
 ghost use Rattle.std.specs.Str.{bytes_eq};
 ghost use Rattle.bfs_smalldata.specs.Items.{items_of, sizes_of, name_size, data_size, size_in, item_in, GoesOn, RunsPast};
 ghost use Rattle.bfs_smalldata.specs.Items.{Item as Content};
-ghost use Rattle.bfs_smalldata.specs.Edits.{named, IsPlaceOf, Finds, HasRoom};
+ghost use Rattle.bfs_smalldata.specs.Edits.{named, IsPlaceOf, Finds, HasRoom, IsFitting};
 ghost use Rattle.bfs_smalldata.specs.Walk.{Stops, Spans};
 
 use crate::{AreaFault, Item};
@@ -151,12 +151,21 @@ pub fn find(area: &[u8], name: &[u8]) -> Option<Item>
     }
 }
 
-/// Does an item of this name with so many bytes end inside the area, once one of the same name is out?
-pub fn fits(area: &[u8], name: &[u8], size: usize) -> bool
+// Does an item of this name with so many bytes end inside the area, once one of the same name is out?
+fn has_room(area: &[u8], name: &[u8], size: usize) -> bool
     requires { IsSome (items_of area.now) }
     ensures { IsTrue result ↔ HasRoom area.now name.now size }
 {
     let span = span_of(area, name);
     let room = area.len() - (span.end - (span.next - span.at));
     12 + name.len() <= room && size <= room - (12 + name.len())
+}
+
+/// May an item of this name with so many bytes be put into the area? It ends inside the area, once one of the
+/// same name is out, and its size can be told in two bytes.
+pub fn fits(area: &[u8], name: &[u8], size: usize) -> bool
+    requires { IsSome (items_of area.now) }
+    ensures { IsTrue result ↔ IsFitting area.now name.now size }
+{
+    size < 65536 && has_room(area, name, size)
 }

@@ -7,17 +7,17 @@ use Rattle.bfs_smalldata.proofs.edit.put.Goals as goal
 pub move_part-requires-clause-room : goal.move_part-requires-clause-room
 move_part-requires-clause-room c =
     let spans = c.span_of-span.ensures in
-    omega (arith, kept_size c.args.area.now c.args.name.now _ _ _ spans, room_from c.args.area.now c.args.name.now _ _ _ spans (length c.args.bytes.now) c.requires.fits)
+    omega (arith, kept_size c.args.area.now c.args.name.now _ _ _ spans, room_from c.args.area.now c.args.name.now _ _ _ spans (length c.args.bytes.now) c.requires.fits.1)
 
 pub write_item-requires-clause-inside : goal.write_item-requires-clause-inside
 write_item-requires-clause-inside c =
     let spans = c.span_of-span.ensures in
-    omega (arith, kept_size c.args.area.now c.args.name.now _ _ _ spans, room_from c.args.area.now c.args.name.now _ _ _ spans (length c.args.bytes.now) c.requires.fits)
+    omega (arith, kept_size c.args.area.now c.args.name.now _ _ _ spans, room_from c.args.area.now c.args.name.now _ _ _ spans (length c.args.bytes.now) c.requires.fits.1)
 
 pub clear-requires : goal.clear-requires
 clear-requires c =
     let spans = c.span_of-span.ensures in
-    omega (arith, kept_size c.args.area.now c.args.name.now _ _ _ spans, room_from c.args.area.now c.args.name.now _ _ _ spans (length c.args.bytes.now) c.requires.fits)
+    omega (arith, kept_size c.args.area.now c.args.name.now _ _ _ spans, room_from c.args.area.now c.args.name.now _ _ _ spans (length c.args.bytes.now) c.requires.fits.1)
 
 pub returns-clause-items : goal.returns-clause-items
 returns-clause-items c =
@@ -26,8 +26,8 @@ returns-clause-items c =
     let span = c.span_of-span.result in
     let spans = c.span_of-span.ensures in
     let item : Item = record { kind = c.args.kind; name = name; bytes = c.args.bytes.now } in
-    let fits = room_from area name _ _ _ spans (length c.args.bytes.now) c.requires.fits in
-    let raw : Begins (bytes_of item) item = bytes_begin item (omega (arith, c.ranges.kind)) (omega (arith, c.requires.short)) (omega (arith, c.requires.small, fits)) (omega (arith, c.requires.some)) in
+    let fits = room_from area name _ _ _ spans (length c.args.bytes.now) c.requires.fits.1 in
+    let raw : Begins (bytes_of item) item = bytes_begin item (omega (arith, c.ranges.kind)) (omega (arith, c.requires.short)) (omega (arith, c.requires.fits.0)) (omega (arith, c.requires.some)) in
     let behind = span.at + 8 + length name + 3 + length c.args.bytes.now + 1 in
     let inside : behind + (span.end - span.next) ≤ length area = omega (arith, kept_size area name _ _ _ spans, fits) in
     let n = length c.write_item.new.area - (behind + (span.end - span.next)) in
@@ -41,8 +41,8 @@ returns-clause-written c =
     let span = c.span_of-span.result in
     let spans = c.span_of-span.ensures in
     let item : Item = record { kind = c.args.kind; name = name; bytes = c.args.bytes.now } in
-    let fits = room_from area name _ _ _ spans (length c.args.bytes.now) c.requires.fits in
-    let raw : Begins (bytes_of item) item = bytes_begin item (omega (arith, c.ranges.kind)) (omega (arith, c.requires.short)) (omega (arith, c.requires.small, fits)) (omega (arith, c.requires.some)) in
+    let fits = room_from area name _ _ _ spans (length c.args.bytes.now) c.requires.fits.1 in
+    let raw : Begins (bytes_of item) item = bytes_begin item (omega (arith, c.ranges.kind)) (omega (arith, c.requires.short)) (omega (arith, c.requires.fits.0)) (omega (arith, c.requires.some)) in
     let behind = span.at + 8 + length name + 3 + length c.args.bytes.now + 1 in
     let inside : behind + (span.end - span.next) ≤ length area = omega (arith, kept_size area name _ _ _ spans, fits) in
     let n = length c.write_item.new.area - (behind + (span.end - span.next)) in
@@ -56,8 +56,8 @@ returns-clause-free c =
     let span = c.span_of-span.result in
     let spans = c.span_of-span.ensures in
     let item : Item = record { kind = c.args.kind; name = name; bytes = c.args.bytes.now } in
-    let fits = room_from area name _ _ _ spans (length c.args.bytes.now) c.requires.fits in
-    let raw : Begins (bytes_of item) item = bytes_begin item (omega (arith, c.ranges.kind)) (omega (arith, c.requires.short)) (omega (arith, c.requires.small, fits)) (omega (arith, c.requires.some)) in
+    let fits = room_from area name _ _ _ spans (length c.args.bytes.now) c.requires.fits.1 in
+    let raw : Begins (bytes_of item) item = bytes_begin item (omega (arith, c.ranges.kind)) (omega (arith, c.requires.short)) (omega (arith, c.requires.fits.0)) (omega (arith, c.requires.some)) in
     let behind = span.at + 8 + length name + 3 + length c.args.bytes.now + 1 in
     let inside : behind + (span.end - span.next) ≤ length area = omega (arith, kept_size area name _ _ _ spans, fits) in
     let n = length c.write_item.new.area - (behind + (span.end - span.next)) in

@@ -1,7 +1,7 @@
 use Rattle.std.proofs.Common.{arith}
 use Rattle.std.proofs.lemmas.Bool.{leb-true, le-leb}
 use Rattle.bfs_smalldata.proofs.Walking.{kept_size, room_to, room_from}
-use Rattle.bfs_smalldata.proofs.walk.fits.Goals as goal
+use Rattle.bfs_smalldata.proofs.walk.has_room.Goals as goal
 
 pub returns-then-name-room : goal.returns-then-name-room
 returns-then-name-room c =

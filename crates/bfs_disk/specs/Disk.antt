@@ -32,3 +32,8 @@ InRange (Some size) at bytes = at + length bytes / 512 ≤ size
 abbrev pub StaysKnown : Option ℕ → Option ℕ → Type 0
 StaysKnown None new = Unit {0}
 StaysKnown (Some size) new = new ≡ Some size
+
+-- the disk has so many sectors at least, and their number is known
+abbrev pub HasSectors : Option ℕ → ℕ → Type 0
+HasSectors None n = ⊥
+HasSectors (Some size) n = n ≤ size

@@ -1,6 +1,7 @@
 // A disk over a file.
 ghost use Rattle.std.specs.Prelude.{◌≡◌, ◌≤◌, ◌<◌, ◌+◌, ◌-◌, ◌*◌, ◌^◌, min, ℕ, None, Some, IfOk};
 ghost use Rattle.std.specs.Option.{ForSome};
+ghost use Rattle.std.specs.String.{string_bytes};
 
 use crate::{Disk, Failed};
 use std::alloc::AllocError;
@@ -29,6 +30,7 @@ impl<R: Files + AllocGlobal + Drop> FileDisk<R> {
         ensures size { IfOk result (λ d. ⟦<FileDisk<R> as Disk>⟧.size d ≡ None) }
         ensures faults { IfOk result (λ d. ⟦<FileDisk<R> as Disk>⟧.faults d ≡ 0) }
         ensures stops { IfOk result (λ d. ⟦<FileDisk<R> as Disk>⟧.stops d ≡ 0) }
+        ensures path { IfOk result (λ d. string_bytes d.path ≡ path.now) }
     {
         let path = String::from_str(rt.alloc(), path)?;
         Ok(FileDisk {

@@ -1,5 +1,5 @@
 // A disk that fails from some call on.
-ghost use Rattle.std.specs.Prelude.{◌≡◌, ◌≤◌, ◌↔◌, ◌+◌, ◌-◌, ◌^◌, min, ℕ, List};
+ghost use Rattle.std.specs.Prelude.{◌≡◌, ◌≤◌, ◌<◌, ◌↔◌, ◌+◌, ◌-◌, ◌^◌, min, ℕ, List, IsTrue};
 
 use crate::{Disk, Failed};
 
@@ -20,6 +20,7 @@ impl<D: Disk> Stopping<D> {
         ensures since { (t : ℕ) (c : List ℕ) → ⟦<Stopping<D> as Disk>⟧.since result t c ↔ D.since disk t c }
         ensures faults { ⟦<Stopping<D> as Disk>⟧.faults result ≡ min (D.faults disk) (2 ^ 64 - 1) }
         ensures stops { ⟦<Stopping<D> as Disk>⟧.stops result ≡ min (D.stops disk) (2 ^ 64 - 1) }
+        ensures passes { result.left ≡ calls }
     {
         Stopping {
             disk,
@@ -27,6 +28,19 @@ impl<D: Disk> Stopping<D> {
             failed: 0,
             stopped: 0,
         }
+    }
+
+    // Counts a call that is made. Does it go through?
+    fn goes_through(&mut self) -> bool
+        ensures through { IsTrue result ↔ 0 < self.old.left }
+        ensures passes { self.new.left ≡ self.old.left - 1 }
+        ensures disk { self.new.disk ≡ self.old.disk }
+        ensures failed { self.new.failed ≡ self.old.failed }
+        ensures stopped { self.new.stopped ≡ self.old.stopped }
+    {
+        let through = self.left > 0;
+        self.left = self.left.saturating_sub(1);
+        through
     }
 
     /// The disk behind it.
@@ -67,40 +81,36 @@ impl<D: Disk> Disk for Stopping<D> {
     ghost filled = { λ s. D.filled s.disk };
 
     fn sectors(&mut self) -> Result<u64, Failed> {
-        if self.left == 0 {
+        if !self.goes_through() {
             self.failed = self.failed.saturating_add(1);
             return Err(Failed);
         }
-        self.left -= 1;
         self.disk.sectors()
     }
 
     fn read(&mut self, at: u64, into: &mut [u8]) -> Result<(), Failed> {
-        if self.left == 0 {
+        if !self.goes_through() {
             self.failed = self.failed.saturating_add(1);
             return Err(Failed);
         }
-        self.left -= 1;
         self.disk.read(at, into)
     }
 
     fn write(&mut self, at: u64, from: &[u8]) -> Result<(), Failed> {
-        if self.left == 0 {
+        if !self.goes_through() {
             self.failed = self.failed.saturating_add(1);
             self.stopped = self.stopped.saturating_add(1);
             return Err(Failed);
         }
-        self.left -= 1;
         self.disk.write(at, from)
     }
 
     fn barrier(&mut self) -> Result<(), Failed> {
-        if self.left == 0 {
+        if !self.goes_through() {
             self.failed = self.failed.saturating_add(1);
             self.stopped = self.stopped.saturating_add(1);
             return Err(Failed);
         }
-        self.left -= 1;
         self.disk.barrier()
     }
 

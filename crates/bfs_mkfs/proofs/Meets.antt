@@ -6,12 +6,12 @@ use Rattle.bfs_base.specs.Images.{sector}
 use Rattle.bfs_base.proofs.Sectors.{sector_inside}
 use Rattle.bfs_disk.specs.State.{State, IsImage, IsOneOf, IsQuiet, Tells, Holds, newest, written, settled, names}
 use Rattle.bfs_disk.specs.State.{Filled as Holding}
-use Rattle.bfs_disk.specs.Disk.{MayLeave, InRange}
+use Rattle.bfs_disk.specs.Disk.{MayLeave, InRange, HasSectors}
 use Rattle.bfs_disk.proofs.Names.{names_before, names_inside}
 use Rattle.bfs_disk.proofs.Calls.{first_is, first_same, one_sector, named_one, unnamed_one}
 use Rattle.bfs_disk.proofs.Images.{quiet_image, written_image}
 use Rattle.bfs_disk.specs.declared.disk.Failed.{Failed}
-use Rattle.bfs_mkfs.specs.Written.{Meets, HasSectors, IsBlank, Cleared, HalfFilled, Filled, Opening, Opened, Area, AreBehind, end_of, Fits, IsWritten, blank_sector}
+use Rattle.bfs_mkfs.specs.Written.{Meets, IsBlank, Cleared, HalfFilled, Filled, Opening, Opened, Area, AreBehind, end_of, Fits, IsWritten, blank_sector}
 
 -- a crash leaves of each sector what it may
 pub meets_image : {P Q : ℕ → List ℕ → Type 0} {s : State} {c : List ℕ} → Meets P Q s → IsImage s c → (k : ℕ) → k < s.size → P k (sector k c)

@@ -36,11 +36,6 @@ AreBehind a b = (2 ≤ a.at) × (2 ≤ b.at)
 abbrev pub Fits : Area → ℕ → List ℕ → Type 0
 Fits area k c = area.at ≤ k → k < area.at + length area.bytes / 512 → c ≡ sector (k - area.at) area.bytes
 
--- the disk has so many sectors at least, a number that is known
-abbrev pub HasSectors : Option ℕ → ℕ → Type 0
-HasSectors None n = ⊥
-HasSectors (Some size) n = n ≤ size
-
 -- a content of the superblock's sector is blank
 abbrev pub Cleared : ℕ → List ℕ → Type 0
 Cleared k c = k ≡ 1 → c ≡ blank_sector

@@ -2,10 +2,10 @@
 ghost use Rattle.std.specs.Prelude.{◌≡◌, ◌⊎◌, ◌≤◌, ◌<◌, ◌+◌, ◌*◌, ◌/◌, ℕ, List, length, OnOk, IfErr};
 ghost use Rattle.bfs_base.specs.Counts.{Rose};
 ghost use Rattle.bfs_disk.specs.State.{State, Tells, Holds, IsQuiet, ReadsAs};
+ghost use Rattle.bfs_disk.specs.Disk.{HasSectors};
 ghost use Rattle.bfs_super.specs.Label.{IsLabel};
 ghost use Rattle.bfs_mkfs.specs.Laid.{IsPlanned, IsLaid};
 ghost use Rattle.bfs_mkfs.specs.Format.{IsRefused, HasCauseIn};
-ghost use Rattle.bfs_mkfs.specs.Written.{HasSectors};
 
 use crate::steps::write_volume;
 use crate::volume::{bitmap, superblock, trees};
@@ -43,6 +43,10 @@ pub fn format<D: Disk>(
     // A crash at any moment leaves the old image, one whose superblock is refused, or the new volume.
     ensures moments { (image : List ℕ) → Tells (D.state disk.old) (Holds image) → (c : List ℕ) → D.since disk.new (D.clock disk.old) c
         → (c ≡ image) ⊎ (IsRefused c ⊎ IsLaid geometry.now label.now stamp c) }
+
+    // Want of memory leaves the disk as it was. A failed disk has its cause in a count that rose.
+    ensures untouched { IfErr result (λ fault. fault ≡ FormatFault.NoMemory → D.state disk.new ≡ D.state disk.old) }
+    ensures size { D.size disk.new ≡ D.size disk.old }
     ensures later { D.faults disk.old ≤ D.faults disk.new }
     ensures cause { IfErr result (HasCauseIn (D.faults disk.old) (D.faults disk.new)) }
 {

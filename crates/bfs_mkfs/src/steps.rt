@@ -4,8 +4,8 @@ ghost use Rattle.std.specs.Prelude.{◌≡◌, ◌⊎◌, ◌≤◌, ◌<◌, �
 ghost use Rattle.bfs_base.specs.Counts.{HasCause};
 ghost use Rattle.bfs_base.specs.Moments.{Passed};
 ghost use Rattle.bfs_disk.specs.State.{State, Tells, Holds, IsQuiet};
-ghost use Rattle.bfs_disk.specs.Disk.{MayLeave};
-ghost use Rattle.bfs_mkfs.specs.Written.{HasSectors, Meets, IsBlank, Area, AreBehind, end_of, area, Cleared, Filled, Opened, IsWritten};
+ghost use Rattle.bfs_disk.specs.Disk.{MayLeave, HasSectors};
+ghost use Rattle.bfs_mkfs.specs.Written.{Meets, IsBlank, Area, AreBehind, end_of, area, Cleared, Filled, Opened, IsWritten};
 
 use bfs_disk::{Disk, Failed};
 

@@ -1,8 +1,10 @@
-// Ports over std's readers and writers.
+// Ports over std's writers and the system's clock.
 ghost use Rattle.std.specs.Prelude.{◌≡◌, None};
 
-use crate::{Failed, Sink};
+use crate::{Clock, Failed, Sink};
 use std::io::Write;
+use std::time;
+use std::time::{SystemTime, UNIX_EPOCH};
 
 /// A sink over a writer. It tells no bytes.
 #[derive(Drop)]
@@ -37,6 +39,36 @@ impl<W: Write> Sink for Output<W> {
                 self.faults = self.faults.saturating_add(1);
                 Err(Failed)
             }
+        }
+    }
+}
+
+/// The system's clock, in seconds since the beginning of 1970 (UTC). It tells no second.
+#[derive(Drop)]
+pub struct SystemClock<R> {
+    rt: R,
+}
+
+impl<R: time::Clock> SystemClock<R> {
+    /// The clock of this runtime.
+    pub fn over(rt: R) -> SystemClock<R>
+        ensures { ⟦<SystemClock<R> as Clock>⟧.stands result ≡ None }
+    {
+        SystemClock { rt }
+    }
+}
+
+impl<R: time::Clock> Clock for SystemClock<R> {
+    ghost stands = { λ _. None };
+
+    /// A second past 2^40 - 1 is cut to it. It is 0 where the clock can't be read or stands before 1970.
+    fn seconds(&mut self) -> u64 {
+        let Ok(now) = SystemTime::now(&self.rt) else {
+            return 0;
+        };
+        match now.duration_since(UNIX_EPOCH) {
+            Ok(since) => since.as_secs().min((1 << 40) - 1),
+            Err(_) => 0,
         }
     }
 }

@@ -1,5 +1,5 @@
 // Sources, sinks, a clock and a gate in memory.
-ghost use Rattle.std.specs.Prelude.{◌≡◌, ◌≤◌, ◌<◌, ◌^◌, ◌+◌, ◌-◌, ◌*◌, ℕ, List, [], Some, length, take, drop, min};
+ghost use Rattle.std.specs.Prelude.{◌≡◌, ◌≤◌, ◌<◌, ◌^◌, ◌+◌, ◌-◌, ◌*◌, ◌↔◌, ℕ, List, [], Some, length, take, drop, min, Contains, IfSome, IsSome};
 
 use crate::{Clock, Failed, Gate, Point, Sink, Source};
 use std::alloc::Global;
@@ -38,6 +38,8 @@ impl Mem {
     pub fn sink(alloc: Global) -> MemSink
         ensures written { ⟦<MemSink as Sink>⟧.written result ≡ Some [] }
         ensures faults { ⟦<MemSink as Sink>⟧.faults result ≡ 0 }
+        ensures room { result.room ≡ 2 ^ 64 - 1 }
+        ensures plan { result.plan.items ≡ [] }
     {
         Mem::full_sink(alloc, u64::MAX)
     }
@@ -46,6 +48,8 @@ impl Mem {
     pub fn full_sink(alloc: Global, room: u64) -> MemSink
         ensures written { ⟦<MemSink as Sink>⟧.written result ≡ Some [] }
         ensures faults { ⟦<MemSink as Sink>⟧.faults result ≡ 0 }
+        ensures room { result.room ≡ room }
+        ensures plan { result.plan.items ≡ [] }
     {
         MemSink {
             bytes: Vec::new(alloc),
@@ -60,6 +64,9 @@ impl Mem {
     pub fn failing_sink(alloc: Global, plan: Vec<u64>) -> MemSink
         ensures written { ⟦<MemSink as Sink>⟧.written result ≡ Some [] }
         ensures faults { ⟦<MemSink as Sink>⟧.faults result ≡ 0 }
+        ensures room { result.room ≡ 2 ^ 64 - 1 }
+        ensures plan { result.plan.items ≡ plan.items }
+        ensures made { result.made ≡ 0 }
     {
         MemSink {
             bytes: Vec::new(alloc),
@@ -92,6 +99,22 @@ impl MemSink {
     {
         &self.bytes
     }
+
+    // Counts a call. It is told how many of so many bytes have room, or nothing where it is to fail.
+    fn granted(&mut self, wanted: usize) -> Option<usize>
+        ensures made { self.new.made ≡ min (self.old.made + 1) (2 ^ 64 - 1) }
+        ensures plan { IsSome result ↔ (Contains self.old.plan.items self.new.made → ⊥) }
+        ensures room { IfSome result (λ n. n ≡ min wanted self.old.room) }
+        ensures bytes { self.new.bytes ≡ self.old.bytes }
+        ensures same_room { self.new.room ≡ self.old.room }
+        ensures faults { self.new.faults ≡ self.old.faults }
+    {
+        self.made = self.made.saturating_add(1);
+        if self.plan.contains(&self.made) {
+            return None;
+        }
+        Some((wanted as u64).min(self.room) as usize)
+    }
 }
 
 impl Sink for MemSink {
@@ -100,17 +123,17 @@ impl Sink for MemSink {
     ghost faults = { λ s. s.faults };
 
     fn put(&mut self, from: &[u8]) -> Result<usize, Failed> {
-        self.made = self.made.saturating_add(1);
-        let n = (from.len() as u64).min(self.room) as usize;
-        if self.plan.contains(&self.made) || self.bytes.extend_from_slice(&from[..n]).is_err() {
-            self.faults = self.faults.saturating_add(1);
-            return Err(Failed);
+        if let Some(n) = self.granted(from.len())
+            && self.bytes.extend_from_slice(&from[..n]).is_ok()
+        {
+            self.room -= n as u64;
+            if n == 0 {
+                self.faults = self.faults.saturating_add(1);
+            }
+            return Ok(n);
         }
-        self.room -= n as u64;
-        if n == 0 {
-            self.faults = self.faults.saturating_add(1);
-        }
-        Ok(n)
+        self.faults = self.faults.saturating_add(1);
+        Err(Failed)
     }
 }
 

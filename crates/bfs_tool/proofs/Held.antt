@@ -4,13 +4,13 @@ use Rattle.std.specs.Option.{option_map, IfSome}
 use Rattle.std.proofs.lemmas.List.{take_all}
 use Rattle.bfs_base.specs.Images.{sector, overwritten}
 use Rattle.bfs_disk.specs.State.{State, ReadsAs, Tells, Holds, written, settled}
-use Rattle.bfs_disk.specs.Disk.{MayLeave, told_written, ReadsSectors}
+use Rattle.bfs_disk.specs.Disk.{MayLeave, told_written, ReadsSectors, HasSectors}
 use Rattle.bfs_disk.proofs.Images.{quiet_image, written_image, settled_quiet, settled_reads}
 use Rattle.bfs_super.specs.Layout.{super_at}
 use Rattle.bfs_super.specs.Label.{IsLabel, name_of}
 use Rattle.bfs_super.specs.Conditions.{IsRefusal, IsValid}
-use Rattle.bfs_tool.specs.Label.{labelled, OldOrNew, HasSectors, IsChanged, RefusedBy, EndsBy, IsGood, label_status}
-use Rattle.bfs_tool.specs.Tool.{IsLabelCommand}
+use Rattle.bfs_tool.specs.Label.{labelled, OldOrNew, IsChanged, RefusedBy, EndsBy, IsGood, label_status}
+use Rattle.bfs_tool.specs.Words.{IsLabelCommand}
 use Rattle.bfs_tool.specs.declared.label.Ending.{Ending}
 use Rattle.bfs_tool.specs.declared.label.Ending.TheVariants as endings
 use Rattle.bfs_tool.proofs.Changed.{labelled_image, length-name_of}

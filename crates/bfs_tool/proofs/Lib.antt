@@ -1,4 +1,6 @@
 mod Changed
 mod Held
+mod Numbers
 mod Pieces
 mod TwoItems
+mod Volume

@@ -2,7 +2,7 @@
 use Rattle.std.specs.Prelude.{◌≡◌, ◌⊎◌, ◌<◌, ◌≤◌, ℕ, ◌/◌, List, [], ◌++◌, length, take, drop, Option, Some, None, codes}
 use Rattle.std.specs.Fmt.{decimal, signed_decimal}
 use Rattle.bfs_base.specs.Images.{sector}
-use Rattle.bfs_disk.specs.Disk.{ReadsSectors}
+use Rattle.bfs_disk.specs.Disk.{ReadsSectors, HasSectors}
 use Rattle.bfs_disk.specs.State.{State}
 use Rattle.bfs_super.specs.declared.sup.Super.{Super}
 use Rattle.bfs_super.specs.declared.fault.SuperFault.{SuperFault}
@@ -63,11 +63,6 @@ pub record IsChanged (old name new : List ℕ) : Type 0 where
   pub valid : IsValid (super_at old)
   pub empty_log : (super_at old).log_start ≡ (super_at old).log_end
   pub bytes : new ≡ name_of name ++ drop 32 old
-
--- so many sectors, a number that is known
-abbrev pub HasSectors : Option ℕ → ℕ → Type 0
-HasSectors None n = ⊥
-HasSectors (Some size) n = n ≤ size
 
 -- what the superblock's sector was found to be
 abbrev pub IsLoaded : Option State → Option ℕ → Loaded → Type 0

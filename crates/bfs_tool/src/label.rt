@@ -4,10 +4,10 @@ ghost use Rattle.std.specs.Option.{option_map};
 ghost use Rattle.bfs_base.specs.Counts.{Rose};
 ghost use Rattle.bfs_base.specs.Moments.{Passed};
 ghost use Rattle.bfs_disk.specs.State.{State, ReadsAs, Tells, Holds, settled};
-ghost use Rattle.bfs_disk.specs.Disk.{MayLeave, told_written};
+ghost use Rattle.bfs_disk.specs.Disk.{MayLeave, told_written, HasSectors};
 ghost use Rattle.bfs_super.specs.Label.{IsLabel};
 ghost use Rattle.bfs_super.specs.Layout.{super_at};
-ghost use Rattle.bfs_tool.specs.Label.{HasSectors, IsLoaded, OldOrNew, EndsBy, IsRefusing, IsChanged, RefusedBy, labelled, fault_number, label_status, label_text};
+ghost use Rattle.bfs_tool.specs.Label.{IsLoaded, OldOrNew, EndsBy, IsRefusing, IsChanged, RefusedBy, labelled, fault_number, label_status, label_text};
 
 use crate::line::Line;
 use bfs_disk::{Disk, Failed};

@@ -1,9 +1,13 @@
 // The program `bfs`: volumes of the Be File System in image files. Its top call is `bfs`, whose contract says how
-// each command ends and what it leaves on the disk (specs/Tool.antt, specs/Label.antt).
+// each command ends and what it leaves on the disk (specs/Words.antt, specs/Label.antt,
+// specs/Make.antt).
 #![tactic(auto)]
 
 mod label;
 mod line;
+mod make;
+#[cfg(test)]
+mod make_tests;
 mod output;
 #[cfg(test)]
 mod tests;
@@ -11,7 +15,7 @@ mod tool;
 mod words;
 
 use bfs_disk::FileDisk;
-use bfs_ports::{Fixed, Mem, NoGate, Output};
+use bfs_ports::{Mem, NoGate, Output, SystemClock};
 use std::alloc::{AllocError, Global};
 use std::process::ExitCode;
 use std::{env, io};
@@ -64,7 +68,7 @@ fn main(rt: HostRuntime) -> ExitCode {
         disk,
         &mut script,
         &mut out,
-        Fixed::clock(0),
+        SystemClock::over(&rt),
         &NoGate,
     );
     ExitCode::from(status)

@@ -26,7 +26,7 @@ const SUPERBLOCK: [(usize, &[u8]); 12] = [
     (124, &[0, 0, 0, 0, 5, 2, 1, 0]),
 ];
 
-fn zeros(alloc: Global, count: usize) -> Result<Vec<u8>, AllocError> {
+pub fn zeros(alloc: Global, count: usize) -> Result<Vec<u8>, AllocError> {
     vec![in alloc; 0; count]
 }
 
@@ -58,7 +58,7 @@ fn words(alloc: Global, texts: &[&str]) -> Result<Vec<Argument>, AllocError> {
 }
 
 // Runs the program with these words, and tells what it printed.
-fn run<D: Disk + Send + Drop>(
+pub fn run<D: Disk + Send + Drop>(
     rt: &HostRuntime,
     texts: &[&str],
     disk: D,
@@ -67,13 +67,21 @@ fn run<D: Disk + Send + Drop>(
     let alloc = rt.alloc();
     let words = words(alloc, texts)?;
     let mut script = Mem::source(Vec::new(alloc));
-    Ok(bfs(rt, &words, disk, &mut script, out, Fixed::clock(0), &NoGate))
+    Ok(bfs(
+        rt,
+        &words,
+        disk,
+        &mut script,
+        out,
+        Fixed::clock(1000),
+        &NoGate,
+    ))
 }
 
 #[test]
 fn words_that_are_no_command_print_the_usage(rt: HostRuntime) -> Result<(), Fail> {
     let alloc = rt.alloc();
-    let cases: [(&[&str], u8); 8] = [
+    let cases: [(&[&str], u8); 20] = [
         (&[], 0),
         (&["mk", "--blocks"], 2),
         (&["label"], 2),
@@ -82,6 +90,18 @@ fn words_that_are_no_command_print_the_usage(rt: HostRuntime) -> Result<(), Fail
         (&["label", "letters-letters-letters-letters-"], 2),
         (&["label", "new", "new"], 2),
         (&["LABEL", "new"], 2),
+        (&["mk"], 2),
+        (&["mk", "--blocks", "+529"], 2),
+        (&["mk", "--blocks", "4194305"], 2),
+        (&["mk", "--blocks", "99999999999999999999"], 2),
+        (&["mk", "--blocks", "000000000000000000529"], 2),
+        (&["mk", "--blocks", "529", "--block-size", "512"], 2),
+        (&["mk", "--blocks", "529", "--block-size"], 2),
+        (&["mk", "--blocks", "529", "--name", "a/b"], 2),
+        (&["mk", "--blocks", "529", "--name", "a", "--block-size", "1024"], 2),
+        (&["mk", "--name", "a", "--blocks", "529"], 2),
+        (&["mk", "--blocks", "529", "529"], 2),
+        (&["mk", "--blocks", ""], 2),
     ];
     for (texts, want) in cases {
         let mut out = Mem::sink(alloc);

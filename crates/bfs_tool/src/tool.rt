@@ -1,17 +1,24 @@
 // The top call.
 ghost use Rattle.std.specs.Prelude.{◌≡◌, ◌⊎◌, ◌↔◌, ◌≤◌, ℕ, List, []};
 ghost use Rattle.bfs_base.specs.Counts.{Rose};
-ghost use Rattle.bfs_disk.specs.State.{State, ReadsAs, Tells, Holds};
+ghost use Rattle.bfs_disk.specs.State.{State, IsQuiet, ReadsAs, Tells, Holds};
+ghost use Rattle.bfs_mkfs.specs.Format.{IsRefused};
+ghost use Rattle.bfs_super.specs.Geometry.{IsBlockSize};
 ghost use Rattle.bfs_super.specs.Label.{IsLabel};
 ghost use Rattle.bfs_tool.specs.declared.label.Ending.{Ending};
 ghost use Rattle.bfs_tool.specs.Label.{EndsBy, OldOrNew, labelled, label_status, label_text};
-ghost use Rattle.bfs_tool.specs.Tool.{IsLabelCommand, IsFaulty, Prints, usage_text};
+ghost use Rattle.bfs_tool.specs.declared.make.Making.{Making};
+ghost use Rattle.bfs_tool.specs.Make.{IsNewVolume, IsMade, MakesBy, making_status, making_text};
+ghost use Rattle.bfs_tool.specs.Tool.{Prints, usage_text};
+ghost use Rattle.bfs_tool.specs.Words.{IsLabelCommand, IsMakeCommand, IsFaulty};
 
 use crate::label::relabel;
+use crate::make::{NewVolume, make_volume};
 use crate::output::report;
 use crate::words::{Argument, Command, read_words};
 use bfs_disk::Disk;
 use bfs_ports::{Clock, Gate, Sink, Source};
+use std::alloc::Global;
 
 const USAGE: &str =
     "usage: bfs IMAGE (label NAME | mk --blocks N [--block-size B] [--name NAME] | check | sh [-j N] | soak SEED COUNT [-j N])\n";
@@ -35,8 +42,44 @@ fn label<D: Disk, W: Sink>(disk: &mut D, name: &[u8], out: &mut W) -> u8
     report(out, line.bytes(), ending.status())
 }
 
+// Prints how `mk` ended, and tells the status.
+fn make<D: Disk, C: Clock, W: Sink>(
+    alloc: Global,
+    disk: &mut D,
+    clock: &mut C,
+    volume: NewVolume<'_>,
+    out: &mut W,
+) -> u8
+    requires size { IsBlockSize volume.block_size }
+    requires few { volume.blocks ≤ 4194304 }
+    requires label { IsLabel volume.label.now }
+    ensures ends { (making : Making) × ((result ≡ making_status making) ⊎ (IsMade making × (result ≡ 6)))
+        × Prints (W.written out.old) (W.written out.new) (W.faults out.old) (W.faults out.new) (making_text making)
+        × MakesBy (D.size disk.new) volume.blocks volume.block_size making }
+    ensures refused { (result ≡ 7) ⊎ (result ≡ 10) → D.state disk.new ≡ D.state disk.old }
+    ensures made { (image : List ℕ) → Tells (D.state disk.old) (Holds image) → (result ≡ 0) ⊎ (result ≡ 6)
+        → Tells (D.state disk.new) (λ s. IsQuiet s × ((c : List ℕ) → ReadsAs s c → IsNewVolume volume.blocks volume.block_size volume.label.now (C.stands clock.old) c)) }
+    ensures moments { (image : List ℕ) → Tells (D.state disk.old) (Holds image) → (c : List ℕ) → D.since disk.new (D.clock disk.old) c
+        → (c ≡ image) ⊎ (IsRefused c ⊎ IsNewVolume volume.blocks volume.block_size volume.label.now (C.stands clock.old) c) }
+    ensures disk_failed { result ≡ 4 → Rose (D.faults disk.old) (D.faults disk.new) }
+    ensures output_failed { result ≡ 6 → Rose (W.faults out.old) (W.faults out.new) }
+    ensures others { (result ≡ 2) ⊎ ((result ≡ 3) ⊎ (result ≡ 11)) → ⊥ }
+    ensures disk_later { D.faults disk.old ≤ D.faults disk.new }
+    ensures output_later { W.faults out.old ≤ W.faults out.new }
+{
+    let making = make_volume(alloc, disk, clock, volume.blocks, volume.block_size, volume.label);
+    let line = making.line();
+    report(out, line.bytes(), making.status())
+}
+
 // Runs the command that the words ask for.
-fn run<D: Disk, W: Sink>(words: &[Argument], disk: &mut D, out: &mut W) -> u8
+fn run<D: Disk, C: Clock, W: Sink>(
+    alloc: Global,
+    words: &[Argument],
+    disk: &mut D,
+    clock: &mut C,
+    out: &mut W,
+) -> u8
     ensures usage { words.now ≡ [] → (result ≡ 0) ⊎ (result ≡ 6) }
     ensures faulty { (result ≡ 2) ↔ IsFaulty words.now }
     ensures texts { words.now ≡ [] ⊎ IsFaulty words.now → Prints (W.written out.old) (W.written out.new) (W.faults out.old) (W.faults out.new) usage_text }
@@ -44,12 +87,18 @@ fn run<D: Disk, W: Sink>(words: &[Argument], disk: &mut D, out: &mut W) -> u8
     ensures label { (name : List ℕ) → IsLabelCommand words.now name → (ending : Ending) × (result ≡ label_status ending)
         × Prints (W.written out.old) (W.written out.new) (W.faults out.old) (W.faults out.new) (label_text ending)
         × ((image : List ℕ) → Tells (D.state disk.old) (λ s. ReadsAs s image) → EndsBy image ending) }
-    ensures refused { (result ≡ 3) ⊎ (result ≡ 11) → D.state disk.new ≡ D.state disk.old }
-    ensures done { (name image : List ℕ) → IsLabelCommand words.now name → Tells (D.state disk.old) (Holds image) → result ≡ 0 → Tells (D.state disk.new) (Holds (labelled name image)) }
+    ensures make { (blocks size : ℕ) (label : List ℕ) → IsMakeCommand words.now blocks size label
+        → (making : Making) × ((result ≡ making_status making) ⊎ (IsMade making × (result ≡ 6)))
+        × Prints (W.written out.old) (W.written out.new) (W.faults out.old) (W.faults out.new) (making_text making) × MakesBy (D.size disk.new) blocks size making }
+    ensures refused { (result ≡ 3) ⊎ (result ≡ 11) ⊎ (result ≡ 7) ⊎ (result ≡ 10) → D.state disk.new ≡ D.state disk.old }
+    ensures labelled { (name image : List ℕ) → IsLabelCommand words.now name → Tells (D.state disk.old) (Holds image) → result ≡ 0 → Tells (D.state disk.new) (Holds (labelled name image)) }
+    ensures made { (blocks size : ℕ) (label image : List ℕ) → IsMakeCommand words.now blocks size label → Tells (D.state disk.old) (Holds image) → (result ≡ 0) ⊎ (result ≡ 6)
+        → Tells (D.state disk.new) (λ s. IsQuiet s × ((c : List ℕ) → ReadsAs s c → IsNewVolume blocks size label (C.stands clock.old) c)) }
     ensures moments { (image : List ℕ) → Tells (D.state disk.old) (Holds image) → (c : List ℕ) → D.since disk.new (D.clock disk.old) c
-        → (c ≡ image) ⊎ ((name : List ℕ) × IsLabelCommand words.now name × (c ≡ labelled name image)) }
+        → (c ≡ image) ⊎ ((name : List ℕ) × IsLabelCommand words.now name × (c ≡ labelled name image))
+        ⊎ ((blocks : ℕ) × (size : ℕ) × (label : List ℕ) × IsMakeCommand words.now blocks size label × (IsRefused c ⊎ IsNewVolume blocks size label (C.stands clock.old) c)) }
     ensures disk_failed { result ≡ 4 → Rose (D.faults disk.old) (D.faults disk.new) }
-    ensures output_failed { result ≡ 6 → (words.now ≡ []) × Rose (W.faults out.old) (W.faults out.new) }
+    ensures output_failed { result ≡ 6 → Rose (W.faults out.old) (W.faults out.new) }
     ensures disk_later { D.faults disk.old ≤ D.faults disk.new }
     ensures output_later { W.faults out.old ≤ W.faults out.new }
 {
@@ -57,19 +106,21 @@ fn run<D: Disk, W: Sink>(words: &[Argument], disk: &mut D, out: &mut W) -> u8
         Command::Usage => report(out, USAGE.as_bytes(), 0),
         Command::Faulty => report(out, USAGE.as_bytes(), 2),
         Command::Label(name) => label(disk, name, out),
+        Command::Make(volume) => make(alloc, disk, clock, volume, out),
     }
 }
 
 /// Runs the command that the words ask for, and hands the disk back with the status.
 ///
-/// Statuses: 0 done, 2 faulty words, 3 not a volume, 4 the disk failed, 6 the output failed, 11 the log isn't empty.
-pub fn bfs<X, D: Disk + Send, R: Source, W: Sink, C: Clock + Send + Drop, G: Gate + Sync>(
-    _rt: &X,
+/// Statuses: 0 done, 2 faulty words, 3 not a volume, 4 the disk failed, 6 the output failed, 7 no memory, 10 too small for
+/// a volume, 11 the log isn't empty. `clock` gives the second at which a new volume is made.
+pub fn bfs<X: AllocGlobal, D: Disk + Send, R: Source, W: Sink, C: Clock + Send + Drop, G: Gate + Sync>(
+    rt: &X,
     words: &[Argument],
     mut disk: D,
     _script: &mut R,
     out: &mut W,
-    _clock: C,
+    mut clock: C,
     _gate: &G,
 ) -> (u8, D)
     // No words print the usage text. Words that are no command end with status 2, and only they.
@@ -83,20 +134,30 @@ pub fn bfs<X, D: Disk + Send, R: Source, W: Sink, C: Clock + Send + Drop, G: Gat
         × Prints (W.written out.old) (W.written out.new) (W.faults out.old) (W.faults out.new) (label_text ending)
         × ((image : List ℕ) → Tells (D.state disk) (λ s. ReadsAs s image) → EndsBy image ending) }
 
-    // At the statuses 3 and 11 the disk is as before, and at 0 the label is on the disk.
-    ensures refused { (result.0 ≡ 3) ⊎ (result.0 ≡ 11) → D.state result.1 ≡ D.state disk }
-    ensures done { (name image : List ℕ) → IsLabelCommand words.now name → Tells (D.state disk) (Holds image) → result.0 ≡ 0 → Tells (D.state result.1) (Holds (labelled name image)) }
+    // `mk` ends by its numbers and those of the disk, with the status and the text of that ending, or with 6 where it
+    // was made and the output failed.
+    ensures make { (blocks size : ℕ) (label : List ℕ) → IsMakeCommand words.now blocks size label
+        → (making : Making) × ((result.0 ≡ making_status making) ⊎ (IsMade making × (result.0 ≡ 6)))
+        × Prints (W.written out.old) (W.written out.new) (W.faults out.old) (W.faults out.new) (making_text making) × MakesBy (D.size result.1) blocks size making }
 
-    // A crash at any moment leaves the old image, or the one with the new label.
+    // At the statuses 3, 7, 10 and 11 the disk is as before. At 0 the label is on the disk, or the new volume.
+    ensures refused { (result.0 ≡ 3) ⊎ (result.0 ≡ 11) ⊎ (result.0 ≡ 7) ⊎ (result.0 ≡ 10) → D.state result.1 ≡ D.state disk }
+    ensures labelled { (name image : List ℕ) → IsLabelCommand words.now name → Tells (D.state disk) (Holds image) → result.0 ≡ 0 → Tells (D.state result.1) (Holds (labelled name image)) }
+    ensures made { (blocks size : ℕ) (label image : List ℕ) → IsMakeCommand words.now blocks size label → Tells (D.state disk) (Holds image) → (result.0 ≡ 0) ⊎ (result.0 ≡ 6)
+        → Tells (D.state result.1) (λ s. IsQuiet s × ((c : List ℕ) → ReadsAs s c → IsNewVolume blocks size label (C.stands clock) c)) }
+
+    // A crash at any moment leaves the old image or the one with the new label; of `mk` the old image, one whose
+    // superblock is refused, or the new volume.
     ensures moments { (image : List ℕ) → Tells (D.state disk) (Holds image) → (c : List ℕ) → D.since result.1 (D.clock disk) c
-        → (c ≡ image) ⊎ ((name : List ℕ) × IsLabelCommand words.now name × (c ≡ labelled name image)) }
+        → (c ≡ image) ⊎ ((name : List ℕ) × IsLabelCommand words.now name × (c ≡ labelled name image))
+        ⊎ ((blocks : ℕ) × (size : ℕ) × (label : List ℕ) × IsMakeCommand words.now blocks size label × (IsRefused c ⊎ IsNewVolume blocks size label (C.stands clock) c)) }
 
     // A failed disk and a failed output each have their cause in a risen count.
     ensures disk_failed { result.0 ≡ 4 → Rose (D.faults disk) (D.faults result.1) }
-    ensures output_failed { result.0 ≡ 6 → (words.now ≡ []) × Rose (W.faults out.old) (W.faults out.new) }
+    ensures output_failed { result.0 ≡ 6 → Rose (W.faults out.old) (W.faults out.new) }
     ensures disk_later { D.faults disk ≤ D.faults result.1 }
     ensures output_later { W.faults out.old ≤ W.faults out.new }
 {
-    let status = run(words, &mut disk, out);
+    let status = run(rt.alloc(), words, &mut disk, &mut clock, out);
     (status, disk)
 }

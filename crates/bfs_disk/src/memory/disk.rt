@@ -32,6 +32,7 @@ impl MemDisk {
         ensures quiet { ⟦<MemDisk as Disk>⟧.state result ≡ Some (state_of bytes.items) }
         ensures faults { ⟦<MemDisk as Disk>⟧.faults result ≡ 0 }
         ensures stops { ⟦<MemDisk as Disk>⟧.stops result ≡ 0 }
+        ensures plan { result.plan.items ≡ [] }
     {
         MemDisk::failing(alloc, bytes, Vec::new(alloc))
     }
@@ -42,6 +43,8 @@ impl MemDisk {
         ensures quiet { ⟦<MemDisk as Disk>⟧.state result ≡ Some (state_of bytes.items) }
         ensures faults { ⟦<MemDisk as Disk>⟧.faults result ≡ 0 }
         ensures stops { ⟦<MemDisk as Disk>⟧.stops result ≡ 0 }
+        ensures plan { result.plan.items ≡ calls.items }
+        ensures made { result.made ≡ 0 }
     {
         MemDisk {
             alloc,

@@ -1,5 +1,5 @@
 // The parts of a disk in memory, over its bytes and its record.
-ghost use Rattle.std.specs.Prelude.{◌≡◌, ◌≤◌, ◌*◌, ◌/◌, ◌+◌, ◌-◌, ◌^◌, ◌⊎◌, min, ◌∷◌, ◌++◌, length, take, drop, OnOk, OnErr, IsTrue, Contains, ◌↔◌};
+ghost use Rattle.std.specs.Prelude.{◌≡◌, ◌≤◌, ◌*◌, ◌/◌, ◌+◌, ◌-◌, ◌^◌, ◌⊎◌, min, ◌∷◌, ◌++◌, length, take, drop, OnOk, OnErr, IsTrue, false, Contains, ◌↔◌};
 ghost use Rattle.bfs_base.specs.Counts.{HasCause, Rose};
 ghost use Rattle.bfs_base.specs.Images.{overwritten};
 ghost use Rattle.bfs_disk.specs.Memory.{part};
@@ -38,6 +38,7 @@ pub fn note(
     faults: &mut u64,
 ) -> Result<(), Failed>
     ensures ok { OnOk result (calls.new.items ≡ call ∷ calls.old.items) }
+    ensures plan { OnOk result (planned ≡ false) }
     ensures err { OnErr result ((calls.new.items ≡ calls.old.items) ⊎ (calls.new.items ≡ Keep ∷ calls.old.items)) }
     ensures cause { HasCause faults.old faults.new result }
 {

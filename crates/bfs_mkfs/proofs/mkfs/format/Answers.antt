@@ -2,7 +2,8 @@ use Rattle.std.proofs.Common.{◌≡◌, inl, inr, ⊎_elim, ◌<◌, ◌≤◌,
 use Rattle.bfs_super.specs.Geometry.{bitmap_length}
 use Rattle.bfs_super.specs.Layout.{sector_of}
 use Rattle.bfs_mkfs.specs.Laid.{HasTrees, IsLaid, made, bitmap_bytes}
-use Rattle.bfs_mkfs.specs.Written.{area, end_of, HasSectors, IsWritten}
+use Rattle.bfs_disk.specs.Disk.{HasSectors}
+use Rattle.bfs_mkfs.specs.Written.{area, end_of, IsWritten}
 use Rattle.bfs_mkfs.proofs.Meets.{held_image, has_fewer, told_size}
 use Rattle.bfs_mkfs.proofs.Whole.{places_of, laid, reads_written, blank_refused}
 use Rattle.std.specs.Int.{w64}

@@ -1,6 +1,7 @@
 use Rattle.std.proofs.Common.{◌≡◌, ◌⊎◌, inl, inr, ⊎_elim, ◌≤◌, ℕ, List, arith, subst, sym, ◌∙◌}
 use Rattle.bfs_base.proofs.Moments.{passed_then}
-use Rattle.bfs_mkfs.specs.Written.{area, AreBehind, end_of, HasSectors, IsBlank, IsWritten}
+use Rattle.bfs_disk.specs.Disk.{HasSectors}
+use Rattle.bfs_mkfs.specs.Written.{area, AreBehind, end_of, IsBlank, IsWritten}
 use Rattle.bfs_mkfs.proofs.Meets.{held_image}
 use Rattle.bfs_mkfs.proofs.steps.write_volume.Goals as goal
 

@@ -2,3 +2,4 @@ mod Meets
 mod Planned
 mod Trees
 mod Whole
+mod Wider

@@ -1,5 +1,5 @@
 -- What the disk is made to hold, sector by sector.
-use Rattle.std.specs.Prelude.{◌≡◌, ◌⊎◌, ◌<◌, ◌≤◌, ℕ, ◌+◌, ◌-◌, ◌*◌, ◌/◌, List, length, replicate, Option, Some, None}
+use Rattle.std.specs.Prelude.{◌≡◌, ◌⊎◌, ◌<◌, ◌≤◌, ℕ, ◌+◌, ◌-◌, ◌*◌, ◌/◌, List, length, replicate}
 use Rattle.bfs_base.specs.Images.{sector}
 use Rattle.bfs_disk.specs.State.{State, IsOneOf, newest}
 

@@ -1,6 +1,7 @@
 // Formats a disk.
 ghost use Rattle.std.specs.Prelude.{◌≡◌, ◌⊎◌, ◌≤◌, ◌<◌, ◌+◌, ◌*◌, ◌/◌, ℕ, List, length, OnOk, IfErr};
 ghost use Rattle.bfs_base.specs.Counts.{Rose};
+ghost use Rattle.bfs_base.specs.Moments.{Passed};
 ghost use Rattle.bfs_disk.specs.State.{State, Tells, Holds, IsQuiet, ReadsAs};
 ghost use Rattle.bfs_disk.specs.Disk.{HasSectors};
 ghost use Rattle.bfs_super.specs.Label.{IsLabel};
@@ -40,7 +41,10 @@ pub fn format<D: Disk>(
     ensures laid { (image : List ℕ) → Tells (D.state disk.old) (Holds image)
         → OnOk result (Tells (D.state disk.new) (λ s. IsQuiet s × ((c : List ℕ) → ReadsAs s c → IsLaid geometry.now label.now stamp c))) }
 
-    // A crash at any moment leaves the old image, one whose superblock is refused, or the new volume.
+    // A crash at any moment leaves the old image, one whose superblock is refused, or the new volume; so it is for the
+    // moments since an earlier one.
+    ensures time { (image : List ℕ) → Tells (D.state disk.old) (Holds image)
+        → Passed (D.clock disk.old) (D.clock disk.new) (D.since disk.old) (D.since disk.new) (λ c. (c ≡ image) ⊎ (IsRefused c ⊎ IsLaid geometry.now label.now stamp c)) }
     ensures moments { (image : List ℕ) → Tells (D.state disk.old) (Holds image) → (c : List ℕ) → D.since disk.new (D.clock disk.old) c
         → (c ≡ image) ⊎ (IsRefused c ⊎ IsLaid geometry.now label.now stamp c) }
 

@@ -77,8 +77,8 @@ pub fn write_volume<D: Disk>(
     ensures cause { HasCause (D.faults disk.old) (D.faults disk.new) result }
     ensures done { (image : List ℕ) → Tells (D.state disk.old) (Holds image)
         → OnOk result (Tells (D.state disk.new) (λ s. IsQuiet s × Meets (Opened block.now (area at first.now) (area behind second.now)) (Opened block.now (area at first.now) (area behind second.now)) s)) }
-    ensures moments { (image : List ℕ) → Tells (D.state disk.old) (Holds image) → (c : List ℕ) → D.since disk.new (D.clock disk.old) c
-        → (c ≡ image) ⊎ (IsBlank c ⊎ IsWritten block.now (area at first.now) (area behind second.now) c) }
+    ensures time { (image : List ℕ) → Tells (D.state disk.old) (Holds image)
+        → Passed (D.clock disk.old) (D.clock disk.new) (D.since disk.old) (D.since disk.new) (λ c. (c ≡ image) ⊎ (IsBlank c ⊎ IsWritten block.now (area at first.now) (area behind second.now) c)) }
 {
     clear(disk)?;
     fill(disk, at, first, behind, second)?;

@@ -1,9 +1,12 @@
-use Rattle.std.proofs.Common.{◌≡◌, inl, inr, ⊎_elim, ◌<◌, ◌≤◌, ◌+◌, ◌*◌, ◌/◌, ℕ, List, length, arith, ap, subst, sym, ◌∙◌}
+use Rattle.std.proofs.Common.{◌≡◌, ◌⊎◌, inl, inr, ⊎_elim, ◌<◌, ◌≤◌, ◌+◌, ◌*◌, ◌/◌, ℕ, List, length, arith, ap, subst, sym, ◌∙◌}
 use Rattle.bfs_super.specs.Geometry.{bitmap_length}
 use Rattle.bfs_super.specs.Layout.{sector_of}
 use Rattle.bfs_mkfs.specs.Laid.{HasTrees, IsLaid, made, bitmap_bytes}
 use Rattle.bfs_disk.specs.Disk.{HasSectors}
-use Rattle.bfs_mkfs.specs.Written.{area, end_of, IsWritten}
+use Rattle.bfs_mkfs.specs.Format.{IsRefused}
+use Rattle.bfs_mkfs.specs.Written.{area, end_of, IsBlank, IsWritten}
+use Rattle.bfs_base.proofs.Moments.{passed_none}
+use Rattle.bfs_mkfs.proofs.Wider.{passed_wider}
 use Rattle.bfs_mkfs.proofs.Meets.{held_image, has_fewer, told_size}
 use Rattle.bfs_mkfs.proofs.Whole.{places_of, laid, reads_written, blank_refused}
 use Rattle.std.specs.Int.{w64}
@@ -15,6 +18,12 @@ returns-in_default-clause-moments g c = λ image held i left. inl (held_image _ 
 
 pub returns-in_default-trees-clause-moments : goal.returns-in_default-trees-clause-moments
 returns-in_default-trees-clause-moments g c = λ image held i left. inl (held_image _ image i held (g.met.D.Disk.only_now c.args.disk.now i left))
+
+pub returns-in_default-clause-time : goal.returns-in_default-clause-time
+returns-in_default-clause-time g c = λ image held. passed_none _ _ _
+
+pub returns-in_default-trees-clause-time : goal.returns-in_default-trees-clause-time
+returns-in_default-trees-clause-time g c = λ image held. passed_none _ _ _
 
 pub write_volume-requires-clause-whole : goal.write_volume-requires-clause-whole
 write_volume-requires-clause-whole g c =
@@ -77,7 +86,26 @@ returns-in-Ok-write_volume-clause-moments g c =
     let block : c.print-block.result ≡ sector_of (made geo c.args.label.now) = c.print-block.ensures.sector ∙ ap sector_of c.superblock.ensures in
     let to_laid : (k : List ℕ) → IsWritten c.print-block.result (area c.from-at.result bits) (area (c.from-at.result * geo.root) leaves) k → IsLaid geo c.args.label.now c.args.stamp k =
     λ k w. laid geo c.args.label.now c.args.stamp c.print-block.result bits leaves k c.requires.plan is_bits is_leaves block (subst (λ (n : ℕ). IsWritten c.print-block.result (area n bits) (area (n * geo.root) leaves) k) at w) in
-    λ image held i left. ⊎_elim (λ same. inl same) (λ other. inr (⊎_elim (λ blank. inl (blank_refused i blank)) (λ w. inr (to_laid i w)) other)) (c.write_volume.ensures.moments image held i left)
+    let left_by : (image i : List ℕ) → (i ≡ image) ⊎ (IsBlank i ⊎ IsWritten c.print-block.result (area c.from-at.result bits) (area (c.from-at.result * geo.root) leaves) i) → (i ≡ image) ⊎ (IsRefused i ⊎ IsLaid geo c.args.label.now c.args.stamp i) =
+    λ image i is. ⊎_elim (λ same. inl same) (λ other. inr (⊎_elim (λ blank. inl (blank_refused i blank)) (λ w. inr (to_laid i w)) other)) is in
+    λ image held i left. ⊎_elim (λ was. inl (held_image _ image i held (g.met.D.Disk.only_now c.args.disk.now i was))) (λ now. left_by image i now) ((c.write_volume.ensures.time image held).nothing_else (g.D.Disk.clock c.args.disk.now) i (omega arith) left)
+
+pub returns-in-Ok-write_volume-clause-time : goal.returns-in-Ok-write_volume-clause-time
+returns-in-Ok-write_volume-clause-time g c =
+    let trees_is : HasTrees c.args.geometry.now c.args.stamp c.in-Ok-trees.trees.items = subst (λ z. HasTrees c.args.geometry.now z c.in-Ok-trees.trees.items) (to_z-of_z w64 c.args.stamp c.ranges.stamp) c.in-Ok-trees.ensures in
+    let geo = c.args.geometry.now in
+    let bits = c.deref.result.now in
+    let leaves = c.deref-2.result.now in
+    let is_bits : bits ≡ bitmap_bytes geo.used (bitmap_length geo.blocks geo.block_size * geo.block_size) = c.deref.ensures.value ∙ c.in-Ok.ensures in
+    let is_leaves : HasTrees geo c.args.stamp leaves = subst (HasTrees geo c.args.stamp) (sym c.deref-2.ensures.value) trees_is in
+    let p = places_of geo c.args.stamp bits leaves c.requires.plan is_bits is_leaves in
+    let at : c.from-at.result ≡ geo.block_size / 512 = c.from-at.ensures in
+    let block : c.print-block.result ≡ sector_of (made geo c.args.label.now) = c.print-block.ensures.sector ∙ ap sector_of c.superblock.ensures in
+    let to_laid : (k : List ℕ) → IsWritten c.print-block.result (area c.from-at.result bits) (area (c.from-at.result * geo.root) leaves) k → IsLaid geo c.args.label.now c.args.stamp k =
+    λ k w. laid geo c.args.label.now c.args.stamp c.print-block.result bits leaves k c.requires.plan is_bits is_leaves block (subst (λ (n : ℕ). IsWritten c.print-block.result (area n bits) (area (n * geo.root) leaves) k) at w) in
+    let left_by : (image i : List ℕ) → (i ≡ image) ⊎ (IsBlank i ⊎ IsWritten c.print-block.result (area c.from-at.result bits) (area (c.from-at.result * geo.root) leaves) i) → (i ≡ image) ⊎ (IsRefused i ⊎ IsLaid geo c.args.label.now c.args.stamp i) =
+    λ image i is. ⊎_elim (λ same. inl same) (λ other. inr (⊎_elim (λ blank. inl (blank_refused i blank)) (λ w. inr (to_laid i w)) other)) is in
+    λ image held. passed_wider (λ i. (i ≡ image) ⊎ (IsRefused i ⊎ IsLaid geo c.args.label.now c.args.stamp i)) (c.write_volume.ensures.time image held) (left_by image)
 
 pub returns-clause-moments : goal.returns-clause-moments
 returns-clause-moments g c =
@@ -92,7 +120,26 @@ returns-clause-moments g c =
     let block : c.print-block.result ≡ sector_of (made geo c.args.label.now) = c.print-block.ensures.sector ∙ ap sector_of c.superblock.ensures in
     let to_laid : (k : List ℕ) → IsWritten c.print-block.result (area c.from-at.result bits) (area (c.from-at.result * geo.root) leaves) k → IsLaid geo c.args.label.now c.args.stamp k =
     λ k w. laid geo c.args.label.now c.args.stamp c.print-block.result bits leaves k c.requires.plan is_bits is_leaves block (subst (λ (n : ℕ). IsWritten c.print-block.result (area n bits) (area (n * geo.root) leaves) k) at w) in
-    λ image held i left. ⊎_elim (λ same. inl same) (λ other. inr (⊎_elim (λ blank. inl (blank_refused i blank)) (λ w. inr (to_laid i w)) other)) (c.write_volume.ensures.moments image held i left)
+    let left_by : (image i : List ℕ) → (i ≡ image) ⊎ (IsBlank i ⊎ IsWritten c.print-block.result (area c.from-at.result bits) (area (c.from-at.result * geo.root) leaves) i) → (i ≡ image) ⊎ (IsRefused i ⊎ IsLaid geo c.args.label.now c.args.stamp i) =
+    λ image i is. ⊎_elim (λ same. inl same) (λ other. inr (⊎_elim (λ blank. inl (blank_refused i blank)) (λ w. inr (to_laid i w)) other)) is in
+    λ image held i left. ⊎_elim (λ was. inl (held_image _ image i held (g.met.D.Disk.only_now c.args.disk.now i was))) (λ now. left_by image i now) ((c.write_volume.ensures.time image held).nothing_else (g.D.Disk.clock c.args.disk.now) i (omega arith) left)
+
+pub returns-clause-time : goal.returns-clause-time
+returns-clause-time g c =
+    let trees_is : HasTrees c.args.geometry.now c.args.stamp c.in-Ok-trees.trees.items = subst (λ z. HasTrees c.args.geometry.now z c.in-Ok-trees.trees.items) (to_z-of_z w64 c.args.stamp c.ranges.stamp) c.in-Ok-trees.ensures in
+    let geo = c.args.geometry.now in
+    let bits = c.deref.result.now in
+    let leaves = c.deref-2.result.now in
+    let is_bits : bits ≡ bitmap_bytes geo.used (bitmap_length geo.blocks geo.block_size * geo.block_size) = c.deref.ensures.value ∙ c.in-Ok.ensures in
+    let is_leaves : HasTrees geo c.args.stamp leaves = subst (HasTrees geo c.args.stamp) (sym c.deref-2.ensures.value) trees_is in
+    let p = places_of geo c.args.stamp bits leaves c.requires.plan is_bits is_leaves in
+    let at : c.from-at.result ≡ geo.block_size / 512 = c.from-at.ensures in
+    let block : c.print-block.result ≡ sector_of (made geo c.args.label.now) = c.print-block.ensures.sector ∙ ap sector_of c.superblock.ensures in
+    let to_laid : (k : List ℕ) → IsWritten c.print-block.result (area c.from-at.result bits) (area (c.from-at.result * geo.root) leaves) k → IsLaid geo c.args.label.now c.args.stamp k =
+    λ k w. laid geo c.args.label.now c.args.stamp c.print-block.result bits leaves k c.requires.plan is_bits is_leaves block (subst (λ (n : ℕ). IsWritten c.print-block.result (area n bits) (area (n * geo.root) leaves) k) at w) in
+    let left_by : (image i : List ℕ) → (i ≡ image) ⊎ (IsBlank i ⊎ IsWritten c.print-block.result (area c.from-at.result bits) (area (c.from-at.result * geo.root) leaves) i) → (i ≡ image) ⊎ (IsRefused i ⊎ IsLaid geo c.args.label.now c.args.stamp i) =
+    λ image i is. ⊎_elim (λ same. inl same) (λ other. inr (⊎_elim (λ blank. inl (blank_refused i blank)) (λ w. inr (to_laid i w)) other)) is in
+    λ image held. passed_wider (λ i. (i ≡ image) ⊎ (IsRefused i ⊎ IsLaid geo c.args.label.now c.args.stamp i)) (c.write_volume.ensures.time image held) (left_by image)
 
 pub returns-in-Ok-write_volume-clause-laid : goal.returns-in-Ok-write_volume-clause-laid
 returns-in-Ok-write_volume-clause-laid g c =

@@ -1,5 +1,6 @@
 mod Changed
 mod Held
+mod Made
 mod Numbers
 mod Pieces
 mod TwoItems

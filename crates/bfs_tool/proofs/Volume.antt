@@ -1,16 +1,18 @@
 -- The words of `mk` ask for one volume.
-use Rattle.std.proofs.Common.{◌≡◌, ◌⊎◌, ⊎_elim, ◌<◌, ◌≤◌, ℕ, suc, ◌+◌, ◌-◌, ◌*◌, List, [], ◌∷◌, ◌++◌, length, drop, get_or, codes, refl, sym, ◌∙◌, ap, subst, arith}
+use Rattle.std.proofs.Common.{◌≡◌, ◌⊎◌, inl, inr, ⊎_elim, ◌<◌, ◌≤◌, ℕ, suc, ◌+◌, ◌-◌, ◌*◌, List, [], ◌∷◌, ◌++◌, length, drop, get_or, codes, refl, sym, ◌∙◌, ap, subst, arith}
+use Rattle.bfs_super.specs.Geometry.{IsBlockSize}
+use Rattle.bfs_super.specs.Label.{IsLabel}
 use Rattle.bfs_tool.specs.Words.{IsNumber, IsSizeOption, IsNameOption, HasOptions, IsMakeCommand, IsLabelCommand}
 use Rattle.bfs_tool.proofs.Numbers.{one_number}
 
 none_some : (w : List ℕ) (ws : List (List ℕ)) → [] ≡ w ∷ ws → ⊥
 none_some w ws e = let n : 0 ≡ suc (length ws) = ap length e in omega (arith, n)
 
-first_same : (a b : List ℕ) (as bs : List (List ℕ)) → a ∷ as ≡ b ∷ bs → a ≡ b
-first_same a b as bs e = ap (λ (ws : List (List ℕ)). get_or ws 0 []) e
+first_same : (a b : List ℕ) (xs ys : List (List ℕ)) → a ∷ xs ≡ b ∷ ys → a ≡ b
+first_same a b xs ys e = ap (λ (ws : List (List ℕ)). get_or ws 0 []) e
 
-second_same : (a b c d : List ℕ) (as bs : List (List ℕ)) → a ∷ c ∷ as ≡ b ∷ d ∷ bs → c ≡ d
-second_same a b c d as bs e = ap (λ (ws : List (List ℕ)). get_or ws 1 []) e
+second_same : (a b c d : List ℕ) (xs ys : List (List ℕ)) → a ∷ c ∷ xs ≡ b ∷ d ∷ ys → c ≡ d
+second_same a b c d xs ys e = ap (λ (ws : List (List ℕ)). get_or ws 1 []) e
 
 -- the name's option isn't the size's
 other_option : codes "--name" ≡ codes "--block-size" → ⊥
@@ -79,3 +81,49 @@ pub no_label : (words : List (List ℕ)) (name label : List ℕ) (blocks size : 
 no_label words name label blocks size first second =
     let n : 5 ≡ 2 = ap length (first_same (codes "label") (codes "mk") (name ∷ []) (codes "--blocks" ∷ second.number ∷ second.options) (sym first.0 ∙ second.words_are)) in
     omega (arith, n)
+
+-- the options that were found
+pub size_alone : (words : List (List ℕ)) (option word : List ℕ) (size : ℕ) → words ≡ option ∷ word ∷ [] → option ≡ codes "--block-size" → IsNumber word size → IsBlockSize size → HasOptions words size (codes "untitled")
+size_alone words option word size are is number fits = record {
+  size_words = codes "--block-size" ∷ word ∷ [];
+  name_words = [];
+  both = are ∙ ap (λ (l : List ℕ). l ∷ word ∷ []) is;
+  size_is = inr (word, refl, number, fits);
+  name_is = inl (refl, refl);
+}
+
+pub label_alone : (words : List (List ℕ)) (option label : List ℕ) → words ≡ option ∷ label ∷ [] → option ≡ codes "--name" → IsLabel label → HasOptions words 1024 label
+label_alone words option label are is fits = record {
+  size_words = [];
+  name_words = codes "--name" ∷ label ∷ [];
+  both = are ∙ ap (λ (l : List ℕ). l ∷ label ∷ []) is;
+  size_is = inl (refl, refl);
+  name_is = inr (refl, fits);
+}
+
+pub size_and_label : (words : List (List ℕ)) (option word name label : List ℕ) (size : ℕ) → words ≡ option ∷ word ∷ name ∷ label ∷ [] → option ≡ codes "--block-size" → name ≡ codes "--name" → IsNumber word size → IsBlockSize size → IsLabel label → HasOptions words size label
+size_and_label words option word name label size are is also number fits good = record {
+  size_words = codes "--block-size" ∷ word ∷ [];
+  name_words = codes "--name" ∷ label ∷ [];
+  both = are ∙ ap (λ (l : List ℕ). l ∷ word ∷ name ∷ label ∷ []) is ∙ ap (λ (l : List ℕ). codes "--block-size" ∷ word ∷ l ∷ label ∷ []) also;
+  size_is = inr (word, refl, number, fits);
+  name_is = inr (refl, good);
+}
+
+-- the words behind the number are no options
+pub no_options : (words rest : List (List ℕ)) (verb option number : List ℕ) → words ≡ verb ∷ option ∷ number ∷ rest → ((size : ℕ) (label : List ℕ) → HasOptions rest size label → ⊥)
+    → (blocks size : ℕ) (label : List ℕ) → IsMakeCommand words blocks size label → ⊥
+no_options words rest verb option number are none blocks size label is =
+    let same : is.options ≡ rest = ap (λ (ws : List (List ℕ)). drop 3 ws) (sym is.words_are ∙ are) in
+    none size label (subst (λ ws. HasOptions ws size label) same is.options_are)
+
+pub some_options : (words rest : List (List ℕ)) (verb option number label : List ℕ) (blocks size : ℕ) → words ≡ verb ∷ option ∷ number ∷ rest → verb ≡ codes "mk" → option ≡ codes "--blocks" → IsNumber number blocks → blocks ≤ 4194304 → HasOptions rest size label
+    → IsMakeCommand words blocks size label
+some_options words rest verb option number label blocks size are is also spells few has = record {
+  number = number;
+  options = rest;
+  words_are = are ∙ ap (λ (l : List ℕ). l ∷ option ∷ number ∷ rest) is ∙ ap (λ (l : List ℕ). codes "mk" ∷ l ∷ number ∷ rest) also;
+  blocks_are = spells;
+  few = few;
+  options_are = has;
+}

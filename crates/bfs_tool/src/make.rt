@@ -1,5 +1,5 @@
 // The command `mk`: it lays the volume out, asks for the sectors and the time, and formats the disk.
-ghost use Rattle.std.specs.Prelude.{◌≡◌, ◌⊎◌, ◌≤◌, ◌<◌, ℕ, List};
+ghost use Rattle.std.specs.Prelude.{◌≡◌, ◌⊎◌, ◌≤◌, ◌<◌, ◌*◌, ◌^◌, ℕ, pos, List};
 ghost use Rattle.bfs_base.specs.Counts.{Rose};
 ghost use Rattle.bfs_disk.specs.State.{State, Tells, Holds, IsQuiet, ReadsAs};
 ghost use Rattle.bfs_mkfs.specs.Format.{IsRefused};
@@ -32,6 +32,14 @@ pub enum Making {
     Small { have: u64, need: u64 },
     DiskFailed,
     NoMemory,
+}
+
+// The stamp of a second: it stands in the upper 48 bits.
+fn stamp_at(seconds: u64) -> i64
+    requires { seconds < 2 ^ 40 }
+    ensures { result ≡ pos (seconds * 65536) }
+{
+    (seconds << 16).cast_signed()
 }
 
 /// Formats the disk with a new, empty volume.
@@ -81,7 +89,7 @@ pub fn make_volume<D: Disk, C: Clock>(
             need,
         };
     }
-    let stamp = (clock.seconds() << 16) as i64;
+    let stamp = stamp_at(clock.seconds());
     match format(alloc, disk, &geometry, label, stamp) {
         Ok(()) => Making::Made {
             blocks: geometry.blocks,

@@ -13,7 +13,7 @@ ghost use Rattle.bfs_tool.specs.Tool.{Prints, usage_text};
 ghost use Rattle.bfs_tool.specs.Words.{IsLabelCommand, IsMakeCommand, IsFaulty};
 
 use crate::label::relabel;
-use crate::make::{NewVolume, make_volume};
+use crate::make::make_volume;
 use crate::output::report;
 use crate::words::{Argument, Command, read_words};
 use bfs_disk::Disk;
@@ -47,27 +47,29 @@ fn make<D: Disk, C: Clock, W: Sink>(
     alloc: Global,
     disk: &mut D,
     clock: &mut C,
-    volume: NewVolume<'_>,
+    blocks: u64,
+    block_size: u32,
+    name: &[u8],
     out: &mut W,
 ) -> u8
-    requires size { IsBlockSize volume.block_size }
-    requires few { volume.blocks ≤ 4194304 }
-    requires label { IsLabel volume.label.now }
+    requires size { IsBlockSize block_size }
+    requires few { blocks ≤ 4194304 }
+    requires label { IsLabel name.now }
     ensures ends { (making : Making) × ((result ≡ making_status making) ⊎ (IsMade making × (result ≡ 6)))
         × Prints (W.written out.old) (W.written out.new) (W.faults out.old) (W.faults out.new) (making_text making)
-        × MakesBy (D.size disk.new) volume.blocks volume.block_size making }
+        × MakesBy (D.size disk.new) blocks block_size making }
     ensures refused { (result ≡ 7) ⊎ (result ≡ 10) → D.state disk.new ≡ D.state disk.old }
     ensures made { (image : List ℕ) → Tells (D.state disk.old) (Holds image) → (result ≡ 0) ⊎ (result ≡ 6)
-        → Tells (D.state disk.new) (λ s. IsQuiet s × ((c : List ℕ) → ReadsAs s c → IsNewVolume volume.blocks volume.block_size volume.label.now (C.stands clock.old) c)) }
+        → Tells (D.state disk.new) (λ s. IsQuiet s × ((c : List ℕ) → ReadsAs s c → IsNewVolume blocks block_size name.now (C.stands clock.old) c)) }
     ensures moments { (image : List ℕ) → Tells (D.state disk.old) (Holds image) → (c : List ℕ) → D.since disk.new (D.clock disk.old) c
-        → (c ≡ image) ⊎ (IsRefused c ⊎ IsNewVolume volume.blocks volume.block_size volume.label.now (C.stands clock.old) c) }
+        → (c ≡ image) ⊎ (IsRefused c ⊎ IsNewVolume blocks block_size name.now (C.stands clock.old) c) }
     ensures disk_failed { result ≡ 4 → Rose (D.faults disk.old) (D.faults disk.new) }
     ensures output_failed { result ≡ 6 → Rose (W.faults out.old) (W.faults out.new) }
     ensures others { (result ≡ 2) ⊎ ((result ≡ 3) ⊎ (result ≡ 11)) → ⊥ }
     ensures disk_later { D.faults disk.old ≤ D.faults disk.new }
     ensures output_later { W.faults out.old ≤ W.faults out.new }
 {
-    let making = make_volume(alloc, disk, clock, volume.blocks, volume.block_size, volume.label);
+    let making = make_volume(alloc, disk, clock, blocks, block_size, name);
     let line = making.line();
     report(out, line.bytes(), making.status())
 }
@@ -106,7 +108,15 @@ fn run<D: Disk, C: Clock, W: Sink>(
         Command::Usage => report(out, USAGE.as_bytes(), 0),
         Command::Faulty => report(out, USAGE.as_bytes(), 2),
         Command::Label(name) => label(disk, name, out),
-        Command::Make(volume) => make(alloc, disk, clock, volume, out),
+        Command::Make(volume) => make(
+            alloc,
+            disk,
+            clock,
+            volume.blocks,
+            volume.block_size,
+            volume.label,
+            out,
+        ),
     }
 }
 

@@ -125,7 +125,9 @@ fn read_make(words: &[Argument]) -> Option<NewVolume<'_>>
         return None;
     }
     let blocks = read_number(number.bytes(), MOST_BLOCKS)?;
-    let (block_size, label) = read_options(options)?;
+    let Some((block_size, label)) = read_options(options) else {
+        return None;
+    };
     Some(NewVolume {
         blocks,
         block_size,

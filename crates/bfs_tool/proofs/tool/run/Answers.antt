@@ -1,7 +1,9 @@
-use Rattle.std.proofs.Common.{inl, inr, ⊎_elim, subst, sym, ◌∙◌, ◌≡◌}
-use Rattle.bfs_disk.specs.State.{Tells, Holds}
+use Rattle.std.proofs.Common.{ℕ, List, inl, inr, ⊎_elim, subst, sym, ◌∙◌, ◌≡◌}
+use Rattle.bfs_disk.specs.State.{IsQuiet, ReadsAs, Tells, Holds}
 use Rattle.bfs_tool.specs.Label.{labelled}
 use Rattle.bfs_tool.specs.Tool.{Prints, usage_text}
+use Rattle.bfs_tool.specs.Make.{IsNewVolume}
+use Rattle.bfs_tool.proofs.Volume.{one_volume}
 use Rattle.bfs_tool.proofs.Held.{held_image, one_name}
 use Rattle.bfs_tool.proofs.tool.run.Goals as goal
 
@@ -12,10 +14,10 @@ pub returns-in-Faulty-clause-moments : goal.returns-in-Faulty-clause-moments
 returns-in-Faulty-clause-moments g c = λ image held i left. inl (held_image _ image i held (g.met.D.Disk.only_now c.args.disk.now i left))
 
 pub returns-in-Label-clause-moments : goal.returns-in-Label-clause-moments
-returns-in-Label-clause-moments g c = λ image held i left. ⊎_elim (λ old. inl old) (λ new. inr (c.in-Label.name.now, c.in-Label.ensures, new)) (c.label.ensures.moments image held i left)
+returns-in-Label-clause-moments g c = λ image held i left. ⊎_elim (λ old. inl old) (λ new. inr (inl (c.in-Label.name.now, c.in-Label.ensures, new))) (c.label.ensures.moments image held i left)
 
-pub returns-in-Label-clause-done : goal.returns-in-Label-clause-done
-returns-in-Label-clause-done g c = λ name image asked held ok.
+pub returns-in-Label-clause-labelled : goal.returns-in-Label-clause-labelled
+returns-in-Label-clause-labelled g c = λ name image asked held ok.
     let after = g.D.Disk.state c.label.new.disk in
     subst (λ n. Tells after (Holds (labelled n image))) (one_name c.args.words.now c.in-Label.name.now name c.in-Label.ensures asked) (c.label.ensures.done image held ok)
 
@@ -28,3 +30,21 @@ pub returns-in-Faulty-clause-texts : goal.returns-in-Faulty-clause-texts
 returns-in-Faulty-clause-texts g c = λ asked.
     let text : c.as_bytes-in-Faulty.result.now ≡ usage_text = c.as_bytes-in-Faulty.ensures.value in
     subst (Prints (g.W.Sink.written c.args.out.now) (g.W.Sink.written c.report-in-Faulty.new.out) (g.W.Sink.faults c.args.out.now) (g.W.Sink.faults c.report-in-Faulty.new.out)) text c.report-in-Faulty.ensures.printed
+
+pub returns-in-Make-clause-moments : goal.returns-in-Make-clause-moments
+returns-in-Make-clause-moments g c = λ image held i left.
+    ⊎_elim (λ old. inl old) (λ new. inr (inr (c.in-Make.volume.blocks, c.in-Make.volume.block_size, c.in-Make.volume.label.now, c.in-Make.ensures, new))) (c.make.ensures.moments image held i left)
+
+pub returns-in-Make-clause-made : goal.returns-in-Make-clause-made
+returns-in-Make-clause-made g c = λ blocks size label image asked held is.
+    let after = g.D.Disk.state c.make.new.disk in
+    let stands = g.C.Clock.stands c.args.clock.now in
+    let volume = c.in-Make.volume in
+    let same = one_volume c.args.words.now volume.blocks blocks volume.block_size size volume.label.now label c.in-Make.ensures asked in
+    let Reads : ℕ → ℕ → List ℕ → Type 0 = λ b s l. Tells after (λ st. IsQuiet st × ((k : List ℕ) → ReadsAs st k → IsNewVolume b s l stands k)) in
+    subst (λ b. Reads b size label) same.blocks_same
+    (subst (λ s. Reads volume.blocks s label) same.sizes_same
+    (subst (λ l. Reads volume.blocks volume.block_size l) same.labels_same (c.make.ensures.made image held is)))
+
+pub returns-in-Faulty-clause-make : goal.returns-in-Faulty-clause-make
+returns-in-Faulty-clause-make g c = λ blocks size label asked. absurd (c.in-Faulty.ensures.no_volume blocks size label asked)

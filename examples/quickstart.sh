@@ -1,12 +1,13 @@
 #!/bin/sh
-# Makes the image of a small volume in a folder of its own, changes its label with `bfs`, and shows both.
+# Formats a small volume in a folder of its own, changes its label, and shows both.
 set -eu
 root=$(dirname "$(dirname "$(readlink -f "$0")")")
 work=$(mktemp -d)
 trap 'rm -rf "$work"' EXIT
 image=$work/volume.img
 
-python3 "$root/tests/volume.py" "$image"
+truncate -s 4194304 "$image"
+"$root/bfs" "$image" mk --blocks 4096
 echo "before: $(dd if="$image" bs=1 skip=512 count=32 2>/dev/null | tr -d '\0')"
 "$root/bfs" "$image" label new
 echo "after:  $(dd if="$image" bs=1 skip=512 count=32 2>/dev/null | tr -d '\0')"

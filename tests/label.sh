@@ -47,5 +47,14 @@ if command -v blkid >/dev/null 2>&1; then
 else
     echo 'label.sh: skipped: blkid is not installed'
 fi
+# The barrier of the one write is one fsync of the file, behind it.
+if strace -o "$work/calls" true 2>/dev/null; then
+    strace -f -e trace=pwrite64,write,fsync,fdatasync -o "$work/calls" "$root/bfs" "$image" label other >"$work/out" 2>&1
+    check 'a label under strace' test $? -eq 0
+    check 'the write and then one fsync' test "$(grep -o 'write64\|write\|fsync\|fdatasync' "$work/calls" | tail -n 2 | tr '\n' ' ')" = 'write fsync '
+    check 'no other fsync' test "$(grep -c 'sync(' "$work/calls")" -eq 1
+else
+    echo 'label.sh: skipped: strace is not installed, or may not trace'
+fi
 echo "$passed passed, $failed failed"
 test "$failed" -eq 0

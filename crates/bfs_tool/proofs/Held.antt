@@ -1,5 +1,5 @@
 -- A disk that holds an image, under the calls of `label`.
-use Rattle.std.proofs.Common.{◌≡◌, ◌⊎◌, inl, inr, ⊎_elim, ℕ, ◌+◌, ◌*◌, ◌/◌, ◌<◌, ◌≤◌, List, [], ◌++◌, length, take, drop, Option, Some, None, refl, sym, ◌∙◌, ap, subst, arith, get_or}
+use Rattle.std.proofs.Common.{◌≡◌, ◌⊎◌, ℕ, ◌<◌, ◌≤◌, List, [], ◌++◌, length, drop, Option, Some, refl, sym, ◌∙◌, ap, subst, arith, get_or}
 use Rattle.std.specs.Option.{option_map, IfSome}
 use Rattle.std.proofs.lemmas.List.{take_all}
 use Rattle.bfs_base.specs.Images.{sector, overwritten}
@@ -9,11 +9,11 @@ use Rattle.bfs_disk.proofs.Images.{quiet_image, written_image, settled_quiet, se
 use Rattle.bfs_super.specs.Layout.{super_at}
 use Rattle.bfs_super.specs.Label.{IsLabel, name_of}
 use Rattle.bfs_super.specs.Conditions.{IsRefusal, IsValid}
-use Rattle.bfs_tool.specs.Label.{labelled, OldOrNew, IsChanged, RefusedBy, EndsBy, IsGood, label_status}
+use Rattle.bfs_tool.specs.Label.{labelled, IsChanged, RefusedBy, EndsBy, IsGood, label_status}
 use Rattle.bfs_tool.specs.Words.{IsLabelCommand}
 use Rattle.bfs_tool.specs.declared.label.Ending.{Ending}
 use Rattle.bfs_tool.specs.declared.label.Ending.TheVariants as endings
-use Rattle.bfs_tool.proofs.Changed.{labelled_image, length-name_of}
+use Rattle.bfs_tool.proofs.Changed.{labelled_image}
 
 -- a crash of a quiet disk leaves its image
 pub held_image : (told : Option State) (image c : List ℕ) → Tells told (Holds image) → MayLeave told c → c ≡ image

@@ -1,10 +1,5 @@
 -- A disk that is formatted.
-use Rattle.std.proofs.Common.{◌≡◌, ◌⊎◌, inl, inr, ⊎_elim, ◌<◌, ◌≤◌, ℕ, ℤ, pos, ◌+◌, ◌*◌, ◌^◌, List, Option, sym, ◌∙◌, ap, subst, arith}
-use Rattle.bfs_base.specs.Counts.{Rose}
-use Rattle.bfs_base.specs.Moments.{Elapses, Passed}
-use Rattle.bfs_disk.specs.State.{State, Tells, Holds}
-use Rattle.bfs_disk.specs.Disk.{MayLeave}
-use Rattle.bfs_mkfs.specs.Format.{IsRefused}
+use Rattle.std.proofs.Common.{◌≡◌, ◌<◌, ℕ, ℤ, pos, ◌*◌, ◌^◌, List, Option, subst, arith}
 use Rattle.bfs_mkfs.specs.Laid.{IsLaid}
 use Rattle.bfs_ports.specs.Ports.{StandsAt}
 use Rattle.bfs_super.specs.declared.geometry.Geometry.{Geometry}
@@ -12,7 +7,6 @@ use Rattle.bfs_super.specs.Geometry.{IsPlan, log_length}
 use Rattle.bfs_tool.specs.declared.make.Making.{Making}
 use Rattle.bfs_tool.specs.declared.make.Making.TheVariants as makings
 use Rattle.bfs_tool.specs.Make.{IsNewVolume, IsMade, making_status}
-use Rattle.bfs_tool.proofs.Held.{held_image}
 
 -- what was laid out, with the stamp of the clock
 pub new_volume : (blocks size : ℕ) (label : List ℕ) (stands : Option ℕ) (g : Geometry) (seconds : ℕ) (stamp : ℤ) (c : List ℕ)

@@ -1,5 +1,5 @@
 -- The words of `mk` ask for one volume.
-use Rattle.std.proofs.Common.{◌≡◌, ◌⊎◌, inl, inr, ⊎_elim, ◌<◌, ◌≤◌, ℕ, suc, ◌+◌, ◌-◌, ◌*◌, List, [], ◌∷◌, ◌++◌, length, drop, get_or, codes, refl, sym, ◌∙◌, ap, subst, arith}
+use Rattle.std.proofs.Common.{◌≡◌, inl, inr, ⊎_elim, ◌≤◌, ℕ, suc, List, [], ◌∷◌, ◌++◌, length, drop, get_or, codes, refl, sym, ◌∙◌, ap, subst, arith}
 use Rattle.bfs_super.specs.Geometry.{IsBlockSize}
 use Rattle.bfs_super.specs.Label.{IsLabel}
 use Rattle.bfs_tool.specs.Words.{IsNumber, IsSizeOption, IsNameOption, HasOptions, IsMakeCommand, IsLabelCommand}
@@ -30,9 +30,9 @@ one_label words a b first second =
     ⊎_elim
     (λ none. ⊎_elim (λ also. none.1 ∙ sym also.1) (λ some. absurd (none_some (codes "--name") (b ∷ []) (sym none.0 ∙ some.0))) second)
     (λ some. ⊎_elim
-      (λ none. absurd (none_some (codes "--name") (a ∷ []) (sym none.0 ∙ some.0)))
-      (λ also. second_same (codes "--name") (codes "--name") a b [] [] (sym some.0 ∙ also.0))
-      second)
+    (λ none. absurd (none_some (codes "--name") (a ∷ []) (sym none.0 ∙ some.0)))
+    (λ also. second_same (codes "--name") (codes "--name") a b [] [] (sym some.0 ∙ also.0))
+    second)
     first
 
 -- the words behind the number, by cases of the size's words
@@ -40,18 +40,18 @@ one_choice : (sw nw tw mw : List (List ℕ)) (n m : ℕ) (a b : List ℕ) → sw
 one_choice sw nw tw mw n m a b both first second name other =
     ⊎_elim
     (λ none. let front : nw ≡ tw ++ mw = ap (λ (ws : List (List ℕ)). ws ++ nw) (sym none.0) ∙ both in ⊎_elim
-      (λ also. let same : nw ≡ mw = front ∙ ap (λ (ws : List (List ℕ)). ws ++ mw) also.0 in
-        (none.1 ∙ sym also.1, one_label nw a b name (subst (λ ws. IsNameOption ws b) (sym same) other)))
-      (λ some. absurd (no_size nw a some.0 mw name (front ∙ ap (λ (ws : List (List ℕ)). ws ++ mw) some.1)))
-      second)
+    (λ also. let same : nw ≡ mw = front ∙ ap (λ (ws : List (List ℕ)). ws ++ mw) also.0 in
+    (none.1 ∙ sym also.1, one_label nw a b name (subst (λ ws. IsNameOption ws b) (sym same) other)))
+    (λ some. absurd (no_size nw a some.0 mw name (front ∙ ap (λ (ws : List (List ℕ)). ws ++ mw) some.1)))
+    second)
     (λ size. let front : codes "--block-size" ∷ size.0 ∷ nw ≡ tw ++ mw = ap (λ (ws : List (List ℕ)). ws ++ nw) (sym size.1) ∙ both in ⊎_elim
-      (λ none. absurd (no_size mw b size.0 nw other (sym (front ∙ ap (λ (ws : List (List ℕ)). ws ++ mw) none.0))))
-      (λ also.
-        let all : codes "--block-size" ∷ size.0 ∷ nw ≡ codes "--block-size" ∷ also.0 ∷ mw = front ∙ ap (λ (ws : List (List ℕ)). ws ++ mw) also.1 in
-        let word : size.0 ≡ also.0 = ap (λ (ws : List (List ℕ)). get_or ws 1 []) all in
-        let rest : nw ≡ mw = ap (λ (ws : List (List ℕ)). drop 2 ws) all in
-        (one_number size.0 n m size.2 (subst (λ w. IsNumber w m) (sym word) also.2), one_label nw a b name (subst (λ ws. IsNameOption ws b) (sym rest) other)))
-      second)
+    (λ none. absurd (no_size mw b size.0 nw other (sym (front ∙ ap (λ (ws : List (List ℕ)). ws ++ mw) none.0))))
+    (λ also.
+    let all : codes "--block-size" ∷ size.0 ∷ nw ≡ codes "--block-size" ∷ also.0 ∷ mw = front ∙ ap (λ (ws : List (List ℕ)). ws ++ mw) also.1 in
+    let word : size.0 ≡ also.0 = ap (λ (ws : List (List ℕ)). get_or ws 1 []) all in
+    let rest : nw ≡ mw = ap (λ (ws : List (List ℕ)). drop 2 ws) all in
+    (one_number size.0 n m size.2 (subst (λ w. IsNumber w m) (sym word) also.2), one_label nw a b name (subst (λ ws. IsNameOption ws b) (sym rest) other)))
+    second)
     first
 
 pub one_option : (words : List (List ℕ)) (n m : ℕ) (a b : List ℕ) → HasOptions words n a → HasOptions words m b → (n ≡ m) × (a ≡ b)

@@ -1,5 +1,5 @@
 -- What `label` does to a disk, and how it ends.
-use Rattle.std.specs.Prelude.{◌≡◌, ◌⊎◌, ◌<◌, ◌≤◌, ℕ, ◌/◌, List, [], ◌++◌, length, take, drop, Option, Some, None, codes}
+use Rattle.std.specs.Prelude.{◌≡◌, ◌⊎◌, ◌<◌, ◌≤◌, ℕ, ◌/◌, List, [], ◌++◌, length, take, drop, Option, Some, codes}
 use Rattle.std.specs.Fmt.{decimal, signed_decimal}
 use Rattle.bfs_base.specs.Images.{sector}
 use Rattle.bfs_disk.specs.Disk.{ReadsSectors, HasSectors}

@@ -1,5 +1,5 @@
 -- What `mk` does to a disk, and how it ends.
-use Rattle.std.specs.Prelude.{◌≡◌, ◌⊎◌, ◌<◌, ◌≤◌, ℕ, pos, ◌+◌, ◌*◌, ◌/◌, ◌^◌, List, [], ◌++◌, Option, Some, codes}
+use Rattle.std.specs.Prelude.{◌≡◌, ◌⊎◌, ◌<◌, ◌≤◌, ℕ, pos, ◌*◌, ◌/◌, ◌^◌, List, [], ◌++◌, Option, Some, codes}
 use Rattle.std.specs.Fmt.{decimal}
 use Rattle.bfs_disk.specs.Disk.{HasSectors}
 use Rattle.bfs_mkfs.specs.Laid.{IsLaid}

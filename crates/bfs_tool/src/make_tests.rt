@@ -26,15 +26,48 @@ fn makes(
 #[test]
 fn a_new_volume_is_told_with_its_used_blocks(rt: HostRuntime) -> Result<(), Fail> {
     let cases: [(&[&str], usize, u8, &str); 8] = [
-        (&["mk", "--blocks", "4096"], 4_194_304, 0, "made 4096 used 529\n"),
-        (&["mk", "--blocks", "529"], 4_194_304, 0, "made 529 used 529\n"),
+        (
+            &["mk", "--blocks", "4096"],
+            4_194_304,
+            0,
+            "made 4096 used 529\n",
+        ),
+        (
+            &["mk", "--blocks", "529"],
+            4_194_304,
+            0,
+            "made 529 used 529\n",
+        ),
         (&["mk", "--blocks", "528"], 4_194_304, 10, "small 528 529\n"),
         (&["mk", "--blocks", "0"], 0, 10, "small 0 528\n"),
-        (&["mk", "--blocks", "4096"], 4_193_792, 10, "small 8191 8192\n"),
-        (&["mk", "--blocks", "20480"], 20_971_520, 0, "made 20480 used 531\n"),
-        (&["mk", "--blocks", "20481"], 20_972_544, 0, "made 20481 used 2067\n"),
         (
-            &["mk", "--blocks", "524", "--block-size", "8192", "--name", "a"],
+            &["mk", "--blocks", "4096"],
+            4_193_792,
+            10,
+            "small 8191 8192\n",
+        ),
+        (
+            &["mk", "--blocks", "20480"],
+            20_971_520,
+            0,
+            "made 20480 used 531\n",
+        ),
+        (
+            &["mk", "--blocks", "20481"],
+            20_972_544,
+            0,
+            "made 20481 used 2067\n",
+        ),
+        (
+            &[
+                "mk",
+                "--blocks",
+                "524",
+                "--block-size",
+                "8192",
+                "--name",
+                "a",
+            ],
             4_292_608,
             0,
             "made 524 used 524\n",
@@ -64,7 +97,12 @@ fn volume(rt: &HostRuntime, byte: u8, length: usize) -> Result<Vec<u8>, AllocErr
     if bytes.len() % 512 != 0 {
         return Ok(bytes);
     }
-    let (_, disk) = run(rt, &["mk", "--blocks", "4096"], MemDisk::new(alloc, bytes), &mut out)?;
+    let (_, disk) = run(
+        rt,
+        &["mk", "--blocks", "4096"],
+        MemDisk::new(alloc, bytes),
+        &mut out,
+    )?;
     Ok(disk.bytes())
 }
 
@@ -113,7 +151,8 @@ fn a_stop_at_any_call_leaves_no_volume_or_the_whole_one(rt: HostRuntime) -> Resu
             // the superblock comes last: where it stands, all else does
             assert!(rt;
                 !has(&image, 544, b"1SFBEGIB")
-                    || same(&image, &made, 1024, 2048) && same(&image, &made, 514 * 1024, 529 * 1024)
+                    || same(&image, &made, 1024, 2048)
+                        && same(&image, &made, 514 * 1024, 529 * 1024)
             );
             assert!(rt; calls < 8 || same(&image, &made, 0, 4_194_304));
         }

@@ -124,7 +124,14 @@ fn run<D: Disk, C: Clock, W: Sink>(
 ///
 /// Statuses: 0 done, 2 faulty words, 3 not a volume, 4 the disk failed, 6 the output failed, 7 no memory, 10 too small for
 /// a volume, 11 the log isn't empty. `clock` gives the second at which a new volume is made.
-pub fn bfs<X: AllocGlobal, D: Disk + Send, R: Source, W: Sink, C: Clock + Send + Drop, G: Gate + Sync>(
+pub fn bfs<
+    X: AllocGlobal,
+    D: Disk + Send,
+    R: Source,
+    W: Sink,
+    C: Clock + Send + Drop,
+    G: Gate + Sync,
+>(
     rt: &X,
     words: &[Argument],
     mut disk: D,

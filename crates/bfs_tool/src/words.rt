@@ -105,8 +105,7 @@ fn read_options(words: &[Argument]) -> Option<(u32, &[u8])>
         [option, size, name, label]
             if option.bytes() == b"--block-size".as_slice()
                 && name.bytes() == b"--name".as_slice()
-                && is_label(label.bytes()) =>
-        {
+                && is_label(label.bytes()) => {
             let size = read_size(size.bytes())?;
             Some((size, label.bytes()))
         }

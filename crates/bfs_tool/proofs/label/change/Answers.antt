@@ -1,7 +1,7 @@
 use Rattle.std.proofs.Common.{◌≡◌, length, rules, ap, ◌∙◌, sym, subst}
 use Rattle.bfs_super.specs.declared.sup.Super.{Super}
 use Rattle.bfs_super.specs.Conditions.{IsValid}
-use Rattle.bfs_super.specs.Layout.{super_at, sector_of}
+use Rattle.bfs_super.specs.Layout.{sector_of}
 use Rattle.bfs_super.specs.Label.{name_of}
 use Rattle.bfs_tool.proofs.Changed.{renamed}
 use Rattle.bfs_tool.proofs.label.change.Goals as goal

@@ -1,8 +1,8 @@
-use Rattle.std.proofs.Common.{◌≡◌, ◌⊎◌, inl, inr, ⊎_elim, ℕ, List, length, sym, ◌∙◌, ap, subst, arith, rules, Some}
+use Rattle.std.proofs.Common.{◌≡◌, inl, inr, ⊎_elim, length, ◌∙◌, ap, subst, arith, rules, Some}
 use Rattle.std.specs.Option.{option_map, IfSome}
-use Rattle.bfs_disk.specs.State.{State, ReadsAs, Tells, Holds, settled}
+use Rattle.bfs_disk.specs.State.{ReadsAs, Tells, Holds, settled}
 use Rattle.bfs_disk.specs.Disk.{MayLeave, told_written}
-use Rattle.bfs_tool.proofs.Held.{held_image, two_sectors, new_image, good_image, refused_ends, short_image, held_during, held_after}
+use Rattle.bfs_tool.proofs.Held.{held_image, two_sectors, new_image, good_image, refused_ends, held_during, held_after}
 use Rattle.bfs_tool.proofs.label.relabel.Goals as goal
 
 pub returns-in-Short-clause-moments : goal.returns-in-Short-clause-moments

@@ -1,8 +1,6 @@
-use Rattle.std.proofs.Common.{◌≡◌, ◌⊎◌, inl, inr, ⊎_elim, ◌<◌, ◌≤◌, ◌+◌, ◌*◌, ◌^◌, ℕ, ℤ, pos, List, arith, rules, ap, subst, sym, ◌∙◌}
+use Rattle.std.proofs.Common.{◌≡◌, inl, inr, ⊎_elim, ◌*◌, ℕ, pos, List, arith, rules, subst, sym, ◌∙◌}
 use Rattle.std.proofs.Common.{to_z, of_z, w64}
 use Rattle.bfs_disk.specs.State.{Tells, Holds}
-use Rattle.bfs_disk.specs.Disk.{MayLeave}
-use Rattle.bfs_mkfs.specs.Format.{IsRefused}
 use Rattle.bfs_mkfs.specs.Laid.{IsLaid}
 use Rattle.bfs_tool.specs.Make.{IsNewVolume}
 use Rattle.bfs_tool.proofs.Held.{held_image}

@@ -1,4 +1,4 @@
-use Rattle.std.proofs.Common.{ℕ, List, inl, inr, ⊎_elim, subst, sym, ◌∙◌, ◌≡◌}
+use Rattle.std.proofs.Common.{ℕ, List, inl, inr, ⊎_elim, subst, ◌≡◌}
 use Rattle.bfs_disk.specs.State.{IsQuiet, ReadsAs, Tells, Holds}
 use Rattle.bfs_tool.specs.Label.{labelled}
 use Rattle.bfs_tool.specs.Tool.{Prints, usage_text}

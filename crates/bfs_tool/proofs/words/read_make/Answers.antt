@@ -1,4 +1,4 @@
-use Rattle.std.proofs.Common.{◌≡◌, ◌≤◌, [], ◌∷◌, List, ℕ, length, drop, rules, arith, codes, subst, sym, ◌∙◌}
+use Rattle.std.proofs.Common.{◌≡◌, ◌≤◌, List, ℕ, length, drop, rules, arith, codes, subst}
 use Rattle.std.proofs.lemmas.List.{take_rest}
 use Rattle.bfs_tool.specs.Words.{IsNumber, HasOptions}
 use Rattle.bfs_tool.proofs.TwoItems.{three_up}

@@ -1,4 +1,4 @@
-use Rattle.std.proofs.Common.{◌≡◌, ◌<◌, ◌≤◌, ◌-◌, ℕ, length, take, get_or, arith, rules, subst, sym}
+use Rattle.std.proofs.Common.{◌≡◌, ◌<◌, ◌≤◌, ◌-◌, length, get_or, arith, rules, subst}
 use Rattle.std.specs.List.{All}
 use Rattle.std.proofs.lemmas.List.{take_all}
 use Rattle.std.proofs.lemmas.List.Elements.{All-more}
@@ -26,10 +26,12 @@ digits-preserved c =
 pub returns : goal.returns
 returns c =
     let word = c.args.word.now in
-    let end : ¬ (c.digits.at < length word) = search rules in
-    (record {
-      some = search rules;
-      short = search rules;
-      digits = subst (All (λ d. (48 ≤ d) × (d ≤ 57))) (take_all c.digits.at word (omega (arith, end))) c.digits.invariant.digits;
-      value = all_read c.digits.value c.digits.at word end c.digits.invariant.value;
-    }, c.digits.invariant.low)
+    let end : ¬ (c.digits.at < length word) = search rules in (
+      record {
+        some = search rules;
+        short = search rules;
+        digits = subst (All (λ d. (48 ≤ d) × (d ≤ 57))) (take_all c.digits.at word (omega (arith, end))) c.digits.invariant.digits;
+        value = all_read c.digits.value c.digits.at word end c.digits.invariant.value;
+      },
+      c.digits.invariant.low,
+    )

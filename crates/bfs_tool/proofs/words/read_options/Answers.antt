@@ -1,4 +1,4 @@
-use Rattle.std.proofs.Common.{◌≡◌, [], ◌∷◌, List, ℕ, rules, arith, codes, subst, sym, ◌∙◌}
+use Rattle.std.proofs.Common.{◌≡◌, [], ◌∷◌, rules, arith, codes, subst}
 use Rattle.bfs_super.specs.Label.{IsLabel}
 use Rattle.bfs_tool.specs.Words.{IsNumber}
 use Rattle.bfs_tool.proofs.TwoItems.{two_items, four_items}

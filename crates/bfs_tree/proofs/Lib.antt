@@ -1,9 +1,4 @@
-pub mod Maps
 pub mod Replies
 pub mod Legals
-pub mod Children
-pub mod Sorting
-pub mod Free
-pub mod Knowns
-pub mod Lasts
 pub mod Empties
+pub mod Ways

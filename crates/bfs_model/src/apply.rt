@@ -2,20 +2,23 @@
 ghost use Rattle.std.specs.Prelude.{◌≡◌, IfOk, OnErr};
 ghost use Rattle.bfs_tree.specs.Answers.{IsReady};
 ghost use Rattle.bfs_tree.specs.Steps.{Turn};
+ghost use Rattle.bfs_tree.specs.Trees.{IsPlain};
 ghost use Rattle.bfs_model.specs.Kept.{state_of};
 
 use crate::model::Model;
-use bfs_tree::{Call, Reply};
+use bfs_tree::{Call, Reply, step_keeps_plain};
 use std::alloc::AllocError;
 
 impl Model {
-    /// Answers a session's call, of an entry with this stamp, and changes the tree. It is never refused for want
+    /// Answers a session's call, of an entry with this stamp, and changes the tree, which stays plain. It is never refused for want
     /// of room, nor by the disk. A Sync is told the number of calls that were answered before it.
     pub fn apply(&mut self, session: u32, call: &Call, stamp: i64) -> Result<Reply, AllocError>
         requires { IsReady session call.now (state_of self.old) }
         ensures ok { IfOk result (λ reply. Turn session stamp call.now reply (state_of self.old) (state_of self.new)) }
+        ensures plain { IsPlain (state_of self.old).tree → IsPlain (state_of self.new).tree }
         ensures err { OnErr result (state_of self.new ≡ state_of self.old) }
     {
+        step_keeps_plain();
         let reply = self.answer(session, call, stamp)?;
         self.answered = self.answered.saturating_add(1);
         Ok(reply)

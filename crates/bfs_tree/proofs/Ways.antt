@@ -127,7 +127,7 @@ leads-line (suc n) tree id _ h (by_parent d node is up) =
           ∙ back tree.nodes d id n node.parent e (leads-line n (without tree d) id node.parent (fewer tree.nodes d n node is h) (after-visit tree id d node is up))
     ] refl
 
-dir-is : (k : Kind) → is_dir k ≡ true → k ≡ Dir
+pub dir-is : (k : Kind) → is_dir k ≡ true → k ≡ Dir
 dir-is File h = cc
 dir-is Dir h = refl
 dir-is Link h = cc

@@ -1,5 +1,6 @@
 -- The last hold of a session on a node.
-use Rattle.std.proofs.Common.{◌≡◌, ◌<◌, ℕ, zero, suc, List, [], ◌∷◌, Some, None, Bool, true, false, cond, length, get_or, drop, refl, ap, ◌∙◌, arith}
+use Rattle.std.proofs.Common.{◌≡◌, ◌<◌, ℕ, zero, suc, List, [], ◌∷◌, Option, Some, None, Bool, true, false, cond, length, get_or, drop, refl, ap, sym, ◌∙◌, arith}
+use Rattle.std.specs.Prelude.{if◌then◌else◌}
 use Rattle.std.specs.Prelude.{◌||◌}
 use Rattle.std.specs.List.{list_any, remove}
 use Rattle.std.specs.Option.{IsSome, is_some}
@@ -45,3 +46,27 @@ without-at (x ∷ xs) session id (suc i) d h here none =
 -- where a hold is there, it is not true that none is
 pub none-there : (hs : List Hold) (session id : ℕ) → IsSome (last_hold hs session id) → list_any (is_hold_of session id) hs ≡ false → ⊥
 none-there hs session id there none = let gone : is_some (last_hold hs session id) ≡ false = ap is_some (no-last hs session id none) in cc
+
+-- the last hold, looking through the list from the front
+abbrev pub last_from : ℕ → ℕ → Option Hold → List Hold → Option Hold
+last_from session id last [] = last
+last_from session id last (h ∷ hs) = last_from session id (if is_hold_of session id h then Some h else last) hs
+
+last-or : (session id : ℕ) (hs : List Hold) (last : Option Hold) → last_from session id last hs ≡ (if list_any (is_hold_of session id) hs then last_hold hs session id else last)
+last-or session id [] last = refl
+last-or session id (h ∷ hs) last =
+    last-or session id hs (if is_hold_of session id h then Some h else last) ∙ by (is_hold_of session id h) (list_any (is_hold_of session id) hs)
+  where
+    by : (a b : Bool) → cond b (last_hold hs session id) (cond a (Some h) last) ≡ cond (a || b) (cond b (last_hold hs session id) (cond a (Some h) None)) last
+    by true true = refl
+    by true false = refl
+    by false true = refl
+    by false false = refl
+
+pub last-found : (session id : ℕ) (hs : List Hold) → last_from session id None hs ≡ last_hold hs session id
+last-found session id hs =
+    last-or session id hs None
+    ∙ elim (list_any (is_hold_of session id) hs) as (λ b. list_any (is_hold_of session id) hs ≡ b → cond b (last_hold hs session id) None ≡ last_hold hs session id) [
+      | true ↦ λ _. refl
+      | false ↦ λ e. sym (no-last hs session id e)
+    ] refl

@@ -1,5 +1,5 @@
 // One call of any kind.
-ghost use Rattle.std.specs.Prelude.{◌≡◌, IfOk, OnErr};
+ghost use Rattle.std.specs.Prelude.{◌≡◌, ◌↔◌, IfOk, IsTrue, OnErr};
 ghost use Rattle.bfs_tree.specs.Answers.{IsReady};
 ghost use Rattle.bfs_tree.specs.Steps.{Turn};
 ghost use Rattle.bfs_tree.specs.Trees.{IsPlain};
@@ -22,6 +22,21 @@ impl Model {
         let reply = self.answer(session, call, stamp)?;
         self.answered = self.answered.saturating_add(1);
         Ok(reply)
+    }
+
+    /// A session may make this call: any but a release that is none of its.
+    pub fn is_ready(&self, session: u32, call: &Call) -> bool
+        ensures { IsTrue result ↔ IsReady session call.now (state_of self.now) }
+    {
+        match call {
+            Call::Release {
+                id,
+                bytes,
+                whole,
+                ..
+            } => self.may_release(session, *id, bytes.as_slice(), *whole),
+            _ => true,
+        }
     }
 
     fn answer(&mut self, session: u32, call: &Call, stamp: i64) -> Result<Reply, AllocError>

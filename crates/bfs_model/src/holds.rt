@@ -1,5 +1,6 @@
 // The service calls: holds on pieces of files, and what is durable.
-ghost use Rattle.std.specs.Prelude.{◌≡◌, ℕ, ℤ, ◌<◌, ◌&&◌, IfOk, OnOk, OnErr, IsSome, Some, IsTrue, IsSomeAnd, length, slice_index_or, if◌then◌else◌};
+ghost use Rattle.std.specs.Prelude.{◌≡◌, ◌↔◌, ℕ, ℤ, ◌<◌, ◌&&◌, IfOk, OnOk, OnErr, IsSome, Some, IsTrue, IsSomeAnd, length, slice_index_or, if◌then◌else◌};
+ghost use Rattle.std.specs.FinMap.{get};
 ghost use Rattle.std.specs.List.{remove};
 ghost use Rattle.bfs_tree.specs.declared.state.Hold.{Hold};
 ghost use Rattle.bfs_tree.specs.States.{is_hold_of, last_hold, without_last, learn};
@@ -10,7 +11,7 @@ ghost use Rattle.bfs_tree.specs.Steps.{Reads, Turn};
 ghost use Rattle.bfs_model.specs.Kept.{known_of, state_of};
 ghost use Rattle.bfs_tree.specs.declared.call.Call.TheVariants as calls;
 
-use crate::known::{Places, forget, learn};
+use crate::known::{Places, agrees, byte_at, forget, learn};
 use crate::model::{KnownByte, Model};
 use crate::moves::conflict_at;
 use crate::nodes::{NodeChange, change_node};
@@ -66,7 +67,46 @@ fn last_hold_at(holds: &Vec<Hold>, session: u32, id: u64) -> usize
     unreachable!()
 }
 
+/// The session's last hold on a node.
+fn last_hold_of(holds: &Vec<Hold>, session: u32, id: u64) -> Option<Hold>
+    ensures { result ≡ last_hold holds.now.items session id }
+{
+    let mut last = None;
+    for hold in holds {
+        if is_hold_of(hold, session, id) {
+            last = Some(*hold);
+        }
+    }
+    last
+}
+
 impl Model {
+    /// A whole Release may say that these bytes were written or read under the hold.
+    fn may_end(&self, hold: Hold, bytes: &[u8]) -> bool
+        ensures { IsTrue result ↔ Ends (state_of self.now) hold bytes.now }
+    {
+        bytes.len() as u64 == hold.length
+            && (hold.write || agrees(self.known.as_slice(), hold.id, hold.at, bytes))
+    }
+
+    /// A session may release a file so: it has a hold there, and where the release is whole, the bytes may be
+    /// those of its last hold.
+    pub fn may_release(&self, session: u32, id: u64, bytes: &[u8], whole: bool) -> bool
+        ensures { IsTrue result ↔ IsSomeAnd (last_hold self.now.holds.items session id) (λ hold. IsTrue whole → Ends (state_of self.now) hold bytes.now) }
+    {
+        match last_hold_of(&self.holds, session, id) {
+            None => false,
+            Some(hold) => !whole || self.may_end(hold, bytes),
+        }
+    }
+
+    /// The byte that is known at a place of a file.
+    pub fn known_at(&self, id: u64, place: u64) -> Option<u8>
+        ensures { result ≡ get (state_of self.now).known (id, place) }
+    {
+        byte_at(self.known.as_slice(), id, place, 0)
+    }
+
     /// Holds a piece of a file, for writing or for reading.
     pub fn hold(
         &mut self,

@@ -1,7 +1,7 @@
 // The bytes of files that are known.
-ghost use Rattle.std.specs.Prelude.{◌≡◌, ◌&&◌, ◌==◌, ◌<◌, ◌^◌, ◌+◌, ◌≤◌, not, IfOk, length, reverse};
-ghost use Rattle.std.specs.FinMap.{retain_keys};
-ghost use Rattle.bfs_tree.specs.States.{learn};
+ghost use Rattle.std.specs.Prelude.{◌≡◌, ◌↔◌, ◌&&◌, ◌==◌, ◌<◌, ◌^◌, ◌+◌, ◌≤◌, not, ℕ, Some, IfOk, IsTrue, length, reverse};
+ghost use Rattle.std.specs.FinMap.{get, retain_keys};
+ghost use Rattle.bfs_tree.specs.States.{AgreesWith, learn};
 ghost use Rattle.bfs_model.specs.Kept.{known_of, is_among, stays};
 
 use crate::model::KnownByte;
@@ -74,4 +74,46 @@ pub(crate) fn learn(
         })?;
     }
     Ok(all)
+}
+
+/// It is the byte at the place `at + i` of a file.
+fn is_at(known: &KnownByte, id: u64, at: u64, i: usize) -> bool
+    ensures { result ≡ ((known.now.id == id) && (known.now.place == at + i)) }
+{
+    known.id == id && known.place >= at && known.place - at == i as u64
+}
+
+/// The byte that is known at the place `at + i` of a file: the one that is kept last.
+pub(crate) fn byte_at(known: &[KnownByte], id: u64, at: u64, i: usize) -> Option<u8>
+    ensures { result ≡ get (known_of known.now) (id, at + i) }
+{
+    let mut found = None;
+    for byte in known {
+        if is_at(byte, id, at, i) {
+            found = Some(byte.byte);
+        }
+    }
+    found
+}
+
+/// Nothing is known, or just this byte.
+fn may_be(known: Option<u8>, byte: u8) -> bool
+    ensures { IsTrue result ↔ ((b : ℕ) → known ≡ Some b → byte ≡ b) }
+{
+    match known {
+        None => true,
+        Some(b) => b == byte,
+    }
+}
+
+/// The bytes are those that are known, wherever one is known.
+pub(crate) fn agrees(known: &[KnownByte], id: u64, at: u64, bytes: &[u8]) -> bool
+    ensures { IsTrue result ↔ AgreesWith (known_of known.now) id at bytes.now }
+{
+    for (i, byte) in bytes.iter().enumerate() {
+        if !may_be(byte_at(known, id, at, i), *byte) {
+            return false;
+        }
+    }
+    true
 }

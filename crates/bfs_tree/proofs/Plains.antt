@@ -68,23 +68,23 @@ pub plain-of : (tree : Tree) → IsPlain tree → Plain tree.root (shapes tree.n
 plain-of tree p = record {
   root_dir = (shape p.root.0, shown tree.nodes tree.root p.root.0 p.root.1, p.root.2);
   own = λ s is.
-    let n = seen (get tree.nodes tree.root) s is in
-    let said = p.own n.0 n.1 in
-    (ap (λ (t : Shape). t.name) (sym n.2) ∙ said.0, ap (λ (t : Shape). t.parent) (sym n.2) ∙ said.1);
+      let n = seen (get tree.nodes tree.root) s is in
+      let said = p.own n.0 n.1 in
+      (ap (λ (t : Shape). t.name) (sym n.2) ∙ said.0, ap (λ (t : Shape). t.parent) (sym n.2) ∙ said.1);
   parents = λ id s is.
-    let n = seen (get tree.nodes id) s is in
-    let d = p.parents id n.0 n.1 in
-    subst (IsDir (shapes tree.nodes)) (ap (λ (t : Shape). t.parent) n.2) (shape d.0, shown tree.nodes n.0.parent d.0 d.1, d.2);
+      let n = seen (get tree.nodes id) s is in
+      let d = p.parents id n.0 n.1 in
+      subst (IsDir (shapes tree.nodes)) (ap (λ (t : Shape). t.parent) n.2) (shape d.0, shown tree.nodes n.0.parent d.0 d.1, d.2);
   lead = λ id s is. let n = seen (get tree.nodes id) s is in way-of tree tree.root id (p.lead id n.0 n.1);
   apart = λ a b s t is_a is_b parents names.
-    let m = seen (get tree.nodes a) s is_a in
-    let n = seen (get tree.nodes b) t is_b in
-    p.apart a b m.0 n.0 m.1 n.1
-    (ap (λ (t : Shape). t.parent) m.2 ∙ parents ∙ ap (λ (t : Shape). t.parent) (sym n.2))
-    (ap (λ (t : Shape). t.name) m.2 ∙ names ∙ ap (λ (t : Shape). t.name) (sym n.2));
+      let m = seen (get tree.nodes a) s is_a in
+      let n = seen (get tree.nodes b) t is_b in
+      p.apart a b m.0 n.0 m.1 n.1
+      (ap (λ (t : Shape). t.parent) m.2 ∙ parents ∙ ap (λ (t : Shape). t.parent) (sym n.2))
+      (ap (λ (t : Shape). t.name) m.2 ∙ names ∙ ap (λ (t : Shape). t.name) (sym n.2));
   named = λ id s is other.
-    let n = seen (get tree.nodes id) s is in
-    ap (λ (t : Shape). is_bad_name t.name) (sym n.2) ∙ p.named id n.0 n.1 other;
+      let n = seen (get tree.nodes id) s is in
+      ap (λ (t : Shape). is_bad_name t.name) (sym n.2) ∙ p.named id n.0 n.1 other;
 }
 
 abbrev Indices : Type 0
@@ -194,13 +194,13 @@ module _ (at : Shapes) (id : ℕ) (s : Shape) where
         ];
         apart = λ a b t u is_a is_b parents names. elim (which a t is_a) as (λ _. a ≡ b) [
           | inl here ↦ elim (which b u is_b) as (λ _. a ≡ b) [
-              | inl too ↦ here.0 ∙ sym too.0
-              | inr other ↦ absurd (alone b u other.0 other.1 (sym parents ∙ ap (λ (v : Shape). v.parent) (sym here.1)) (sym names ∙ ap (λ (v : Shape). v.name) (sym here.1)))
-            ]
+            | inl too ↦ here.0 ∙ sym too.0
+            | inr other ↦ absurd (alone b u other.0 other.1 (sym parents ∙ ap (λ (v : Shape). v.parent) (sym here.1)) (sym names ∙ ap (λ (v : Shape). v.name) (sym here.1)))
+          ]
           | inr other ↦ elim (which b u is_b) as (λ _. a ≡ b) [
-              | inl here ↦ absurd (alone a t other.0 other.1 (parents ∙ ap (λ (v : Shape). v.parent) (sym here.1)) (names ∙ ap (λ (v : Shape). v.name) (sym here.1)))
-              | inr too ↦ p.apart a b t u other.1 too.1 parents names
-            ]
+            | inl here ↦ absurd (alone a t other.0 other.1 (parents ∙ ap (λ (v : Shape). v.parent) (sym here.1)) (names ∙ ap (λ (v : Shape). v.name) (sym here.1)))
+            | inr too ↦ p.apart a b t u other.1 too.1 parents names
+          ]
         ];
         named = λ q t is away. elim (which q t is) as (λ _. is_bad_name t.name ≡ false) [
           | inl here ↦ ap (λ (u : Shape). is_bad_name u.name) (sym here.1) ∙ good

@@ -1,7 +1,6 @@
 -- Steps keep a tree plain, call by call.
 use Rattle.std.proofs.Common.{◌≡◌, ◌≢◌, ◌⊎◌, inl, inr, ℕ, ℤ, List, [], ◌∷◌, ◌++◌, Option, Some, None, Bool, true, false, cond, length, refl, ap, sym, ◌∙◌, subst, codes, arith, append-nil, append_assoc}
 use Rattle.std.specs.Prelude.{nat_lt, not, ◌&&◌, ◌||◌, if◌then◌else◌}
-use Rattle.std.specs.List.{fold}
 use Rattle.std.proofs.lemmas.Grind.{fold-append}
 use Rattle.std.specs.Option.{option_map, is_some}
 use Rattle.std.specs.Str.{bytes_eq}
@@ -25,13 +24,13 @@ use Rattle.bfs_tree.specs.declared.reply.Reply.TheVariants as replies
 use Rattle.bfs_tree.specs.declared.reply.Entry.{Entry}
 use Rattle.bfs_tree.specs.declared.state.Hold.{Hold}
 use Rattle.bfs_tree.specs.Names.{is_bad_name, is_bad_target, target_of}
-use Rattle.bfs_tree.specs.Trees.{Tree, Node, Nodes, LeadsTo, IsPlain, at_top, by_parent, is_dir, new_node, child}
+use Rattle.bfs_tree.specs.Trees.{Tree, Node, Nodes, IsPlain, is_dir, new_node, child}
 use Rattle.bfs_tree.specs.States.{State, last_hold, conflict}
 use Rattle.bfs_tree.specs.Refusals.{first, at_node, at_child, held, refusals, own_refusal, is_inside, is_full, is_built_in, has_children}
 use Rattle.bfs_tree.specs.Answers.{IsAnswer}
 use Rattle.bfs_tree.specs.Changes.{with_node, changed_at, touched, kind_made, made, dropped, removed, renamed, holding, holding_to_write, released, changed, id_made}
 use Rattle.bfs_tree.specs.Steps.{Step, next, refused, by_disk, no_room, answered}
-use Rattle.bfs_tree.specs.Histories.{Mounted, start, state_after, after, Follows, LegalFrom, Legal}
+use Rattle.bfs_tree.specs.Histories.{Mounted, start, state_after, after, LegalFrom, Legal}
 use Rattle.bfs_tree.proofs.Plains.{Shape, Shapes, shape, shapes, seen, shown, Way, way_end, way_up, leads-of, IsDir, Plain, plain-of, of-plain, plain-with, put, taken, plain-put, plain-taken}
 use Rattle.bfs_tree.proofs.Members.{child-there, no-child, no-children}
 use Rattle.bfs_tree.proofs.Ways.{inside-below, dir-is}

@@ -1,5 +1,5 @@
 -- The nodes of a tree as entries: what a filter over all of them finds, a look-up by id finds too.
-use Rattle.std.proofs.Common.{◌≡◌, ◌≢◌, ◌⊎◌, inl, inr, ℕ, suc, List, [], ◌∷◌, Option, Some, None, Bool, true, false, cond, T, refl, ap, sym, ◌∙◌, subst, arith, length}
+use Rattle.std.proofs.Common.{◌≡◌, ◌≢◌, ◌⊎◌, inl, inr, ℕ, suc, List, [], ◌∷◌, Some, None, Bool, true, false, cond, T, refl, ap, sym, ◌∙◌, subst, arith, length}
 use Rattle.std.specs.Prelude.{not, ◌&&◌, ◌==◌, nat_lt}
 use Rattle.std.specs.List.{find, filter}
 use Rattle.std.specs.Str.{bytes_eq}

@@ -1,6 +1,6 @@
 -- What plain says of a tree, by the kind, the name and the parent of each node alone, and how one node more, one less or
 -- one that moved keeps it.
-use Rattle.std.proofs.Common.{◌≡◌, ◌≢◌, ◌⊎◌, inl, inr, ℕ, List, [], Option, Some, None, Bool, true, false, cond, refl, ap, sym, ◌∙◌, subst, arith}
+use Rattle.std.proofs.Common.{◌≡◌, ◌≢◌, ◌⊎◌, inl, inr, ℕ, List, [], Option, Some, None, true, false, cond, refl, ap, sym, ◌∙◌, subst, arith}
 use Rattle.std.specs.Option.{option_map}
 use Rattle.std.specs.Ordering.{nat_cmp, eq_by_cmp}
 use Rattle.std.specs.FinMap.{FinMap, get}
@@ -11,7 +11,7 @@ use Rattle.bfs_base.specs.declared.kind.KeyKind.TheVariants.{Text, I64}
 use Rattle.bfs_tree.specs.declared.call.Kind.{Kind}
 use Rattle.bfs_tree.specs.declared.call.Kind.TheVariants.{Dir}
 use Rattle.bfs_tree.specs.Names.{is_bad_name}
-use Rattle.bfs_tree.specs.Trees.{Tree, Node, Nodes, IsNode, IsDirectory, LeadsTo, IsPlain, at_top, by_parent}
+use Rattle.bfs_tree.specs.Trees.{Tree, Node, Nodes, LeadsTo, IsPlain, at_top, by_parent}
 
 pub record Shape : Type 0 where
   pub kind : Kind

@@ -87,9 +87,9 @@ pub data LeadsTo (tree : Tree) (top : ℕ) : ℕ → Type 0 where
   at_top : LeadsTo tree top top
   by_parent : (id : ℕ) (node : Node) → IsNode tree id node → LeadsTo tree top node.parent → LeadsTo tree top id
 
--- The conditions of a plain tree. The root is a directory, and as its record says it has no name and is its own parent.
--- Each node's parent is a directory of the tree, and parents lead to the root. Two nodes with one parent have different
--- names, and no name but the root's is bad. The three built-in indices are there with their kinds.
+-- The conditions of a plain tree. The root is a directory that has no name and is its own parent. Each node's parent is
+-- a directory of the tree, and parents lead to the root. Two nodes with one parent have different names, and no name but
+-- the root's is bad. The three built-in indices are there with their kinds.
 pub record IsPlain (tree : Tree) : Type 0 where
   pub root : IsDirectory tree tree.root
   pub own : (node : Node) → IsNode tree tree.root node → (node.name ≡ []) × (node.parent ≡ tree.root)

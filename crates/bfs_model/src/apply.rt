@@ -1,8 +1,10 @@
 // One call of any kind.
-ghost use Rattle.std.specs.Prelude.{◌≡◌, ◌↔◌, IfOk, IsTrue, OnErr};
+ghost use Rattle.std.specs.Prelude.{◌≡◌, ◌↔◌, ◌+◌, ◌-◌, ◌^◌, min, IfOk, IsTrue, OnErr, OnOk};
 ghost use Rattle.bfs_tree.specs.Answers.{IsReady};
 ghost use Rattle.bfs_tree.specs.Steps.{Turn};
 ghost use Rattle.bfs_tree.specs.Trees.{IsPlain};
+ghost use Rattle.bfs_tree.specs.declared.call.Call.TheVariants as calls;
+ghost use Rattle.bfs_tree.specs.declared.reply.Reply.TheVariants.{Synced};
 ghost use Rattle.bfs_model.specs.Kept.{state_of};
 
 use crate::model::Model;
@@ -16,7 +18,10 @@ impl Model {
         requires { IsReady session call.now (state_of self.old) }
         ensures ok { IfOk result (λ reply. Turn session stamp call.now reply (state_of self.old) (state_of self.new)) }
         ensures plain { IsPlain (state_of self.old).tree → IsPlain (state_of self.new).tree }
+        ensures upto { call.now ≡ calls.Sync → IfOk result (λ reply. reply ≡ Synced self.old.answered) }
+        ensures counted { OnOk result (self.new.answered ≡ min (self.old.answered + 1) (2 ^ 64 - 1)) }
         ensures err { OnErr result (state_of self.new ≡ state_of self.old) }
+        ensures uncounted { OnErr result (self.new.answered ≡ self.old.answered) }
     {
         step_keeps_plain();
         let reply = self.answer(session, call, stamp)?;
@@ -42,6 +47,8 @@ impl Model {
     fn answer(&mut self, session: u32, call: &Call, stamp: i64) -> Result<Reply, AllocError>
         requires { IsReady session call.now (state_of self.old) }
         ensures ok { IfOk result (λ reply. Turn session stamp call.now reply (state_of self.old) (state_of self.new)) }
+        ensures upto { call.now ≡ calls.Sync → IfOk result (λ reply. reply ≡ Synced self.old.answered) }
+        ensures kept { self.new.answered ≡ self.old.answered }
         ensures err { OnErr result (state_of self.new ≡ state_of self.old) }
     {
         match call {

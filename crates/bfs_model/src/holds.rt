@@ -10,6 +10,7 @@ ghost use Rattle.bfs_tree.specs.Changes.{holding, holding_to_write};
 ghost use Rattle.bfs_tree.specs.Steps.{Reads, Turn};
 ghost use Rattle.bfs_model.specs.Kept.{known_of, state_of};
 ghost use Rattle.bfs_tree.specs.declared.call.Call.TheVariants as calls;
+ghost use Rattle.bfs_tree.specs.declared.reply.Reply.TheVariants.{Synced};
 
 use crate::known::{Places, agrees, byte_at, forget, learn};
 use crate::model::{KnownByte, Model};
@@ -119,6 +120,7 @@ impl Model {
     ) -> Result<Reply, AllocError>
         ensures ok { IfOk result (λ reply. Turn session stamp (calls.Hold id at length write) reply (state_of self.old) (state_of self.new)) }
         ensures err { OnErr result (state_of self.new ≡ state_of self.old) }
+        ensures kept { self.new.answered ≡ self.old.answered }
     {
         let Some(node) = node_at(&self.nodes, id) else {
             return Ok(Reply::NotFound);
@@ -155,6 +157,7 @@ impl Model {
     fn add_hold(&mut self, hold: Hold, stamp: i64) -> Result<(), AllocError>
         ensures ok { OnOk result (state_of self.new ≡ holding (state_of self.old) hold stamp) }
         ensures err { OnErr result (state_of self.new ≡ state_of self.old) }
+        ensures kept { self.new.answered ≡ self.old.answered }
     {
         if hold.write {
             self.hold_to_write(hold, stamp)
@@ -167,6 +170,7 @@ impl Model {
     fn hold_to_write(&mut self, hold: Hold, stamp: i64) -> Result<(), AllocError>
         ensures ok { OnOk result (state_of self.new ≡ holding_to_write (state_of self.old) hold stamp) }
         ensures err { OnErr result (state_of self.new ≡ state_of self.old) }
+        ensures kept { self.new.answered ≡ self.old.answered }
     {
         let piece = Places::Piece {
             at: hold.at,
@@ -190,6 +194,7 @@ impl Model {
         requires { IsSomeAnd (last_hold self.old.holds.items session id) (λ hold. IsTrue whole → Ends (state_of self.old) hold bytes.now) }
         ensures ok { IfOk result (λ reply. (stamp : ℤ) (before after : ℕ) → Turn session stamp (calls.Release id bytes.now whole before after) reply (state_of self.old) (state_of self.new)) }
         ensures err { OnErr result (state_of self.new ≡ state_of self.old) }
+        ensures kept { self.new.answered ≡ self.old.answered }
     {
         let at = last_hold_at(&self.holds, session, id);
         let hold = self.holds[at];
@@ -201,7 +206,8 @@ impl Model {
 
     /// Says up to which place of the history a session's calls are durable.
     pub fn sync(&self, upto: u64) -> Reply
-        ensures { Reads calls.Sync (state_of self.now) result }
+        ensures ok { Reads calls.Sync (state_of self.now) result }
+        ensures upto { result ≡ Synced upto }
     {
         Reply::Synced { upto }
     }

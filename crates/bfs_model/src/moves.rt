@@ -66,6 +66,7 @@ impl Model {
     pub fn remove(&mut self, dir: u64, name: &[u8], stamp: i64) -> Result<Reply, AllocError>
         ensures ok { IfOk result (λ reply. Writes stamp (Remove dir name.now) reply (state_of self.old) (state_of self.new)) }
         ensures err { OnErr result (state_of self.new ≡ state_of self.old) }
+        ensures kept { self.new.answered ≡ self.old.answered }
     {
         let Some(parent) = node_at(&self.nodes, dir) else {
             return Ok(Reply::NotFound);
@@ -93,6 +94,7 @@ impl Model {
     fn drop_node(&mut self, dir: u64, id: u64, stamp: i64) -> Result<(), AllocError>
         ensures ok { OnOk result (state_of self.new ≡ dropped (state_of self.old) dir stamp id) }
         ensures err { OnErr result (state_of self.new ≡ state_of self.old) }
+        ensures kept { self.new.answered ≡ self.old.answered }
     {
         self.known = forget(self.alloc, self.known.as_slice(), id, Places::All)?;
         take_node(&mut self.nodes, id);
@@ -111,6 +113,7 @@ impl Model {
     ) -> Result<Reply, AllocError>
         ensures ok { IfOk result (λ reply. Writes stamp (Rename dir name.now to_dir to_name.now) reply (state_of self.old) (state_of self.new)) }
         ensures err { OnErr result (state_of self.new ≡ state_of self.old) }
+        ensures kept { self.new.answered ≡ self.old.answered }
     {
         let Some(parent) = node_at(&self.nodes, dir) else {
             return Ok(Reply::NotFound);
@@ -155,6 +158,7 @@ impl Model {
     pub fn set_size(&mut self, id: u64, size: u64, stamp: i64) -> Result<Reply, AllocError>
         ensures ok { IfOk result (λ reply. Writes stamp (SetSize id size) reply (state_of self.old) (state_of self.new)) }
         ensures err { OnErr result (state_of self.new ≡ state_of self.old) }
+        ensures kept { self.new.answered ≡ self.old.answered }
     {
         let Some(node) = node_at(&self.nodes, id) else {
             return Ok(Reply::NotFound);
@@ -179,6 +183,7 @@ impl Model {
     fn resize(&mut self, id: u64, size: u64, stamp: i64) -> Result<(), AllocError>
         ensures ok { OnOk result (state_of self.new ≡ resized (state_of self.old) id size stamp) }
         ensures err { OnErr result (state_of self.new ≡ state_of self.old) }
+        ensures kept { self.new.answered ≡ self.old.answered }
     {
         self.known = forget(
             self.alloc,

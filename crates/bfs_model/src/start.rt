@@ -32,6 +32,7 @@ impl Model {
     /// holds anything.
     pub fn new(alloc: Global, root: u64, stamp: i64) -> Result<Model, AllocError>
         ensures plain { IfOk result (λ m. IsPlain (state_of m).tree) }
+        ensures counted { IfOk result (λ m. m.answered ≡ 0) }
         ensures ok { IfOk result (λ m. state_of m ≡ record { tree = empty_tree root stamp; holds = []; known = empty }) }
     {
         empty_is_plain();

@@ -56,6 +56,7 @@ impl Model {
     ) -> Result<Reply, AllocError>
         ensures ok { IfOk result (λ reply. Writes stamp (Make dir name.now kind.now mode) reply (state_of self.old) (state_of self.new)) }
         ensures err { OnErr result (state_of self.new ≡ state_of self.old) }
+        ensures kept { self.new.answered ≡ self.old.answered }
     {
         let Some(parent) = node_at(&self.nodes, dir) else {
             return Ok(Reply::NotFound);
@@ -81,7 +82,8 @@ impl Model {
 
     /// Sets who may do what with a node, and whose it is.
     pub fn set_mode(&mut self, id: u64, mode: u32, uid: u32, gid: u32, stamp: i64) -> Reply
-        ensures { Writes stamp (SetMode id mode uid gid) result (state_of self.old) (state_of self.new) }
+        ensures ok { Writes stamp (SetMode id mode uid gid) result (state_of self.old) (state_of self.new) }
+        ensures kept { self.new.answered ≡ self.old.answered }
     {
         let Some(_) = node_at(&self.nodes, id) else {
             return Reply::NotFound;
@@ -106,6 +108,7 @@ impl Model {
     ) -> Result<Reply, AllocError>
         ensures ok { IfOk result (λ reply. Writes stamp (AttrWrite id name.now kind bytes.now) reply (state_of self.old) (state_of self.new)) }
         ensures err { OnErr result (state_of self.new ≡ state_of self.old) }
+        ensures kept { self.new.answered ≡ self.old.answered }
     {
         let Some(_) = node_at(&self.nodes, id) else {
             return Ok(Reply::NotFound);
@@ -127,7 +130,8 @@ impl Model {
 
     /// Takes an attribute from a node.
     pub fn attr_remove(&mut self, id: u64, name: &[u8], stamp: i64) -> Reply
-        ensures { Writes stamp (AttrRemove id name.now) result (state_of self.old) (state_of self.new) }
+        ensures ok { Writes stamp (AttrRemove id name.now) result (state_of self.old) (state_of self.new) }
+        ensures kept { self.new.answered ≡ self.old.answered }
     {
         let Some(node) = node_at(&self.nodes, id) else {
             return Reply::NotFound;
@@ -148,6 +152,7 @@ impl Model {
     ) -> Result<Reply, AllocError>
         ensures ok { IfOk result (λ reply. Writes stamp (IndexMake name.now kind) reply (state_of self.old) (state_of self.new)) }
         ensures err { OnErr result (state_of self.new ≡ state_of self.old) }
+        ensures kept { self.new.answered ≡ self.old.answered }
     {
         let None = index_at(&self.indices, name) else {
             return Ok(Reply::Exists);
@@ -168,7 +173,8 @@ impl Model {
 
     /// Gives an index up.
     pub fn index_remove(&mut self, name: &[u8], stamp: i64) -> Reply
-        ensures { Writes stamp (IndexRemove name.now) result (state_of self.old) (state_of self.new) }
+        ensures ok { Writes stamp (IndexRemove name.now) result (state_of self.old) (state_of self.new) }
+        ensures kept { self.new.answered ≡ self.old.answered }
     {
         let Some(_) = index_at(&self.indices, name) else {
             return Reply::NoIndex;

@@ -41,19 +41,19 @@ pub returns-in_ok-index_find-in-IndexFind-clause-ok : goal.returns-in_ok-index_f
 returns-in_ok-index_find-in-IndexFind-clause-ok c = search (rules, c.in_ok-index_find-in-IndexFind.ensures c.args.session c.args.stamp)
 
 pub returns-in-SetMode-clause-ok : goal.returns-in-SetMode-clause-ok
-returns-in-SetMode-clause-ok c = search (rules, c.set_mode.ensures c.args.session)
+returns-in-SetMode-clause-ok c = search (rules, c.set_mode.ensures.ok c.args.session)
 
 pub returns-in-AttrRemove-clause-ok : goal.returns-in-AttrRemove-clause-ok
-returns-in-AttrRemove-clause-ok c = search (rules, c.attr_remove.ensures c.args.session)
+returns-in-AttrRemove-clause-ok c = search (rules, c.attr_remove.ensures.ok c.args.session)
 
 pub returns-in-IndexRemove-clause-ok : goal.returns-in-IndexRemove-clause-ok
-returns-in-IndexRemove-clause-ok c = search (rules, c.index_remove.ensures c.args.session)
+returns-in-IndexRemove-clause-ok c = search (rules, c.index_remove.ensures.ok c.args.session)
 
 pub returns-in-Lookup-clause-ok : goal.returns-in-Lookup-clause-ok
 returns-in-Lookup-clause-ok c = search (rules, c.lookup.ensures c.args.session c.args.stamp)
 
 pub returns-in-Sync-clause-ok : goal.returns-in-Sync-clause-ok
-returns-in-Sync-clause-ok c = search (rules, c.sync.ensures c.args.session c.args.stamp)
+returns-in-Sync-clause-ok c = search (rules, c.sync.ensures.ok c.args.session c.args.stamp)
 
 pub returns-in_ok-release-in-Release-clause-ok : goal.returns-in_ok-release-in-Release-clause-ok
 returns-in_ok-release-in-Release-clause-ok c = search (rules, c.in_ok-release-in-Release.ensures.ok c.args.stamp c.in-Release.before c.in-Release.after)

@@ -12,8 +12,9 @@ use bfs_tree::{Call, Reply, step_keeps_plain};
 use std::alloc::AllocError;
 
 impl Model {
-    /// Answers a session's call, of an entry with this stamp, and changes the tree, which stays plain. It is never refused for want
-    /// of room, nor by the disk. A Sync is told the number of calls that were answered before it.
+    /// Answers a session's call, of an entry with this stamp, and changes the tree, which stays plain. It is
+    /// never refused for want of room, nor by the disk. A Sync is told the number of calls that were answered
+    /// before it.
     pub fn apply(&mut self, session: u32, call: &Call, stamp: i64) -> Result<Reply, AllocError>
         requires { IsReady session call.now (state_of self.old) }
         ensures ok { IfOk result (λ reply. Turn session stamp call.now reply (state_of self.old) (state_of self.new)) }

@@ -6,7 +6,7 @@ use Rattle.std.specs.Cmp.{nat_cmp_total}
 use Rattle.std.specs.Cmp.Lexicographic.{nat_list_cmp_total}
 use Rattle.std.specs.FinMap.{get, empty, get-insert, get-empty}
 use Rattle.bfs_tree.specs.declared.call.Kind.TheVariants.{Dir}
-use Rattle.bfs_tree.specs.Trees.{Node, IsNode, IsDirectory, IsPlain, Leads, at_root, new_node, empty_tree}
+use Rattle.bfs_tree.specs.Trees.{Node, IsNode, IsDirectory, IsPlain, LeadsTo, at_top, new_node, empty_tree}
 
 module _ (root : ℕ) (stamp : ℤ) where
   abbrev the_root : Node
@@ -33,8 +33,9 @@ module _ (root : ℕ) (stamp : ℤ) where
   pub empty-plain : IsPlain (empty_tree root stamp)
   empty-plain = record {
     root = is_dir;
+    own = λ node is. (ap (λ (n : Node). n.name) (only root node is).1, ap (λ (n : Node). n.parent) (only root node is).1);
     parents = λ id node is. subst (λ (n : Node). IsDirectory (empty_tree root stamp) n.parent) (sym (only id node is).1) is_dir;
-    lead = λ id node is. subst (Leads (empty_tree root stamp)) (sym (only id node is).0) at_root;
+    lead = λ id node is. subst (LeadsTo (empty_tree root stamp) root) (sym (only id node is).0) at_top;
     apart = λ a b m n is_a is_b parents names. (only a m is_a).0 ∙ sym (only b n is_b).0;
     named = λ id node is other. absurd (other (only id node is).0);
     by_name = get-insert nat_list_cmp_total _ _ _ (codes "name") ∙ get-insert nat_list_cmp_total _ _ _ (codes "name") ∙ get-insert nat_list_cmp_total _ _ _ (codes "name");

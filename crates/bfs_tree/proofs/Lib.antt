@@ -1,9 +1,7 @@
-pub mod Maps
 pub mod Replies
 pub mod Legals
-pub mod Children
-pub mod Sorting
-pub mod Free
-pub mod Knowns
-pub mod Lasts
 pub mod Empties
+pub mod Ways
+pub mod Plains
+pub mod Members
+pub mod Keeps

@@ -1,12 +1,13 @@
 -- What is true of steps and histories, whatever keeps them.
-use Rattle.std.specs.Prelude.{◌≡◌, ◌⊎◌, List, [], ◌∷◌, ◌++◌, Some, IsTrue, ℕ, ℤ}
+use Rattle.std.specs.Prelude.{◌≡◌, ◌⊎◌, ◌↔◌, List, [], ◌∷◌, ◌++◌, Some, IsTrue, ℕ, ℤ}
 use Rattle.bfs_tree.specs.declared.reply.Reply.{Reply}
 use Rattle.bfs_tree.specs.declared.reply.Entry.{Entry}
-use Rattle.bfs_tree.specs.Trees.{IsPlain, empty_tree}
+use Rattle.bfs_tree.specs.declared.call.Kind.TheVariants.{Dir}
+use Rattle.bfs_tree.specs.Trees.{Tree, Node, LeadsTo, IsPlain, empty_tree}
 use Rattle.bfs_tree.specs.States.{State}
-use Rattle.bfs_tree.specs.Refusals.{own_refusal}
+use Rattle.bfs_tree.specs.Refusals.{own_refusal, is_inside}
 use Rattle.bfs_tree.specs.Steps.{Step, next, is_by_disk}
-use Rattle.bfs_tree.specs.Histories.{Mounted, Follows, Legal}
+use Rattle.bfs_tree.specs.Histories.{Mounted, Follows, Legal, after}
 
 -- the entry and the state before it determine the state after it
 abbrev pub StateIsDetermined : Type 0
@@ -28,3 +29,15 @@ PrefixIsLegal = (t0 : Mounted) (history more : List Entry) → Legal t0 (history
 -- the tree of a new volume is plain
 abbrev pub EmptyIsPlain : Type 0
 EmptyIsPlain = (root : ℕ) (stamp : ℤ) → IsPlain (empty_tree root stamp)
+
+-- what Inside asks of the tree: the node is a directory, and it stands on the way up from the other one
+abbrev pub InsideIsBelow : Type 0
+InsideIsBelow = (tree : Tree) (id d : ℕ) (node : Node) → IsTrue (is_inside tree id node d) ↔ ((node.kind ≡ Dir) × LeadsTo tree id d)
+
+-- a step keeps a tree plain
+abbrev pub StepKeepsPlain : Type 0
+StepKeepsPlain = (old new : State) (entry : Entry) → IsPlain old.tree → Step old entry new → IsPlain new.tree
+
+-- the tree is plain after all that a legal history begins with
+abbrev pub HistoryKeepsPlain : Type 0
+HistoryKeepsPlain = (t0 : Mounted) (history more : List Entry) → IsPlain t0.tree → Legal t0 (history ++ more) → IsPlain (after t0 history)

@@ -9,4 +9,3 @@ pub mod Changes
 pub mod Steps
 pub mod Histories
 pub mod Laws
-pub mod Kept

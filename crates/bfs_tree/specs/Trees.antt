@@ -82,18 +82,19 @@ IsNode tree id node = get tree.nodes id ≡ Some node
 abbrev pub IsDirectory : Tree → ℕ → Type 0
 IsDirectory tree id = (node : Node) × IsNode tree id node × (node.kind ≡ Dir)
 
--- so many parents up from the node is the root
-pub data Leads (tree : Tree) : ℕ → Type 0 where
-  at_root : Leads tree tree.root
-  by_parent : (id : ℕ) (node : Node) → IsNode tree id node → Leads tree node.parent → Leads tree id
+-- Parents lead from a node up to another: the node is that one, or it has a parent from which they lead there.
+pub data LeadsTo (tree : Tree) (top : ℕ) : ℕ → Type 0 where
+  at_top : LeadsTo tree top top
+  by_parent : (id : ℕ) (node : Node) → IsNode tree id node → LeadsTo tree top node.parent → LeadsTo tree top id
 
--- The conditions of a plain tree. The root is a directory, each node's parent is a directory of the tree, and parents
--- lead to the root. Two nodes with one parent have different names, and no name but the root's is bad. The three
--- built-in indices are there with their kinds.
+-- The conditions of a plain tree. The root is a directory that has no name and is its own parent. Each node's parent is
+-- a directory of the tree, and parents lead to the root. Two nodes with one parent have different names, and no name but
+-- the root's is bad. The three built-in indices are there with their kinds.
 pub record IsPlain (tree : Tree) : Type 0 where
   pub root : IsDirectory tree tree.root
+  pub own : (node : Node) → IsNode tree tree.root node → (node.name ≡ []) × (node.parent ≡ tree.root)
   pub parents : (id : ℕ) (node : Node) → IsNode tree id node → IsDirectory tree node.parent
-  pub lead : (id : ℕ) (node : Node) → IsNode tree id node → Leads tree id
+  pub lead : (id : ℕ) (node : Node) → IsNode tree id node → LeadsTo tree tree.root id
   pub apart : (a b : ℕ) (m n : Node) → IsNode tree a m → IsNode tree b n → m.parent ≡ n.parent → m.name ≡ n.name → a ≡ b
   pub named : (id : ℕ) (node : Node) → IsNode tree id node → id ≢ tree.root → is_bad_name node.name ≡ false
   pub by_name : get tree.indices (codes "name") ≡ Some Text

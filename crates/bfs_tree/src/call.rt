@@ -1,9 +1,12 @@
 // The calls of a volume.
-ghost use Rattle.std.specs.Prelude.{◌≡◌};
+ghost use Rattle.std.specs.Prelude.{◌≡◌, IfOk, length};
+ghost use Rattle.bfs_tree.specs.Names.{target_of};
+ghost use Rattle.bfs_tree.specs.Changes.{kind_made};
 ghost use Rattle.bfs_tree.specs.Trees.{is_file, is_dir, is_link};
 
 use crate::{Bytes, Key};
 use bfs_base::KeyKind;
+use std::alloc::{AllocError, Global};
 
 /// What a node is.
 #[derive(Clone, Copy, Debug, PartialEq, Eq)]
@@ -39,6 +42,41 @@ pub enum MakeKind {
     File,
     Dir,
     Link { target: Bytes },
+}
+
+impl MakeKind {
+    /// What such a node is.
+    pub fn kind(&self) -> Kind
+        ensures { result ≡ kind_made self.now }
+    {
+        match self {
+            MakeKind::File => Kind::File,
+            MakeKind::Dir => Kind::Dir,
+            MakeKind::Link { .. } => Kind::Link,
+        }
+    }
+
+    /// The target of a link, or no bytes.
+    pub fn target(&self, alloc: Global) -> Result<Bytes, AllocError>
+        ensures { IfOk result (λ b. b ≡ target_of self.now) }
+    {
+        match self {
+            MakeKind::File => Ok(Bytes::new(Vec::new(alloc))),
+            MakeKind::Dir => Ok(Bytes::new(Vec::new(alloc))),
+            MakeKind::Link { target } => target.copy(),
+        }
+    }
+
+    /// How many bytes the target has.
+    pub fn target_len(&self) -> usize
+        ensures { result ≡ length (target_of self.now) }
+    {
+        match self {
+            MakeKind::File => 0,
+            MakeKind::Dir => 0,
+            MakeKind::Link { target } => target.as_slice().len(),
+        }
+    }
 }
 
 /// A call: 1 to 17 in the order of the list are the calls on names, attributes and indices, and the last

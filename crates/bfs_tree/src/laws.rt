@@ -1,5 +1,5 @@
 // Laws of steps and histories: each is the contract of a function that does nothing.
-ghost use Rattle.bfs_tree.specs.Laws.{EmptyIsPlain, StateIsDetermined, RefusalIsUnique, LegalGoesOn, PrefixIsLegal};
+ghost use Rattle.bfs_tree.specs.Laws.{EmptyIsPlain, HistoryKeepsPlain, InsideIsBelow, StateIsDetermined, StepKeepsPlain, RefusalIsUnique, LegalGoesOn, PrefixIsLegal};
 
 /// The state before an entry and the entry determine the state after it.
 pub fn state_is_determined()
@@ -24,4 +24,19 @@ pub fn prefix_is_legal()
 /// The tree of a new volume is plain.
 pub fn empty_is_plain()
     ensures { EmptyIsPlain }
+{}
+
+/// `Inside` is answered just where the node is a directory on the way up from the other one.
+pub fn inside_is_below()
+    ensures { InsideIsBelow }
+{}
+
+/// A step keeps a tree plain.
+pub fn step_keeps_plain()
+    ensures { StepKeepsPlain }
+{}
+
+/// A legal history that begins with a plain tree keeps it plain.
+pub fn history_keeps_plain()
+    ensures { HistoryKeepsPlain }
 {}

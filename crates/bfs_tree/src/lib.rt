@@ -2,37 +2,23 @@
 // The definitions stand in specs/: Trees, Refusals, Answers, Changes, Steps and Histories.
 #![tactic(auto)]
 
-mod apply;
 mod bytes;
 mod call;
-mod finds;
-mod holds;
 mod keys;
-mod known;
 mod laws;
-mod model;
-mod moves;
-mod named;
 mod names;
-mod nodes;
-mod reads;
 mod reply;
 mod rows;
-mod sorts;
-mod start;
 mod state;
-#[cfg(test)]
-mod tests;
-mod writes;
 
 pub use bfs_base::KeyKind;
 pub use bytes::{Attributes, Bytes, FoundRows, Indices, Names};
 pub use call::{Call, Kind, MakeKind};
-pub use keys::{code_of, is_float, is_kind, key_order};
+pub use keys::{code_of, is_float, is_kind, key_of_bytes, key_order};
 pub use laws::{
-    empty_is_plain, legal_goes_on, prefix_is_legal, refusal_is_unique, state_is_determined,
+    empty_is_plain, history_keeps_plain, inside_is_below, legal_goes_on, prefix_is_legal,
+    refusal_is_unique, state_is_determined, step_keeps_plain,
 };
-pub use model::Model;
 pub use names::{
     BY_NAME, BY_SIZE, BY_TIME, is_bad_attribute_name, is_bad_name, is_bad_target, is_built_in,
 };

@@ -1,0 +1,6 @@
+pub mod Maps
+pub mod Children
+pub mod Sorting
+pub mod Free
+pub mod Knowns
+pub mod Lasts

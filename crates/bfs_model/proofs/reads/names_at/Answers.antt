@@ -1,0 +1,14 @@
+use Rattle.std.proofs.Common.{ap, sym, ◌∙◌, map as each}
+use Rattle.std.specs.List.{fold}
+use Rattle.bfs_base.specs.Keys.{text_cmp}
+use Rattle.bfs_tree.specs.Orders.{placed}
+use Rattle.bfs_tree.specs.Trees.{children_in}
+use Rattle.bfs_tree.specs.Answers.{names_among}
+use Rattle.bfs_model.specs.Kept.{node_entry}
+use Rattle.bfs_model.proofs.Maps.{entries-nodes}
+use Rattle.bfs_model.proofs.reads.names_at.Goals as goal
+
+pub returns : goal.returns
+returns c =
+    ap (λ es. fold (placed text_cmp) c.loop-id.names.items (each (λ e. e.1.name) (children_in c.args.root c.args.dir (each node_entry es)))) (sym c.in-None.ensures.steps.0) ∙ c.loop-id.invariant
+    ∙ sym (ap (names_among c.args.root c.args.dir) (entries-nodes c.args.nodes.now.entries c.iter-id-items.ensures.ordered))

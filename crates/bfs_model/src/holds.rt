@@ -1,0 +1,214 @@
+// The service calls: holds on pieces of files, and what is durable.
+ghost use Rattle.std.specs.Prelude.{◌≡◌, ◌↔◌, ℕ, ℤ, ◌<◌, ◌&&◌, IfOk, OnOk, OnErr, IsSome, Some, IsTrue, IsSomeAnd, length, slice_index_or, if◌then◌else◌};
+ghost use Rattle.std.specs.FinMap.{get};
+ghost use Rattle.std.specs.List.{remove};
+ghost use Rattle.bfs_tree.specs.declared.state.Hold.{Hold};
+ghost use Rattle.bfs_tree.specs.States.{is_hold_of, last_hold, without_last, learn};
+ghost use Rattle.bfs_tree.specs.Answers.{Ends};
+ghost use Rattle.bfs_tree.specs.Refusals.{is_past};
+ghost use Rattle.bfs_tree.specs.Changes.{holding, holding_to_write};
+ghost use Rattle.bfs_tree.specs.Steps.{Reads, Turn};
+ghost use Rattle.bfs_model.specs.Kept.{known_of, state_of};
+ghost use Rattle.bfs_tree.specs.declared.call.Call.TheVariants as calls;
+ghost use Rattle.bfs_tree.specs.declared.reply.Reply.TheVariants.{Synced};
+
+use crate::known::{Places, agrees, byte_at, forget, learn};
+use crate::model::{KnownByte, Model};
+use crate::moves::conflict_at;
+use crate::nodes::{NodeChange, change_node};
+use crate::reads::node_at;
+use bfs_tree::{Hold, Reply};
+use std::alloc::{AllocError, Global};
+
+/// The piece goes past the end of the file.
+fn is_past(size: u64, at: u64, length: u64) -> bool
+    ensures { result ≡ is_past size at length }
+{
+    at > size || length > size - at
+}
+
+fn is_hold_of(hold: &Hold, session: u32, id: u64) -> bool
+    ensures { result ≡ is_hold_of session id hold.now }
+{
+    hold.session == session && hold.id == id
+}
+
+/// What is known after a hold: the bytes of a whole write too.
+fn known_after(
+    alloc: Global,
+    known: &[KnownByte],
+    id: u64,
+    hold: Hold,
+    bytes: &[u8],
+    whole: bool,
+) -> Result<Vec<KnownByte>, AllocError>
+    ensures { IfOk result (λ v. known_of v.items ≡ (if whole && hold.write then learn (known_of known.now) id hold.at bytes.now else known_of known.now)) }
+{
+    if whole && hold.write {
+        learn(alloc, known, id, hold.at, bytes)
+    } else {
+        Vec::from_slice(alloc, known)
+    }
+}
+
+/// Where the session's last hold on a node stands in the list.
+fn last_hold_at(holds: &Vec<Hold>, session: u32, id: u64) -> usize
+    requires { IsSome (last_hold holds.now.items session id) }
+    ensures within { result < length holds.now.items }
+    ensures found { (d : Hold) → last_hold holds.now.items session id ≡ Some (slice_index_or holds.now.items result d) }
+    ensures without { without_last holds.now.items session id ≡ remove holds.now.items result }
+{
+    let mut at = holds.len();
+    while at > 0 {
+        at -= 1;
+        if is_hold_of(&holds[at], session, id) {
+            return at;
+        }
+    }
+    unreachable!()
+}
+
+/// The session's last hold on a node.
+fn last_hold_of(holds: &Vec<Hold>, session: u32, id: u64) -> Option<Hold>
+    ensures { result ≡ last_hold holds.now.items session id }
+{
+    let mut last = None;
+    for hold in holds {
+        if is_hold_of(hold, session, id) {
+            last = Some(*hold);
+        }
+    }
+    last
+}
+
+impl Model {
+    /// A whole Release may say that these bytes were written or read under the hold.
+    fn may_end(&self, hold: Hold, bytes: &[u8]) -> bool
+        ensures { IsTrue result ↔ Ends (state_of self.now) hold bytes.now }
+    {
+        bytes.len() as u64 == hold.length
+            && (hold.write || agrees(self.known.as_slice(), hold.id, hold.at, bytes))
+    }
+
+    /// A session may release a file so: it has a hold there, and where the release is whole, the bytes may be
+    /// those of its last hold.
+    pub fn may_release(&self, session: u32, id: u64, bytes: &[u8], whole: bool) -> bool
+        ensures { IsTrue result ↔ IsSomeAnd (last_hold self.now.holds.items session id) (λ hold. IsTrue whole → Ends (state_of self.now) hold bytes.now) }
+    {
+        match last_hold_of(&self.holds, session, id) {
+            None => false,
+            Some(hold) => !whole || self.may_end(hold, bytes),
+        }
+    }
+
+    /// The byte that is known at a place of a file.
+    pub fn known_at(&self, id: u64, place: u64) -> Option<u8>
+        ensures { result ≡ get (state_of self.now).known (id, place) }
+    {
+        byte_at(self.known.as_slice(), id, place, 0)
+    }
+
+    /// Holds a piece of a file, for writing or for reading.
+    pub fn hold(
+        &mut self,
+        session: u32,
+        id: u64,
+        at: u64,
+        length: u64,
+        write: bool,
+        stamp: i64,
+    ) -> Result<Reply, AllocError>
+        ensures ok { IfOk result (λ reply. Turn session stamp (calls.Hold id at length write) reply (state_of self.old) (state_of self.new)) }
+        ensures err { OnErr result (state_of self.new ≡ state_of self.old) }
+        ensures kept { self.new.answered ≡ self.old.answered }
+    {
+        let Some(node) = node_at(&self.nodes, id) else {
+            return Ok(Reply::NotFound);
+        };
+        if !node.kind.is_file() {
+            return Ok(Reply::NotFile);
+        }
+        if length > 65536 {
+            return Ok(Reply::TooBig);
+        }
+        if is_past(node.size, at, length) {
+            return Ok(Reply::PastEnd { size: node.size });
+        }
+        match conflict_at(&self.holds, id, write) {
+            Some(hold) => Ok(Reply::Held {
+                session: hold.session,
+            }),
+            None => {
+                self.add_hold(
+                    Hold {
+                        session,
+                        id,
+                        at,
+                        length,
+                        write,
+                    },
+                    stamp,
+                )?;
+                Ok(Reply::Done)
+            }
+        }
+    }
+
+    fn add_hold(&mut self, hold: Hold, stamp: i64) -> Result<(), AllocError>
+        ensures ok { OnOk result (state_of self.new ≡ holding (state_of self.old) hold stamp) }
+        ensures err { OnErr result (state_of self.new ≡ state_of self.old) }
+        ensures kept { self.new.answered ≡ self.old.answered }
+    {
+        if hold.write {
+            self.hold_to_write(hold, stamp)
+        } else {
+            self.holds.push(hold)?;
+            Ok(())
+        }
+    }
+
+    fn hold_to_write(&mut self, hold: Hold, stamp: i64) -> Result<(), AllocError>
+        ensures ok { OnOk result (state_of self.new ≡ holding_to_write (state_of self.old) hold stamp) }
+        ensures err { OnErr result (state_of self.new ≡ state_of self.old) }
+        ensures kept { self.new.answered ≡ self.old.answered }
+    {
+        let piece = Places::Piece {
+            at: hold.at,
+            count: hold.length,
+        };
+        let known = forget(self.alloc, self.known.as_slice(), hold.id, piece)?;
+        self.holds.push(hold)?;
+        self.known = known;
+        change_node(&mut self.nodes, hold.id, NodeChange::Content, stamp);
+        Ok(())
+    }
+
+    /// Ends the session's last hold on a file. The bytes of a whole write are known from then on.
+    pub fn release(
+        &mut self,
+        session: u32,
+        id: u64,
+        bytes: &[u8],
+        whole: bool,
+    ) -> Result<Reply, AllocError>
+        requires { IsSomeAnd (last_hold self.old.holds.items session id) (λ hold. IsTrue whole → Ends (state_of self.old) hold bytes.now) }
+        ensures ok { IfOk result (λ reply. (stamp : ℤ) (before after : ℕ) → Turn session stamp (calls.Release id bytes.now whole before after) reply (state_of self.old) (state_of self.new)) }
+        ensures err { OnErr result (state_of self.new ≡ state_of self.old) }
+        ensures kept { self.new.answered ≡ self.old.answered }
+    {
+        let at = last_hold_at(&self.holds, session, id);
+        let hold = self.holds[at];
+        let known = known_after(self.alloc, self.known.as_slice(), id, hold, bytes, whole)?;
+        self.known = known;
+        let _ = self.holds.remove(at);
+        Ok(Reply::Done)
+    }
+
+    /// Says up to which place of the history a session's calls are durable.
+    pub fn sync(&self, upto: u64) -> Reply
+        ensures ok { Reads calls.Sync (state_of self.now) result }
+        ensures upto { result ≡ Synced upto }
+    {
+        Reply::Synced { upto }
+    }
+}

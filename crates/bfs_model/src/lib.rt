@@ -1,0 +1,20 @@
+// A slow and plain program that keeps a tree and answers every call as bfs_tree defines it.
+// What it keeps, as a state of the plain tree, stands in specs/Kept.
+#![tactic(auto)]
+
+mod apply;
+mod finds;
+mod holds;
+mod known;
+mod model;
+mod moves;
+mod named;
+mod nodes;
+mod reads;
+mod sorts;
+mod start;
+#[cfg(test)]
+mod tests;
+mod writes;
+
+pub use model::Model;

@@ -1,0 +1,52 @@
+// The tree of a new volume.
+ghost use Rattle.std.specs.Prelude.{◌≡◌, IfOk, [], OnOk};
+ghost use Rattle.std.specs.FinMap.{empty};
+ghost use Rattle.bfs_tree.specs.Trees.{IsPlain, empty_tree, built_in};
+ghost use Rattle.bfs_model.specs.Kept.{indices_of, state_of};
+
+use crate::model::Model;
+use crate::named::put_index;
+use crate::nodes::put_node;
+use crate::writes::made_node;
+use bfs_tree::{BY_NAME, BY_SIZE, BY_TIME, KeyKind, MakeKind, empty_is_plain};
+use std::alloc::{AllocError, Global};
+use std::collections::BTreeMap;
+
+/// The three indices that every tree has.
+fn built_in_indices(alloc: Global) -> Result<BTreeMap<Vec<u8>, KeyKind>, AllocError>
+    ensures { IfOk result (λ m. indices_of m.entries ≡ built_in) }
+{
+    let mut indices = BTreeMap::new(alloc);
+    put_index(
+        &mut indices,
+        Vec::from_slice(alloc, BY_NAME)?,
+        KeyKind::Text,
+    )?;
+    put_index(&mut indices, Vec::from_slice(alloc, BY_SIZE)?, KeyKind::I64)?;
+    put_index(&mut indices, Vec::from_slice(alloc, BY_TIME)?, KeyKind::I64)?;
+    Ok(indices)
+}
+
+impl Model {
+    /// The tree of a new volume: its root alone, with this id, and the three indices. It is plain, and nobody
+    /// holds anything.
+    pub fn new(alloc: Global, root: u64, stamp: i64) -> Result<Model, AllocError>
+        ensures plain { IfOk result (λ m. IsPlain (state_of m).tree) }
+        ensures counted { IfOk result (λ m. m.answered ≡ 0) }
+        ensures ok { IfOk result (λ m. state_of m ≡ record { tree = empty_tree root stamp; holds = []; known = empty }) }
+    {
+        empty_is_plain();
+        let node = made_node(alloc, root, b"", &MakeKind::Dir, 0o755, stamp)?;
+        let mut nodes = BTreeMap::new(alloc);
+        put_node(&mut nodes, root, node)?;
+        Ok(Model {
+            alloc,
+            root,
+            nodes,
+            indices: built_in_indices(alloc)?,
+            holds: Vec::new(alloc),
+            known: Vec::new(alloc),
+            answered: 0,
+        })
+    }
+}

@@ -1,7 +1,0 @@
-use Rattle.std.proofs.Common.{◌≡◌, ◌+◌, drop}
-use Rattle.bfs_tree.specs.States.{learn}
-use Rattle.bfs_tree.specs.Kept.{known_of}
-use Rattle.bfs_tree.proofs.known.learn.Given as goal
-
-abbrev pub invariant-loop-i : goal.invariant-loop-i
-invariant-loop-i l = learn (known_of l.all.items) l.id (l.at + l.i) (drop l.i l.bytes) ≡ learn (known_of l.known) l.id l.at l.bytes

@@ -26,7 +26,7 @@ const SUPERBLOCK: [(usize, &[u8]); 12] = [
     (124, &[0, 0, 0, 0, 5, 2, 1, 0]),
 ];
 
-pub fn zeros(alloc: Global, count: usize) -> Result<Vec<u8>, AllocError> {
+pub(crate) fn zeros(alloc: Global, count: usize) -> Result<Vec<u8>, AllocError> {
     vec![in alloc; 0; count]
 }
 
@@ -58,7 +58,7 @@ fn words(alloc: Global, texts: &[&str]) -> Result<Vec<Argument>, AllocError> {
 }
 
 // Runs the program with these words, and tells what it printed.
-pub fn run<D: Disk + Send + Drop>(
+pub(crate) fn run<D: Disk + Send + Drop>(
     rt: &HostRuntime,
     texts: &[&str],
     disk: D,

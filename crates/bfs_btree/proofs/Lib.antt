@@ -1,0 +1,11 @@
+pub mod Calls
+pub mod Exchange
+pub mod Inner
+pub mod KeyOrder
+pub mod Laws
+pub mod Looked
+pub mod Placed
+pub mod Splice
+pub mod Split
+pub mod Steps
+pub mod Way

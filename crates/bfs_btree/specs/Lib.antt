@@ -1,0 +1,6 @@
+pub mod Changes
+pub mod Maps
+pub mod Order
+pub mod Shapes
+pub mod Trees
+pub mod Ways

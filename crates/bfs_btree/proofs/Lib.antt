@@ -1,11 +1,14 @@
 pub mod Calls
 pub mod Exchange
+pub mod Good
 pub mod Inner
 pub mod KeyOrder
 pub mod Laws
 pub mod Looked
 pub mod Placed
+pub mod Reading
 pub mod Splice
 pub mod Split
 pub mod Steps
+pub mod UpTo
 pub mod Way

@@ -4,6 +4,7 @@ use Rattle.std.specs.Prelude.{◌≡◌, ◌≤◌, ◌+◌, ◌-◌, ◌*◌, �
 use Rattle.bfs_base.specs.Lists.{times}
 use Rattle.bfs_base.specs.declared.kind.KeyKind.{KeyKind}
 use Rattle.bfs_node.specs.Header.{header_at, code_of, IsHeader}
+use Rattle.bfs_node.specs.declared.header.Header.{Header}
 use Rattle.bfs_node.specs.Page.{Row, rows_of, links_of, taken_by, count_at, key_bytes_at, start_at, end_at, least_key, most_key}
 use Rattle.bfs_node.specs.declared.links.Links.{Links}
 use Rattle.bfs_txn.specs.Pages.{page_at}
@@ -29,12 +30,12 @@ place_of (negsuc (suc n)) = 1
 abbrev pub are_ends : KeyKind → List ℕ → ℕ → Bool
 are_ends kind page zero = true
 are_ends kind page (suc j) =
-    are_ends kind page j && nat_le (start_at page j + least_key kind) (end_at page j) && nat_le (end_at page j) (start_at page j + most_key kind)
+    are_ends kind page j && (nat_le (start_at page j + least_key kind) (end_at page j) && nat_le (end_at page j) (start_at page j + most_key kind))
 
 -- a page of this kind of keys, whose rows can be read
 abbrev pub is_page : KeyKind → List ℕ → Bool
 is_page kind page =
-    (length page == 1024) && nat_le (taken_by (count_at page) (key_bytes_at page)) 1024 && are_ends kind page (count_at page) && (start_at page (count_at page) == key_bytes_at page)
+    (length page == 1024) && (nat_le (taken_by (count_at page) (key_bytes_at page)) 1024 && (are_ends kind page (count_at page) && (start_at page (count_at page) == key_bytes_at page)))
 
 -- an interior page's value is the link to a child
 abbrev pub children_in : List Row → List (Key × ℕ)
@@ -86,11 +87,11 @@ state_of kind bytes = record {
 }
 
 -- the header's other fields: it is one of a tree of this kind of keys, which has a level, and tells the stream's size
-pub record HasHeader (kind : KeyKind) (bytes : List ℕ) : Type 0 where
-  pub header : IsHeader (header_at (page_in bytes 0))
-  pub kind_is : (header_at (page_in bytes 0)).data_type ≡ code_of kind
-  pub levels : 1 ≤ (header_at (page_in bytes 0)).levels
-  pub size : (header_at (page_in bytes 0)).maximum_size ≡ pos (length bytes)
+pub record IsTreeHeader (kind : KeyKind) (size : ℕ) (h : Header) : Type 0 where
+  pub header : IsHeader h
+  pub kind_is : h.data_type ≡ code_of kind
+  pub levels : 1 ≤ h.levels
+  pub maximum : h.maximum_size ≡ pos size
 
 -- the first place of a list, or this one
 abbrev pub head_or : ℕ → List ℕ → ℕ
@@ -128,7 +129,7 @@ pub record Holds (kind : KeyKind) (st : State) (reached : List ℕ) (t : Shape) 
 
 -- a stream's bytes are those of a tree with these pages that values reach, this shape and this free list
 pub record IsTree (kind : KeyKind) (bytes : List ℕ) (reached : List ℕ) (t : Shape) (fs : List ℕ) : Type 0 where
-  pub header : HasHeader kind bytes
+  pub header : IsTreeHeader kind (length bytes) (header_at (page_in bytes 0))
   pub holds : Holds kind (state_of kind bytes) reached t fs
 
 -- The rows of a stream's bytes: the stream has a tree of some shape, whose leaves have these rows.

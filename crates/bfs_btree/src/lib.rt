@@ -1,11 +1,8 @@
 // B+trees over the pages of a stream: find, insert, remove and range as a sorted map.
 #![tactic(auto)]
 
-ghost use Rattle.std.specs.Prelude.{◌≡◌};
+mod places;
+mod read;
 
-/// The size.
-pub fn page_size() -> usize
-    ensures { result ≡ 1024 }
-{
-    1024
-}
+pub use places::{is_child, is_link, place};
+pub use read::read_header;

@@ -9,7 +9,7 @@ use Rattle.bfs_node.proofs.Order.{key_cmp_total}
 use Rattle.bfs_btree.specs.Order.{Key, comes_before, at_most, same_keys}
 use Rattle.bfs_btree.specs.Shapes.{Entry, a_row, a_bound, key_in, IsAbove, Precedes}
 
-less-is : (o : Ordering) → is_lt o ≡ true → o ≡ Less
+pub less-is : (o : Ordering) → is_lt o ≡ true → o ≡ Less
 less-is Less e = refl
 less-is Equal e = absurd (no e)
   where

@@ -1,12 +1,16 @@
 pub mod Calls
 pub mod Exchange
+pub mod Faulted
 pub mod Good
 pub mod Inner
 pub mod KeyOrder
+pub mod Later
 pub mod Laws
 pub mod Looked
+pub mod OfKind
 pub mod Placed
 pub mod Reading
+pub mod Sorted
 pub mod Splice
 pub mod Split
 pub mod Steps

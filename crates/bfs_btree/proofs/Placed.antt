@@ -26,3 +26,19 @@ held_end n = grind (arith)
 pub held_more : (n x : ℕ) → n % 1024 ≡ 0 → held (n + 1024) x ≡ held n x + times x (n ∷ [])
 unfolding held
 held_more n x h = grind (arith, h)
+
+-- where a page is held, one begins
+pub held_place : (n x : ℕ) → held n x ≡ 1 → is_place n x ≡ true
+unfolding held
+held_place n x h = by (is_place n x) refl h
+  where
+    by : (c : Bool) → is_place n x ≡ c → ◌≡◌ {A = ℕ} (cond c 1 0) 1 → c ≡ true
+    by true e h = refl
+    by false e h = absurd (no h)
+      where
+        no : ◌≡◌ {A = ℕ} 0 1 → ⊥
+        no e = omega (arith, e)
+
+pub place_held : (n x : ℕ) → is_place n x ≡ true → held n x ≡ 1
+unfolding held
+place_held n x h = ap (λ c. cond c 1 0) h

@@ -50,7 +50,7 @@ under-suc kind (suc d) (leaf_shape p rows) k at below e = absurd (differ e)
     differ e = cc
 under-suc kind (suc d) (node_shape p own) k at below e = under-suc kind d (child_for kind own k) k at below e
 
-pick-child : (kind : KeyKind) → (ts : Shapes) (k : Key) → place (child_for kind ts k) ≡ pick_of kind (children_of ts) (last_child ts) k
+pub pick-child : (kind : KeyKind) → (ts : Shapes) (k : Key) → place (child_for kind ts k) ≡ pick_of kind (children_of ts) (last_child ts) k
 pick-child kind (last_shape t) k = refl
 pick-child kind (more_shapes t key ts) k = by_test (at_most kind k key) (pick-child kind ts k)
   where

@@ -8,7 +8,13 @@ use Rattle.bfs_node.specs.declared.fault.PageKind.{PageKind}
 use Rattle.bfs_node.specs.declared.fault.PageKind.TheVariants.{Header as HeaderKind, Interior, Leaf, Fragment, Duplicates}
 use Rattle.bfs_node.specs.declared.fault.TreeFault.{TreeFault}
 use Rattle.bfs_node.specs.declared.fault.TreeFault.TheVariants.{Exists, Absent, Damaged, Pages, NoMemory}
-use Rattle.bfs_btree.specs.Trees.{is_place, page_in, place_of, is_page, neighbours_in, free_in, IsTreeHeader}
+use Rattle.bfs_base.specs.Lists.{times}
+use Rattle.bfs_btree.specs.declared.finding.Found.{Found}
+use Rattle.bfs_btree.specs.Maps.{assoc}
+use Rattle.bfs_btree.specs.Order.{Key}
+use Rattle.bfs_btree.specs.Shapes.{Shape, leaf_shape, tree_rows, leaves_of}
+use Rattle.bfs_btree.specs.Ways.{under}
+use Rattle.bfs_btree.specs.Trees.{state_of, is_place, page_in, place_of, is_page, neighbours_in, free_in, IsTreeHeader}
 
 -- a page other than the header begins there
 abbrev pub IsChild : ℕ → ℕ → Type 0
@@ -68,3 +74,21 @@ IsAt at sort Absent = Unit {0}
 IsAt at sort (Damaged page found) = (page ≡ at) × (found ≡ sort)
 IsAt at sort (Pages fault) = Unit {0}
 IsAt at sort NoMemory = Unit {0}
+
+-- the call failed by the pages alone: over a tree's pages none is damaged
+abbrev pub IsOfPages : {F : Type 0} → TreeFault F → Type 0
+IsOfPages Exists = ⊥
+IsOfPages Absent = ⊥
+IsOfPages (Damaged page sort) = ⊥
+IsOfPages (Pages fault) = Unit {0}
+IsOfPages NoMemory = ⊥
+
+-- this page is the leaf on the way of a key
+abbrev pub IsLeafFor : KeyKind → List ℕ → Shape → Key → ℕ → List ℕ → Type 0
+IsLeafFor kind bytes t k at page = (page ≡ page_in bytes at) × (under kind (state_of kind bytes).levels t k ≡ leaf_shape at (rows_of page))
+
+-- the value at a key, and a leaf of the tree that has it
+abbrev pub IsFound : KeyKind → List ℕ → Shape → Key → Option Found → Type 0
+IsFound kind bytes t k None = assoc kind (tree_rows t) k ≡ None
+IsFound kind bytes t k (Some found) =
+    (assoc kind (tree_rows t) k ≡ Some found.value) × (1 ≤ times found.leaf (leaves_of t)) × (assoc kind (rows_of (page_in bytes found.leaf)) k ≡ Some found.value)

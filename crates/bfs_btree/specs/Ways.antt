@@ -1,8 +1,9 @@
 -- A tree of pages that grows: the way of a key, and other children in the place of one.
-use Rattle.std.specs.Prelude.{◌≡◌, ◌≢◌, ◌≤◌, ◌<◌, ◌+◌, ℕ, ℤ, zero, suc, List, [], ◌∷◌, ◌++◌, Option, Some, None, if◌then◌else◌}
+use Rattle.std.specs.Prelude.{◌≡◌, ℕ, ℤ, zero, suc, List, [], ◌∷◌, ◌++◌, true, false, if◌then◌else◌}
+use Rattle.std.specs.List.{AllByRecursion}
 use Rattle.bfs_base.specs.declared.kind.KeyKind.{KeyKind}
 use Rattle.bfs_node.specs.Page.{Row}
-use Rattle.bfs_btree.specs.Order.{Key, at_most}
+use Rattle.bfs_btree.specs.Order.{Key, comes_before, at_most}
 use Rattle.bfs_btree.specs.Shapes.{Body, leaf_body, inner_body, Shape, Shapes, leaf_shape, node_shape, last_shape, more_shapes, Entry, a_row, a_bound, entries_of, entries_all, leaves_of, leaves_all}
 
 -- the child that a key leads to: the first whose key is not less
@@ -122,3 +123,20 @@ abbrev pub last_without : KeyKind → List (Key × ℕ) → ℕ → Key → ℕ
 last_without kind [] last k = last
 last_without kind (b ∷ []) last k = if at_most kind k b.0 then last else b.1
 last_without kind (b ∷ (c ∷ cs)) last k = if at_most kind k b.0 then last else last_without kind (c ∷ cs) last k
+
+-- each key is less than those behind it
+abbrev pub KeysAscend : {A : Type 0} → KeyKind → List (Key × A) → Type 0
+KeysAscend kind [] = Unit {0}
+KeysAscend kind (r ∷ rs) = AllByRecursion (λ s. comes_before kind r.0 s.0 ≡ true) rs × KeysAscend kind rs
+
+-- the first row whose key is not less than this one is at this place, or there is none and it is the end
+abbrev pub FirstAt : KeyKind → List Row → Key → ℕ → Type 0
+FirstAt kind [] k i = i ≡ 0
+FirstAt kind (r ∷ rs) k zero = at_most kind k r.0 ≡ true
+FirstAt kind (r ∷ rs) k (suc i) = (at_most kind k r.0 ≡ false) × FirstAt kind rs k i
+
+-- the value of the row at a place, or behind the last row this one
+abbrev pub link_at : List Row → ℤ → ℕ → ℤ
+link_at [] last i = last
+link_at (r ∷ rs) last zero = r.1
+link_at (r ∷ rs) last (suc i) = link_at rs last i

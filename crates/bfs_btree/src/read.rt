@@ -4,7 +4,7 @@ ghost use Rattle.bfs_base.specs.Keys.{IsTreeKind};
 ghost use Rattle.bfs_node.specs.Header.{header_at, IsHeader};
 ghost use Rattle.bfs_node.specs.Page.{IsPage, rows_of, row_in, value_of, links_of};
 ghost use Rattle.bfs_txn.specs.Faults.{AreLater};
-ghost use Rattle.bfs_node.specs.declared.fault.PageKind.TheVariants.{Leaf, Interior};
+ghost use Rattle.bfs_node.specs.declared.fault.PageKind.TheVariants.{Header as HeaderKind, Leaf, Interior};
 ghost use Rattle.bfs_btree.specs.Answers.{IsChild, IsLink, IsUnread, IsHeaderFor, IsLeafPage, IsInteriorPage, IsAt};
 ghost use Rattle.bfs_btree.specs.Trees.{IsTreeHeader, page_in, place_of, is_page};
 
@@ -55,6 +55,7 @@ pub fn read_header<P: Pages, L: Ledger>(
     ensures good { IfOk result (λ h. IsHeaderFor kind (P.size pages.old) h) }
     ensures header { IfOk result (λ h. IfSome (P.told pages.old) (λ b. h ≡ header_at (page_in b 0))) }
     ensures refused { IfErr result (IsUnread kind (P.told pages.new) (P.is_cause pages.old pages.new)) }
+    ensures at { IfErr result (IsAt 0 HeaderKind) }
     ensures steps { steps.new ≤ steps.old + 1 }
     ensures told { P.told pages.new ≡ P.told pages.old }
     ensures size { P.size pages.new ≡ P.size pages.old }

@@ -1,20 +1,15 @@
 -- A part of a tree is exchanged for another.
-use Rattle.std.proofs.Common.{◌≡◌, ◌≢◌, ◌≤◌, ◌<◌, ◌+◌, ◌*◌, ◌-◌, ◌%◌, ℕ, ℤ, pos, zero, suc, List, [], ◌∷◌, ◌++◌, Option, Some, None, Bool, true, false, cond, ◌==◌, nat_le, refl, ap, ap₂, sym, ◌∙◌, subst, arith, append_assoc, append-nil, inl, inr}
-use Rattle.std.specs.List.{AllByRecursion}
+use Rattle.std.proofs.Common.{◌≡◌, ◌≢◌, ◌≤◌, ◌+◌, ℕ, zero, suc, List, [], ◌∷◌, Option, Bool, true, false, cond, refl, ap, sym, ◌∙◌, subst, arith}
 use Rattle.bfs_base.specs.Lists.{times}
 use Rattle.bfs_base.specs.declared.kind.KeyKind.{KeyKind}
-use Rattle.bfs_node.specs.Page.{Row}
-use Rattle.bfs_btree.specs.Order.{Key, comes_before, at_most, same_keys}
-use Rattle.bfs_btree.specs.Maps.{assoc, put, without}
-use Rattle.bfs_btree.specs.Shapes.{Body, leaf_body, inner_body, Shape, Shapes, leaf_shape, node_shape, last_shape, more_shapes, place, tree_rows, trees_rows, met_by, met_by_all, leaves_of, leaves_all, children_of, last_child, IsDeep, AreDeep, Stands, StandAll, Entry, a_row, a_bound, key_in, entries_in, entries_of, entries_all, IsAbove, Precedes, AscendAll}
-use Rattle.bfs_btree.specs.Changes.{child_in, value_in, full_of, Same, Others, OnlyAt, SplitLinks, DropLinks, Taken, SplitChild, SplitOff, RowPut, Rooted, StepsDown, Heightens, Inserts}
-use Rattle.bfs_btree.proofs.Placed.{same_held, held_most, held_first, held_end, held_more}
-use Rattle.bfs_btree.specs.Trees.{State, head_or, Linked, FreeFrom, held, is_place, Built, Holds}
-use Rattle.bfs_btree.specs.Ways.{child_for, pick_of, joined, spliced, rows_in, before, behind, leaves_before, leaves_behind, under, instead, before_way, behind_way, leaves_before_way, leaves_behind_way, keys_split, last_split, dropped, IsChain, HasMore, IsLine, keys_without, last_without}
-use Rattle.bfs_btree.proofs.KeyOrder.{IsBelow, less_less, most_less, less_most, not_most, most_itself, less_is_most, less_if_not_same, most_not, below_bound, above_bound, above_more, beyond_row, bound_after, row_above, row_below, same_itself, less_not_same, greater_not_same, same_before, not_itself}
-use Rattle.bfs_btree.proofs.Splice.{all-append, all-more, ascends-left, ascends-right, entries-child, entries-spliced, entries-joined, before-below, behind-above, deep-spliced, times-spliced, times-append, leaves-child, leaves-spliced, same_shape, same_shapes, self}
-use Rattle.bfs_btree.proofs.Way.{entries-under, entries-instead, leaves-under, leaves-instead, deep-instead, times-instead, times-under, times-child, stands-instead, stands-spliced, child-stands, child-deep, place-instead, place-met}
-use Rattle.bfs_btree.proofs.Laws.{rows-shape, rows-append, rows-back, ascends-after, linked-split, one}
+use Rattle.bfs_btree.specs.Order.{Key, at_most}
+use Rattle.bfs_btree.specs.Shapes.{Body, Shape, Shapes, leaf_shape, node_shape, last_shape, more_shapes, place, met_by, children_of, last_child, IsDeep, Stands}
+use Rattle.bfs_btree.specs.Changes.{Others}
+use Rattle.bfs_btree.proofs.Placed.{same_held, held_most}
+use Rattle.bfs_btree.specs.Trees.{State, head_or, FreeFrom, Built}
+use Rattle.bfs_btree.specs.Ways.{child_for, spliced, under, instead, keys_split, last_split}
+use Rattle.bfs_btree.proofs.Splice.{self}
+use Rattle.bfs_btree.proofs.Way.{deep-instead, times-instead, times-under, stands-instead, child-stands, child-deep, place-instead}
 
 -- two children in the place of one
 pub keys-two : (kind : KeyKind) → (ts : Shapes) (k : Key) (l : Shape) (key : Key) (r : Shape) → place l ≡ place (child_for kind ts k)

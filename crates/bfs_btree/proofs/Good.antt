@@ -1,8 +1,8 @@
 -- The test of a page, and what it says.
-use Rattle.std.proofs.Common.{◌≡◌, ◌≤◌, ◌<◌, ◌+◌, ◌-◌, ℕ, zero, suc, List, length, Bool, true, false, ◌==◌, ◌&&◌, nat_le, refl, ap, sym, ◌∙◌, subst, arith, ◌⊎◌, inl, inr}
+use Rattle.std.proofs.Common.{◌≡◌, ◌≤◌, ◌<◌, ◌+◌, ℕ, zero, suc, List, length, Bool, true, false, ◌==◌, ◌&&◌, nat_le, refl, sym, subst, arith}
 use Rattle.bfs_base.specs.declared.kind.KeyKind.{KeyKind}
 use Rattle.bfs_node.specs.Faults.{IsPageRefusal}
-use Rattle.bfs_node.specs.Page.{HasLayout, IsPage, HasEnd, HasBounds, HasLastEnd, rows_of, taken_by, count_at, key_bytes_at, start_at, end_at, least_key, most_key}
+use Rattle.bfs_node.specs.Page.{HasLayout, IsPage, HasEnd, HasBounds, HasLastEnd, taken_by, count_at, key_bytes_at, start_at, end_at, least_key, most_key}
 use Rattle.bfs_node.specs.declared.fault.PageFault.{PageFault}
 use Rattle.bfs_node.specs.declared.fault.PageFault.TheVariants.{Magic, Size, Kind, Bounds, Ends}
 use Rattle.bfs_node.proofs.PageLayout.{keys-of_ends, ends-of_keys}

@@ -1,5 +1,5 @@
 -- Counts of what lies below, after two calls.
-use Rattle.std.proofs.Common.{◌≡◌, ◌≤◌, ℕ, ◌∙◌, arith}
+use Rattle.std.proofs.Common.{◌∙◌, arith}
 use Rattle.bfs_txn.specs.Faults.{Counts, AreLater}
 
 pub later-twice : {a b c : Counts} → AreLater a b → AreLater b c → AreLater a c

@@ -14,5 +14,7 @@ pub mod Sorted
 pub mod Splice
 pub mod Split
 pub mod Steps
+pub mod Taking
 pub mod UpTo
 pub mod Way
+pub mod Written

@@ -1,22 +1,22 @@
 -- Pages of a tree are of their kinds.
-use Rattle.std.proofs.Common.{◌≡◌, ◌≢◌, ◌≤◌, ◌<◌, ◌+◌, ◌-◌, ℕ, ℤ, pos, negsuc, zero, suc, List, [], ◌∷◌, ◌++◌, length, Option, Some, None, IfSome, Bool, true, false, cond, ◌==◌, nat_le, refl, ap, ap₂, sym, ◌∙◌, subst, arith, inl, inr, ◌⊎◌}
+use Rattle.std.proofs.Common.{◌≡◌, ◌≤◌, ◌<◌, ◌+◌, ℕ, ℤ, pos, negsuc, zero, suc, List, [], ◌∷◌, ◌++◌, length, Option, Some, None, IfSome, Bool, true, false, cond, ◌==◌, refl, ap, ap₂, sym, ◌∙◌, subst, arith, inl, inr}
 use Rattle.std.specs.List.{AllByRecursion}
 use Rattle.bfs_base.specs.Lists.{times}
 use Rattle.bfs_base.specs.declared.kind.KeyKind.{KeyKind}
 use Rattle.bfs_node.specs.Page.{Row}
-use Rattle.bfs_btree.specs.Order.{Key, comes_before, at_most, same_keys}
-use Rattle.bfs_btree.specs.Maps.{assoc, put, without}
-use Rattle.bfs_btree.specs.Shapes.{Body, leaf_body, inner_body, Shape, Shapes, leaf_shape, node_shape, last_shape, more_shapes, place, tree_rows, trees_rows, met_by, met_by_all, leaves_of, leaves_all, children_of, last_child, IsDeep, AreDeep, Stands, StandAll, Entry, a_row, a_bound, key_in, entries_in, entries_of, entries_all, IsAbove, Precedes, AscendAll}
-use Rattle.bfs_btree.specs.Trees.{State, head_or, Linked, FreeFrom, held, is_place, Built, Holds}
-use Rattle.bfs_btree.specs.Ways.{child_for, pick_of, joined, spliced, rows_in, before, behind, leaves_before, leaves_behind, under, instead, before_way, behind_way, leaves_before_way, leaves_behind_way, keys_split, last_split, dropped, IsChain, HasMore, IsLine, keys_without, last_without}
+use Rattle.bfs_btree.specs.Order.{Key, comes_before}
+use Rattle.bfs_btree.specs.Maps.{assoc}
+use Rattle.bfs_btree.specs.Shapes.{Body, leaf_body, inner_body, Shape, Shapes, leaf_shape, node_shape, last_shape, more_shapes, place, tree_rows, met_by, met_by_all, leaves_of, children_of, last_child, IsDeep, Stands, a_row, a_bound, entries_in, entries_of, entries_all, Precedes, AscendAll}
+use Rattle.bfs_btree.specs.Trees.{State, head_or, Linked, held, Built, Holds}
+use Rattle.bfs_btree.specs.Ways.{pick_of, under, before_way, behind_way, leaves_before_way, leaves_behind_way}
 use Rattle.bfs_node.specs.Page.{row_in, value_of, rows_of, links_of}
 use Rattle.bfs_btree.specs.Answers.{IsChild, IsLink, IsLeafPage, IsInteriorPage, IsLeafFor}
-use Rattle.bfs_btree.specs.Trees.{page_in, place_of, is_page, body_in, body_of, children_in, neighbours_in, state_of, IsTree}
+use Rattle.bfs_btree.specs.Trees.{page_in, place_of, is_page, body_in, body_of, children_in, state_of}
 use Rattle.bfs_btree.specs.Ways.{KeysAscend}
 use Rattle.bfs_btree.proofs.Placed.{held_most, held_place}
-use Rattle.bfs_btree.proofs.Splice.{all-left, all-right, all-append, all-more, ascends-left, ascends-right, times-append, self}
-use Rattle.bfs_btree.proofs.Way.{entries-under, leaves-under, times-under, times-child, place-met, child-stands}
-use Rattle.bfs_btree.proofs.Exchange.{stands-under, met-once}
+use Rattle.bfs_btree.proofs.Splice.{all-right, ascends-left, ascends-right, times-append, self}
+use Rattle.bfs_btree.proofs.Way.{entries-under, leaves-under, times-under, place-met}
+use Rattle.bfs_btree.proofs.Exchange.{stands-under}
 use Rattle.bfs_btree.proofs.Split.{times-leaves}
 use Rattle.bfs_btree.proofs.Steps.{deep-under, leaf-of, node-at, pick-child}
 use Rattle.bfs_btree.proofs.Looked.{leaf-value}

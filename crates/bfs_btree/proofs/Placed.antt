@@ -1,5 +1,5 @@
 -- Where pages of a stream begin.
-use Rattle.std.proofs.Common.{◌≡◌, ◌≤◌, ◌<◌, ◌+◌, ◌%◌, ℕ, List, [], ◌∷◌, Bool, true, false, cond, ◌==◌, ◌&&◌, nat_le, refl, ap, arith}
+use Rattle.std.proofs.Common.{◌≡◌, ◌≤◌, ◌+◌, ◌%◌, ℕ, [], ◌∷◌, Bool, true, false, cond, refl, ap, arith}
 use Rattle.bfs_base.specs.Lists.{times}
 use Rattle.bfs_btree.specs.Trees.{held, is_place}
 

@@ -1,12 +1,12 @@
 -- Rows whose keys ascend: where a key is, what is picked there, what is put there.
-use Rattle.std.proofs.Common.{◌≡◌, ◌≤◌, ◌<◌, ◌+◌, ◌-◌, ℕ, ℤ, pos, zero, suc, List, [], ◌∷◌, ◌++◌, length, get_or, take, drop, insert, Option, Some, None, Ok, Err, Bool, true, false, cond, nat_le, refl, ap, ap₂, sym, ◌∙◌, subst, arith}
+use Rattle.std.proofs.Common.{◌≡◌, ◌≤◌, ◌<◌, ◌+◌, ℕ, ℤ, zero, suc, List, [], ◌∷◌, length, insert, Some, None, Ok, Err, Bool, true, false, cond, nat_le, refl, ap, sym, ◌∙◌, subst, arith}
 use Rattle.std.specs.List.{AllByRecursion}
-use Rattle.std.specs.Ordering.{is_lt, is_eq}
+use Rattle.std.specs.Ordering.{is_lt}
 use Rattle.std.specs.declared.cmp.Ordering.TheVariants.{Less}
 use Rattle.bfs_base.specs.Keys.{key_cmp}
 use Rattle.bfs_base.specs.declared.kind.KeyKind.{KeyKind}
-use Rattle.bfs_node.specs.Page.{Row, row_in, value_of, key_of}
-use Rattle.bfs_node.specs.Search.{key_at, IsPlace} 
+use Rattle.bfs_node.specs.Page.{Row, row_in, value_of}
+use Rattle.bfs_node.specs.Search.{key_at, IsPlace}
 use Rattle.bfs_node.specs.Search.{Ascends as IndexAscends}
 use Rattle.bfs_btree.specs.Order.{Key, comes_before, at_most, same_keys}
 use Rattle.bfs_btree.specs.Maps.{assoc, put}

@@ -1,15 +1,12 @@
 -- Children in the place of one: entries, depth, pages, leaves.
-use Rattle.std.proofs.Common.{◌≡◌, ◌≢◌, ◌≤◌, ◌<◌, ◌+◌, ◌*◌, ◌-◌, ◌%◌, ℕ, ℤ, pos, zero, suc, List, [], ◌∷◌, ◌++◌, Option, Some, None, Bool, true, false, cond, ◌==◌, nat_le, refl, ap, ap₂, sym, ◌∙◌, subst, arith, append_assoc, append-nil, inl, inr}
+use Rattle.std.proofs.Common.{◌≡◌, ◌≤◌, ◌+◌, ℕ, List, [], ◌∷◌, ◌++◌, Option, Bool, true, false, cond, refl, ap, sym, ◌∙◌, arith, append_assoc, append-nil}
 use Rattle.std.specs.List.{AllByRecursion}
 use Rattle.bfs_base.specs.Lists.{times}
 use Rattle.bfs_base.specs.declared.kind.KeyKind.{KeyKind}
-use Rattle.bfs_node.specs.Page.{Row}
-use Rattle.bfs_btree.specs.Order.{Key, comes_before, at_most, same_keys}
-use Rattle.bfs_btree.specs.Maps.{assoc, put, without}
-use Rattle.bfs_btree.specs.Shapes.{Body, leaf_body, inner_body, Shape, Shapes, leaf_shape, node_shape, last_shape, more_shapes, place, tree_rows, trees_rows, met_by, met_by_all, leaves_of, leaves_all, children_of, last_child, IsDeep, AreDeep, Stands, StandAll, Entry, a_row, a_bound, key_in, entries_in, entries_of, entries_all, IsAbove, Precedes, AscendAll}
-use Rattle.bfs_btree.specs.Trees.{State, head_or, Linked, FreeFrom, held, is_place, Built, Holds}
-use Rattle.bfs_btree.specs.Ways.{child_for, pick_of, joined, spliced, rows_in, before, behind, leaves_before, leaves_behind, under, instead, before_way, behind_way, leaves_before_way, leaves_behind_way, keys_split, last_split, dropped, IsChain, HasMore, IsLine, keys_without, last_without}
-use Rattle.bfs_btree.proofs.KeyOrder.{IsBelow, less_less, most_less, less_most, not_most, most_itself, less_is_most, less_if_not_same, most_not, below_bound, above_bound, above_more, beyond_row, bound_after}
+use Rattle.bfs_btree.specs.Order.{Key, comes_before, at_most}
+use Rattle.bfs_btree.specs.Shapes.{Body, Shape, Shapes, leaf_shape, node_shape, last_shape, more_shapes, met_by, met_by_all, leaves_of, leaves_all, AreDeep, Stands, StandAll, Entry, a_bound, entries_of, entries_all, IsAbove, Precedes, AscendAll}
+use Rattle.bfs_btree.specs.Ways.{child_for, joined, spliced, before, behind, leaves_before, leaves_behind}
+use Rattle.bfs_btree.proofs.KeyOrder.{IsBelow, not_most, below_bound, above_bound}
 
 pub all-append : (P : Entry → Type 0) (xs ys : List Entry) → AllByRecursion P xs → AllByRecursion P ys → AllByRecursion P (xs ++ ys)
 all-append P [] ys a b = b

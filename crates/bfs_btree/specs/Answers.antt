@@ -1,7 +1,6 @@
 -- Which page is of which kind, and why a call on a tree is refused.
 use Rattle.std.specs.Prelude.{◌≡◌, ◌≤◌, ◌<◌, ◌⊎◌, ℕ, negsuc, List, length, Option, Some, None, IfSome, true}
 use Rattle.bfs_base.specs.declared.kind.KeyKind.{KeyKind}
-use Rattle.bfs_node.specs.Header.{header_at}
 use Rattle.bfs_node.specs.Page.{rows_of, row_in, value_of, links_of}
 use Rattle.bfs_node.specs.declared.header.Header.{Header}
 use Rattle.bfs_node.specs.declared.fault.PageKind.{PageKind}
@@ -14,7 +13,7 @@ use Rattle.bfs_btree.specs.Maps.{assoc}
 use Rattle.bfs_btree.specs.Order.{Key}
 use Rattle.bfs_btree.specs.Shapes.{Shape, leaf_shape, tree_rows, leaves_of}
 use Rattle.bfs_btree.specs.Ways.{under}
-use Rattle.bfs_btree.specs.Trees.{state_of, is_place, page_in, place_of, is_page, neighbours_in, free_in, IsTreeHeader}
+use Rattle.bfs_btree.specs.Trees.{header_in, state_of, is_place, page_in, place_of, is_page, neighbours_in, free_in, IsTreeHeader}
 
 -- a page other than the header begins there
 abbrev pub IsChild : ℕ → ℕ → Type 0
@@ -53,7 +52,7 @@ pub record IsInteriorPage (kind : KeyKind) (size : ℕ) (page : List ℕ) : Type
 
 -- the page at this byte is of this kind: its fields are right, and its links lead to pages
 abbrev pub IsOfKind : KeyKind → List ℕ → ℕ → PageKind → Type 0
-IsOfKind kind bytes at HeaderKind = (at ≡ 0) × IsHeaderPage kind bytes (header_at (page_in bytes 0))
+IsOfKind kind bytes at HeaderKind = (at ≡ 0) × IsHeaderPage kind bytes (header_in bytes)
 IsOfKind kind bytes at Interior = IsInteriorPage kind (length bytes) (page_in bytes at)
 IsOfKind kind bytes at Leaf = IsLeafPage kind (length bytes) (page_in bytes at)
 IsOfKind kind bytes at Fragment = Unit {0}
@@ -92,3 +91,27 @@ abbrev pub IsFound : KeyKind → List ℕ → Shape → Key → Option Found →
 IsFound kind bytes t k None = assoc kind (tree_rows t) k ≡ None
 IsFound kind bytes t k (Some found) =
     (assoc kind (tree_rows t) k ≡ Some found.value) × (1 ≤ times found.leaf (leaves_of t)) × (assoc kind (rows_of (page_in bytes found.leaf)) k ≡ Some found.value)
+
+-- a page isn't of its kind, a call of the pages failed, or there is no room for a number
+abbrev pub IsRefused : {F : Type 0} → KeyKind → Option (List ℕ) → (F → Type 0) → TreeFault F → Type 0
+IsRefused kind told cause Exists = ⊥
+IsRefused kind told cause Absent = ⊥
+IsRefused kind told cause (Damaged page sort) = IfSome told (λ bytes. ¬ IsOfKind kind bytes page sort)
+IsRefused kind told cause (Pages fault) = cause fault
+IsRefused kind told cause NoMemory = Unit {0}
+
+-- no page is damaged
+abbrev pub IsSpared : {F : Type 0} → TreeFault F → Type 0
+IsSpared Exists = ⊥
+IsSpared Absent = ⊥
+IsSpared (Damaged page sort) = ⊥
+IsSpared (Pages fault) = Unit {0}
+IsSpared NoMemory = Unit {0}
+
+-- a call of the pages failed, or there is no room for a number
+abbrev pub IsTurned : {F : Type 0} → (F → Type 0) → TreeFault F → Type 0
+IsTurned cause Exists = ⊥
+IsTurned cause Absent = ⊥
+IsTurned cause (Damaged page sort) = ⊥
+IsTurned cause (Pages fault) = cause fault
+IsTurned cause NoMemory = Unit {0}

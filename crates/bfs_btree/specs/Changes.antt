@@ -1,11 +1,11 @@
 -- What the calls on pages do to what the pages say.
-use Rattle.std.specs.Prelude.{◌≡◌, ◌≢◌, ◌≤◌, ◌<◌, ◌+◌, ◌%◌, ℕ, ℤ, zero, suc, List, [], ◌∷◌, ◌++◌, length, Option, Some, None, ◌⊎◌, Bool, true, false, if◌then◌else◌, nat_le}
+use Rattle.std.specs.Prelude.{◌≡◌, ◌≢◌, ◌≤◌, ◌+◌, ◌%◌, ℕ, ℤ, suc, List, [], ◌∷◌, ◌++◌, length, Option, Some, None, ◌⊎◌, Bool, false, nat_le}
 use Rattle.bfs_base.specs.declared.kind.KeyKind.{KeyKind}
 use Rattle.bfs_node.specs.Page.{Row, taken_by}
 use Rattle.bfs_btree.specs.Order.{Key}
-use Rattle.bfs_btree.specs.Maps.{assoc, put, without}
-use Rattle.bfs_btree.specs.Shapes.{Body, leaf_body, inner_body, Shape, Shapes, node_shape, tree_rows, place, met_by, Stands, IsDeep}
-use Rattle.bfs_btree.specs.Ways.{child_for, pick_of, under, keys_split, last_split, keys_without, last_without, IsLine, HasMore}
+use Rattle.bfs_btree.specs.Maps.{assoc, put}
+use Rattle.bfs_btree.specs.Shapes.{Body, leaf_body, inner_body, Shape, tree_rows, place}
+use Rattle.bfs_btree.specs.Ways.{pick_of, under, keys_split, last_split}
 use Rattle.bfs_btree.specs.Trees.{State, Holds}
 
 -- the child of an interior page that a key leads to

@@ -5,3 +5,4 @@ pub mod Order
 pub mod Shapes
 pub mod Trees
 pub mod Ways
+pub mod Writes

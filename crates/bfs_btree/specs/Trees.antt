@@ -1,12 +1,11 @@
 -- What the pages of a stream say, and that a tree stands there. A place is a byte offset in the stream; page 0 is the
 -- header, so the place 0 stands for none.
-use Rattle.std.specs.Prelude.{◌≡◌, ◌≤◌, ◌+◌, ◌-◌, ◌*◌, ◌%◌, ℕ, ℤ, pos, negsuc, zero, suc, List, [], ◌∷◌, Option, Some, None, Bool, true, false, ◌&&◌, ◌==◌, nat_le, if◌then◌else◌, length}
+use Rattle.std.specs.Prelude.{◌≡◌, ◌≤◌, ◌+◌, ◌-◌, ◌%◌, ℕ, ℤ, pos, negsuc, zero, suc, List, [], ◌∷◌, Option, Some, None, Bool, true, ◌&&◌, ◌==◌, nat_le, if◌then◌else◌, length}
 use Rattle.bfs_base.specs.Lists.{times}
 use Rattle.bfs_base.specs.declared.kind.KeyKind.{KeyKind}
 use Rattle.bfs_node.specs.Header.{header_at, code_of, IsHeader}
 use Rattle.bfs_node.specs.declared.header.Header.{Header}
 use Rattle.bfs_node.specs.Page.{Row, rows_of, links_of, taken_by, count_at, key_bytes_at, start_at, end_at, least_key, most_key}
-use Rattle.bfs_node.specs.declared.links.Links.{Links}
 use Rattle.bfs_txn.specs.Pages.{page_at}
 use Rattle.bfs_btree.specs.Order.{Key}
 use Rattle.bfs_btree.specs.Shapes.{Body, leaf_body, inner_body, Shape, tree_rows, met_by, leaves_of, entries_of, place, Stands, IsDeep, AscendAll}
@@ -15,9 +14,12 @@ use Rattle.bfs_btree.specs.Shapes.{Body, leaf_body, inner_body, Shape, tree_rows
 abbrev pub is_place : ℕ → ℕ → Bool
 is_place size x = nat_le (x + 1) size && (x % 1024 == 0)
 
--- the page that begins there
+-- the page that begins there, other than the header
 abbrev pub page_in : List ℕ → ℕ → List ℕ
-page_in bytes x = if is_place (length bytes) x then page_at bytes x else []
+page_in bytes x = if nat_le 1 x && is_place (length bytes) x then page_at bytes x else []
+
+abbrev pub header_in : List ℕ → Header
+header_in bytes = header_at (page_at bytes 0)
 
 -- The place that a link names: -1 names none, which is 0. What can be no link gives 1, where no page begins.
 abbrev pub place_of : ℤ → ℕ
@@ -80,9 +82,9 @@ state_of kind bytes = record {
   bodies = λ x. body_in kind (page_in bytes x);
   links = λ x. neighbours_in (page_in bytes x);
   frees = λ x. free_in (page_in bytes x);
-  root = place_of (header_at (page_in bytes 0)).root_pointer;
-  levels = (header_at (page_in bytes 0)).levels - 1;
-  free = place_of (header_at (page_in bytes 0)).free_pointer;
+  root = place_of (header_in bytes).root_pointer;
+  levels = (header_in bytes).levels - 1;
+  free = place_of (header_in bytes).free_pointer;
   size = length bytes;
 }
 
@@ -129,7 +131,7 @@ pub record Holds (kind : KeyKind) (st : State) (reached : List ℕ) (t : Shape) 
 
 -- a stream's bytes are those of a tree with these pages that values reach, this shape and this free list
 pub record IsTree (kind : KeyKind) (bytes : List ℕ) (reached : List ℕ) (t : Shape) (fs : List ℕ) : Type 0 where
-  pub header : IsTreeHeader kind (length bytes) (header_at (page_in bytes 0))
+  pub header : IsTreeHeader kind (length bytes) (header_in bytes)
   pub holds : Holds kind (state_of kind bytes) reached t fs
 
 -- The rows of a stream's bytes: the stream has a tree of some shape, whose leaves have these rows.

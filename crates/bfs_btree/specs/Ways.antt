@@ -4,7 +4,7 @@ use Rattle.std.specs.List.{AllByRecursion}
 use Rattle.bfs_base.specs.declared.kind.KeyKind.{KeyKind}
 use Rattle.bfs_node.specs.Page.{Row}
 use Rattle.bfs_btree.specs.Order.{Key, comes_before, at_most}
-use Rattle.bfs_btree.specs.Shapes.{Body, leaf_body, inner_body, Shape, Shapes, leaf_shape, node_shape, last_shape, more_shapes, Entry, a_row, a_bound, entries_of, entries_all, leaves_of, leaves_all}
+use Rattle.bfs_btree.specs.Shapes.{Shape, Shapes, leaf_shape, node_shape, last_shape, more_shapes, Entry, a_row, a_bound, entries_of, entries_all, leaves_of, leaves_all}
 
 -- the child that a key leads to: the first whose key is not less
 abbrev pub child_for : KeyKind → Shapes → Key → Shape

@@ -1,13 +1,12 @@
 // Looks a key up in a tree.
 ghost use Rattle.std.specs.Prelude.{◌≡◌, ◌≤◌, ◌<◌, ◌+◌, ℕ, List, Some, length, OnOk, IfOk, IfErr, IfSome, MatchResult};
 ghost use Rattle.bfs_base.specs.Keys.{IsTreeKind};
-ghost use Rattle.bfs_node.specs.Header.{header_at};
 ghost use Rattle.bfs_node.specs.Page.{IsPage};
 ghost use Rattle.bfs_node.specs.Search.{IsSought};
 ghost use Rattle.bfs_txn.specs.Faults.{AreLater};
 ghost use Rattle.bfs_btree.specs.Answers.{IsChild, IsUnread, IsOfPages, IsLeafFor, IsFound};
 ghost use Rattle.bfs_btree.specs.Shapes.{Shape};
-ghost use Rattle.bfs_btree.specs.Trees.{IsTree, page_in};
+ghost use Rattle.bfs_btree.specs.Trees.{header_in, IsTree, page_in};
 
 use crate::look::{child_for, look_up};
 use crate::places::place;
@@ -38,7 +37,7 @@ pub fn leaf_for<P: Pages, L: Ledger>(
     ensures length { length page.new ≡ 1024 }
     ensures leaf { (b reached : List ℕ) (t : Shape) (fs : List ℕ) → P.told pages.old ≡ Some b → IsTree kind b reached t fs → MatchResult result (λ at. IsLeafFor kind b t key.now at page.new) IsOfPages }
     ensures refused { IfErr result (IsUnread kind (P.told pages.new) (P.is_cause pages.old pages.new)) }
-    ensures steps { (b : List ℕ) → P.told pages.old ≡ Some b → steps.new ≤ steps.old + (header_at (page_in b 0)).levels + 1 }
+    ensures steps { (b : List ℕ) → P.told pages.old ≡ Some b → steps.new ≤ steps.old + (header_in b).levels + 1 }
     ensures told { P.told pages.new ≡ P.told pages.old }
     ensures size { P.size pages.new ≡ P.size pages.old }
     ensures counts { AreLater (P.counts pages.old) (P.counts pages.new) }
@@ -76,7 +75,7 @@ pub fn find<P: Pages, L: Ledger>(
     requires key { IsSought kind key.now }
     ensures found { (b reached : List ℕ) (t : Shape) (fs : List ℕ) → P.told pages.old ≡ Some b → IsTree kind b reached t fs → MatchResult result (IsFound kind b t key.now) IsOfPages }
     ensures refused { IfErr result (IsUnread kind (P.told pages.new) (P.is_cause pages.old pages.new)) }
-    ensures steps { (b : List ℕ) → P.told pages.old ≡ Some b → steps.new ≤ steps.old + (header_at (page_in b 0)).levels + 1 }
+    ensures steps { (b : List ℕ) → P.told pages.old ≡ Some b → steps.new ≤ steps.old + (header_in b).levels + 1 }
     ensures told { P.told pages.new ≡ P.told pages.old }
     ensures size { P.size pages.new ≡ P.size pages.old }
     ensures counts { AreLater (P.counts pages.old) (P.counts pages.new) }

@@ -1,12 +1,12 @@
 // Reads the pages of a tree.
 ghost use Rattle.std.specs.Prelude.{◌≡◌, ◌≤◌, ◌<◌, ◌+◌, ◌↔◌, ℕ, pos, negsuc, length, OnOk, IfOk, IfErr, IfSome, IsTrue};
 ghost use Rattle.bfs_base.specs.Keys.{IsTreeKind};
-ghost use Rattle.bfs_node.specs.Header.{header_at, IsHeader};
+ghost use Rattle.bfs_node.specs.Header.{IsHeader};
 ghost use Rattle.bfs_node.specs.Page.{IsPage, rows_of, row_in, value_of, links_of};
 ghost use Rattle.bfs_txn.specs.Faults.{AreLater};
 ghost use Rattle.bfs_node.specs.declared.fault.PageKind.TheVariants.{Header as HeaderKind, Leaf, Interior};
 ghost use Rattle.bfs_btree.specs.Answers.{IsChild, IsLink, IsUnread, IsHeaderFor, IsLeafPage, IsInteriorPage, IsAt};
-ghost use Rattle.bfs_btree.specs.Trees.{IsTreeHeader, page_in, place_of, is_page};
+ghost use Rattle.bfs_btree.specs.Trees.{header_in, IsTreeHeader, page_in, place_of, is_page};
 
 use crate::places::{is_child, is_link, place};
 use bfs_node::{
@@ -53,7 +53,7 @@ pub fn read_header<P: Pages, L: Ledger>(
 ) -> Result<Header, TreeFault<P::Fault>>
     requires kind { IsTreeKind kind }
     ensures good { IfOk result (λ h. IsHeaderFor kind (P.size pages.old) h) }
-    ensures header { IfOk result (λ h. IfSome (P.told pages.old) (λ b. h ≡ header_at (page_in b 0))) }
+    ensures header { IfOk result (λ h. IfSome (P.told pages.old) (λ b. h ≡ header_in b)) }
     ensures refused { IfErr result (IsUnread kind (P.told pages.new) (P.is_cause pages.old pages.new)) }
     ensures at { IfErr result (IsAt 0 HeaderKind) }
     ensures steps { steps.new ≤ steps.old + 1 }

@@ -1,9 +1,7 @@
-use Rattle.std.proofs.Common.{◌≡◌, ◌≤◌, ℕ, List, Option, Some, None, ap, sym, ◌∙◌, subst, refl, rules, w64, to_z, of_z, ℤ}
+use Rattle.std.proofs.Common.{◌≡◌, ℕ, List, Some, ap, sym, ◌∙◌, rules, w64, to_z, of_z, ℤ}
 use Rattle.bfs_node.specs.Page.{rows_of}
-use Rattle.bfs_base.specs.Lists.{times}
 use Rattle.bfs_btree.specs.Maps.{assoc}
-use Rattle.bfs_btree.specs.Shapes.{tree_rows, leaves_of}
-use Rattle.bfs_btree.specs.Trees.{page_in, state_of}
+use Rattle.bfs_btree.specs.Trees.{page_in}
 use Rattle.bfs_btree.proofs.OfKind.{found-in-leaf}
 use Rattle.bfs_btree.proofs.finding.find.Goals as goal
 

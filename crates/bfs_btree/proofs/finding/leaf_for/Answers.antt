@@ -1,11 +1,9 @@
-use Rattle.std.proofs.Common.{◌≡◌, ◌≤◌, ◌<◌, ◌+◌, ◌-◌, ℕ, List, Option, Some, None, IfSome, length, ap, sym, ◌∙◌, subst, arith, rules, w64, to_z, of_z, refl, suc}
-use Rattle.bfs_node.specs.Header.{header_at}
+use Rattle.std.proofs.Common.{◌≡◌, ◌+◌, ℕ, List, ap, sym, ◌∙◌, subst, arith, rules, w64, to_z, of_z, refl, suc}
 use Rattle.bfs_node.specs.Page.{rows_of, links_of}
 use Rattle.bfs_node.specs.declared.fault.PageKind.TheVariants.{Header as HeaderKind, Interior, Leaf}
-use Rattle.bfs_txn.specs.Faults.{AreLater}
-use Rattle.bfs_btree.specs.Answers.{IsChild, IsOfPages, IsUnread, IsInteriorPage}
-use Rattle.bfs_btree.specs.Shapes.{Shape, place, leaf_shape}
-use Rattle.bfs_btree.specs.Trees.{IsTree, page_in, place_of, state_of, children_in}
+use Rattle.bfs_btree.specs.Answers.{IsChild, IsInteriorPage}
+use Rattle.bfs_btree.specs.Shapes.{place, leaf_shape}
+use Rattle.bfs_btree.specs.Trees.{header_in, page_in, place_of, state_of, children_in}
 use Rattle.bfs_btree.specs.Ways.{under, pick_of, KeysAscend}
 use Rattle.bfs_btree.proofs.Faulted.{of-pages, unread-before, tree-header}
 use Rattle.bfs_btree.proofs.Later.{later-twice}
@@ -30,10 +28,10 @@ loop-left-init g c =
       frame = c.in-Ok.ensures.frame;
       goes_on = c.in-Ok.ensures.goes_on;
       steps = λ b e.
-          let h : c.in-Ok.header.levels ≡ (header_at (page_in b 0)).levels = ap (λ z. z.levels) (if_some (λ b. c.in-Ok.header ≡ header_at (page_in b 0)) (g.P.Pages.told c.args.pages.now) b c.in-Ok.ensures.header e) in
+          let h : c.in-Ok.header.levels ≡ (header_in b).levels = ap (λ z. z.levels) (if_some (λ b. c.in-Ok.header ≡ header_in b) (g.P.Pages.told c.args.pages.now) b c.in-Ok.ensures.header e) in
           omega (arith, h, c.in-Ok.ensures.steps);
       way = λ b reached t fs e tree.
-          let h = if_some (λ b. c.in-Ok.header ≡ header_at (page_in b 0)) (g.P.Pages.told c.args.pages.now) b c.in-Ok.ensures.header e in
+          let h = if_some (λ b. c.in-Ok.header ≡ header_in b) (g.P.Pages.told c.args.pages.now) b c.in-Ok.ensures.header e in
           (0, omega (arith, ap (λ z. z.levels) h), tree.holds.built.root ∙ sym (at ∙ ap (λ z. place_of z.root_pointer) h));
     }
 
@@ -88,10 +86,12 @@ loop-left-preserved g c = record {
       if_some (λ b. c.read_interior.new.page ≡ page_in b c.loop-left.at) (g.P.Pages.told c.loop-left.pages) b c.in-Ok-read_interior.ensures.read (c.loop-left.invariant.told ∙ e) in
       let p = inner-page c.args.kind b reached t fs w.0 c.args.key.now c.loop-left.at tree.holds (omega (arith, w.1, c.loop-left-test.true)) w.2 in
       let up : KeysAscend c.args.kind (rows_of c.read_interior.new.page) = subst (λ (z : List ℕ). KeysAscend c.args.kind (rows_of z)) (sym r) p.1 in
-      let next : suc w.0 ≡ w.0 + 1 = omega (arith) in
-      (w.0 + 1, omega (arith, w.1, c.loop-left-test.true),
-      subst (λ (n : ℕ). place (under c.args.kind n t c.args.key.now) ≡ c.child_for-at.result) next
-      (p.2 c.child_for-at.result (subst (λ (z : List ℕ). pick_of c.args.kind (children_in (rows_of z)) (place_of (links_of z).overflow) c.args.key.now ≡ c.child_for-at.result) r (c.child_for-at.ensures.way up))));
+      let next : suc w.0 ≡ w.0 + 1 = omega (arith) in (
+        w.0 + 1,
+        omega (arith, w.1, c.loop-left-test.true),
+        subst (λ (n : ℕ). place (under c.args.kind n t c.args.key.now) ≡ c.child_for-at.result) next
+            (p.2 c.child_for-at.result (subst (λ (z : List ℕ). pick_of c.args.kind (children_in (rows_of z)) (place_of (links_of z).overflow) c.args.key.now ≡ c.child_for-at.result) r (c.child_for-at.ensures.way up))),
+      );
 }
 
 pub read_leaf-requires-clause-at : goal.read_leaf-requires-clause-at

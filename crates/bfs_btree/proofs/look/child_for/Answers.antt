@@ -1,8 +1,7 @@
-use Rattle.std.proofs.Common.{◌≡◌, ◌≤◌, ◌<◌, ℕ, Bool, true, false, nat_le, refl, ap, sym, ◌∙◌, subst, arith, rules, w64, to_z, of_z, length}
+use Rattle.std.proofs.Common.{◌≡◌, ap, sym, ◌∙◌, subst, rules, w64, to_z, of_z}
 use Rattle.bfs_node.specs.Page.{rows_of, links_of}
-use Rattle.bfs_btree.specs.Answers.{IsChild, IsInteriorPage}
+use Rattle.bfs_btree.specs.Answers.{IsChild}
 use Rattle.bfs_btree.specs.Trees.{place_of}
-use Rattle.bfs_btree.specs.Ways.{link_at}
 use Rattle.bfs_btree.proofs.Sorted.{pick-first, link-is}
 use Rattle.bfs_btree.proofs.look.child_for.Goals as goal
 

@@ -1,4 +1,4 @@
-use Rattle.std.proofs.Common.{◌≡◌, ap, sym, ◌∙◌, arith, rules, w64, to_z, of_z}
+use Rattle.std.proofs.Common.{◌≡◌, sym, ◌∙◌, arith, rules, w64, to_z, of_z}
 use Rattle.bfs_node.specs.Page.{rows_of, links_of}
 use Rattle.bfs_btree.proofs.Sorted.{link-in, link-end}
 use Rattle.bfs_btree.proofs.look.child_link.Goals as goal

@@ -1,6 +1,5 @@
-use Rattle.std.proofs.Common.{◌≡◌, ap, sym, ◌∙◌, subst, Ok, Err, Some, rules, w64, to_z, of_z, ℤ}
-use Rattle.bfs_node.specs.Page.{rows_of, row_in, value_of}
-use Rattle.bfs_node.specs.Search.{IsPlace}
+use Rattle.std.proofs.Common.{◌≡◌, ap, sym, ◌∙◌, Some, rules, w64, to_z, of_z, ℤ}
+use Rattle.bfs_node.specs.Page.{rows_of}
 use Rattle.bfs_btree.proofs.Sorted.{by-index, assoc-found, assoc-missed}
 use Rattle.bfs_btree.proofs.look.look_up.Goals as goal
 

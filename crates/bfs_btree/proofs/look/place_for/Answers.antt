@@ -1,6 +1,4 @@
-use Rattle.std.proofs.Common.{ap, sym, ◌∙◌, subst, Ok, Err}
 use Rattle.bfs_node.specs.Page.{rows_of}
-use Rattle.bfs_node.specs.Search.{IsPlace}
 use Rattle.bfs_btree.proofs.Sorted.{by-index, first-found, first-missed}
 use Rattle.bfs_btree.proofs.look.place_for.Goals as goal
 

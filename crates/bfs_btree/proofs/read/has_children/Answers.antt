@@ -1,4 +1,4 @@
-use Rattle.std.proofs.Common.{◌≡◌, ◌<◌, ℕ, ap, sym, ◌∙◌, subst, arith, rules, w64, to_z, of_z}
+use Rattle.std.proofs.Common.{◌≡◌, ap, ◌∙◌, subst, arith, rules, w64, to_z, of_z}
 use Rattle.bfs_node.specs.Page.{rows_of, row_in, value_of}
 use Rattle.bfs_btree.specs.Answers.{IsChild}
 use Rattle.bfs_btree.specs.Trees.{place_of}

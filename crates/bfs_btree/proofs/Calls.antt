@@ -1,0 +1,69 @@
+-- What the calls of an insert come to.
+use Rattle.std.proofs.Common.{◌≡◌, ◌≢◌, ◌≤◌, ◌<◌, ◌+◌, ◌-◌, ℕ, ℤ, suc, List, [], ◌∷◌, Some, None, cond, refl, ap, sym, ◌∙◌, subst, arith}
+use Rattle.bfs_base.specs.Lists.{times}
+use Rattle.bfs_base.specs.declared.kind.KeyKind.{KeyKind}
+use Rattle.bfs_btree.specs.Order.{Key, at_most}
+use Rattle.bfs_btree.specs.Maps.{assoc, put}
+use Rattle.bfs_btree.specs.Shapes.{leaf_body, Shape, leaf_shape, node_shape, last_shape, place, tree_rows, IsDeep, Stands}
+use Rattle.bfs_btree.specs.Changes.{child_in, Taken, SplitOff, RowPut, Rooted, StepsDown, Heightens, Inserts}
+use Rattle.bfs_btree.specs.Trees.{State, Holds}
+use Rattle.bfs_btree.specs.Ways.{under, instead}
+use Rattle.bfs_btree.proofs.Exchange.{stands-under}
+use Rattle.bfs_btree.proofs.Inner.{put-row, grow-root}
+use Rattle.bfs_btree.proofs.Looked.{leaf-value}
+use Rattle.bfs_btree.proofs.Steps.{deep-under, leaf-of, child-at, taken, split-step}
+
+pub heightens : (kind : KeyKind) → (st mid new : State) (q : ℕ) → Taken st mid q → Rooted mid new q → Heightens kind st new
+heightens kind st mid new q tk r loose t fs h some =
+    let a = taken kind st mid loose t fs q h some tk in
+    (node_shape q (last_shape t), a.0, grow-root kind mid new q loose t a.0 a.1 r.same.bodies r.same.frees r.same.links r.root r.levels r.free r.size r.body, refl, omega (arith, a.2, r.size))
+
+pub stays : (kind : KeyKind) → (st : State) → Heightens kind st st
+stays kind st loose t fs h some = (t, fs, h, refl, some)
+
+pub steps-same : (kind : KeyKind) → (st : State) (at : ℕ) (k : Key) (c : ℕ) → child_in kind (st.bodies at) k ≡ Some c → StepsDown kind st st at k c
+steps-same kind st at k c is loose t fs d h some l e = (t, fs, h, refl, child-at kind st loose t fs d k at c h l e is, some)
+
+pub steps-split : (kind : KeyKind) → (st mid new : State) (q at : ℕ) (k : Key) (c : ℕ) (sep : Key) (next : ℕ) → Taken st mid q → child_in kind (st.bodies at) k ≡ Some c → SplitOff kind mid new at c k q sep → cond (at_most kind k sep) c q ≡ next → StepsDown kind st new at k next
+steps-split kind st mid new q at k c sep next tk is s n loose t fs d h some l e =
+    let a = taken kind st mid loose t fs q h some tk in
+    let b = split-step kind mid new q loose t a.0 d k at c sep a.1 a.2 (subst (λ m. suc d ≤ m) (sym tk.2) l) e (child-at kind st loose t fs d k at c h l e is) s in
+    (b.0, a.0, b.1, b.2, b.3 ∙ n, omega (arith, a.2, s.others.size))
+
+-- so far down: the same map, and the key's way leads to this page
+abbrev pub Reaches : KeyKind → State → State → Key → ℕ → ℕ → Type 0
+Reaches kind st now k at left = (loose : List ℕ) (t : Shape) (fs : List ℕ) → Holds kind st loose t fs → 1 ≤ st.size
+    → (t2 : Shape) × (fs2 : List ℕ) × (d : ℕ) × Holds kind now loose t2 fs2 × (tree_rows t2 ≡ tree_rows t) × (1 ≤ now.size) × (d + left ≡ now.levels) × (place (under kind d t2 k) ≡ at)
+
+pub reaches-root : (kind : KeyKind) → (st now : State) (k : Key) (at left : ℕ) → Heightens kind st now → at ≡ now.root → left ≡ now.levels → Reaches kind st now k at left
+reaches-root kind st now k at left g e l loose t fs h some =
+    let a = g loose t fs h some in
+    (a.0, a.1, 0, a.2, a.3, a.4, omega (arith, l), a.2.built.root ∙ sym e)
+
+pub reaches-next : (kind : KeyKind) → (st now new : State) (k : Key) (at next left : ℕ) → Reaches kind st now k at left → 0 < left → StepsDown kind now new at k next → new.levels ≡ now.levels → Reaches kind st new k next (left - 1)
+reaches-next kind st now new k at next left r some s same loose t fs h one =
+    let a = r loose t fs h one in
+    let b = s loose a.0 a.1 a.2 a.3 a.5 (omega (arith, some, a.6)) a.7 in
+    (b.0, b.1, suc a.2, b.2, b.3 ∙ a.4, b.5, omega (arith, some, a.6, same), b.4)
+
+pub inserts : (kind : KeyKind) → (st now new : State) (k : Key) (v : ℤ) (at : ℕ) → Reaches kind st now k at 0 → RowPut kind now new at k v → Inserts kind st new k v
+inserts kind st now new k v at r p loose t fs h some absent =
+    let a = r loose t fs h some in
+    let u = deep-under kind now.levels a.2 a.0 k a.3.built.deep (omega (arith, a.6)) in
+    let z : u.0 ≡ 0 = omega (arith, u.1, a.6) in
+    let f = leaf-of (under kind a.2 a.0 k) at (subst (λ n. IsDeep n (under kind a.2 a.0 k)) z u.2) a.7 in
+    let s : now.bodies at ≡ Some (leaf_body f.0) = subst (λ w. Stands now.bodies w) f.1 (stands-under kind now.bodies a.2 a.0 k a.3.built.stands) in
+    let none : assoc kind f.0 k ≡ None = sym (leaf-value kind now loose a.0 a.1 a.2 k at f.0 a.3 f.1) ∙ ap (λ w. assoc kind w k) a.4 ∙ absent in
+    let b = put-row kind now new loose a.0 a.1 a.2 k v at f.0 a.3 f.1 none
+    (record {
+      bodies = λ x i. p.bodies x (off x at i);
+      frees = λ x i. p.frees x (off x at i);
+      root = p.root;
+      levels = p.levels;
+      free = p.free;
+      size = p.size;
+    }) (p.leaf f.0 s) p.links in
+    (instead kind a.2 a.0 k (leaf_shape at (put kind f.0 k v)), a.1, b.0, b.1 ∙ ap (λ w. put kind w k v) a.4)
+  where
+    off : (x y : ℕ) → times x (y ∷ []) ≡ 0 → x ≢ y
+    off x y i = λ e. grind (arith, i, e)

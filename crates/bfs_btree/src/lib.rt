@@ -1,0 +1,21 @@
+// B+trees over the pages of a stream: find, insert, remove and range as a sorted map.
+#![tactic(auto)]
+
+mod finding;
+mod look;
+mod memory;
+mod places;
+mod read;
+mod take;
+mod write;
+
+pub use finding::{Found, find, leaf_for};
+pub use look::{child_for, look_up, place_for};
+pub use memory::MemPages;
+pub use places::{is_child, is_link, place};
+pub use read::{read_header, read_interior, read_leaf};
+pub use take::{Fresh, take_page};
+pub use write::{add_page, write_header, write_page};
+
+#[cfg(test)]
+mod tests;

@@ -1,0 +1,124 @@
+// Trees of pages in memory.
+ghost use Rattle.std.specs.Prelude.{◌≡◌};
+
+use crate::{Found, MemPages, find};
+use bfs_node::{
+    Header, KeyKind, TreeFault, blank, has_room, insert_row, row_count, set_left_link,
+    set_overflow_link, set_right_link,
+};
+use bfs_txn::Steps;
+use std::alloc::AllocError;
+use std::marker::Brand;
+use std::sync::ledger::{Blank, Ledger};
+use std::test::Fail;
+
+/// Links of a page of a test: left, right, and overflow.
+type Sides = (i64, i64, i64);
+
+/// A page of these rows, as far as they have room.
+fn page_of(rows: &[(&[u8], i64)], sides: Sides) -> [u8; 1024] {
+    let mut page = [0u8; 1024];
+    blank(&mut page);
+    for (key, value) in rows {
+        if has_room(&page, key) {
+            let count = row_count(&page);
+            insert_row(&mut page, count, key, *value);
+        }
+    }
+    set_left_link(&mut page, sides.0);
+    set_right_link(&mut page, sides.1);
+    set_overflow_link(&mut page, sides.2);
+    page
+}
+
+/// The header of a tree of text keys with so many levels in a stream of so many bytes.
+fn header_of(levels: u32, size: i64) -> [u8; 1024] {
+    let mut page = [0u8; 1024];
+    let header = Header {
+        magic: 0x69f6c2e8,
+        node_size: 1024,
+        levels,
+        data_type: 0,
+        root_pointer: 1024,
+        free_pointer: -1,
+        maximum_size: size,
+    };
+    header.print(&mut page);
+    page
+}
+
+fn look<L: Ledger>(
+    pages: &mut MemPages,
+    key: &[u8],
+    ledger: Blank,
+) -> Result<Option<Found>, TreeFault<AllocError>>
+    requires name { ledger.name ≡ L.name }
+    requires parts { ledger.parts ≡ L.parts }
+    requires some { L.parts ≡ 1 }
+{
+    let mut steps = Steps::<L>::begin(ledger);
+    find(pages, KeyKind::Text, key, &mut steps)
+}
+
+/// What is found at a key: the byte of its leaf and its value, or None.
+fn found(pages: &mut MemPages, key: &[u8]) -> Option<(u64, i64)> {
+    match look::<Brand>(pages, key, Blank::new(1)) {
+        Ok(Some(found)) => Some((found.leaf, found.value)),
+        Ok(None) => None,
+        Err(_) => None,
+    }
+}
+
+/// A tree of another maker: the root's only key stands in no leaf, two interior pages have only their overflow child,
+/// and the leaves are nearly empty.
+fn other_maker(bytes: &mut Vec<u8>) -> Result<(), AllocError> {
+    bytes.extend_from_slice(&header_of(3, 6144))?;
+    bytes.extend_from_slice(&page_of(&[(b"m", 2048)], (-1, -1, 5120)))?;
+    bytes.extend_from_slice(&page_of(&[], (-1, -1, 3072)))?;
+    bytes.extend_from_slice(&page_of(&[(b"a", 1), (b"c", 3)], (-1, 4096, -1)))?;
+    bytes.extend_from_slice(&page_of(&[(b"x", 9)], (3072, -1, -1)))?;
+    bytes.extend_from_slice(&page_of(&[], (-1, -1, 4096)))?;
+    Ok(())
+}
+
+/// Whole pages, as a stream.
+fn stream_of(bytes: Vec<u8>) -> Option<MemPages> {
+    if bytes.len() % 1024 == 0 {
+        Some(MemPages::new(bytes))
+    } else {
+        None
+    }
+}
+
+/// What is found at each of these keys.
+fn found_at(pages: &mut MemPages, wants: &[(&[u8], Option<(u64, i64)>)]) -> bool {
+    for (key, want) in wants {
+        if found(pages, key) != *want {
+            return false;
+        }
+    }
+    true
+}
+
+#[test]
+fn keys_are_found_in_a_tree_of_another_maker(rt: HostRuntime) -> Result<(), Fail> {
+    let mut bytes = Vec::new(rt.alloc());
+    other_maker(&mut bytes)?;
+    let wants: [(&[u8], Option<(u64, i64)>); 7] = [
+        (b"a", Some((3072, 1))),
+        (b"b", None),
+        (b"c", Some((3072, 3))),
+        (b"m", None),
+        (b"x", Some((4096, 9))),
+        (b"z", None),
+        (b"", None),
+    ];
+    match stream_of(bytes) {
+        Some(mut pages) => {
+            assert!(rt; found_at(&mut pages, &wants));
+            assert_eq!(rt; pages.bytes().len(), 6144);
+        }
+        None => assert!(rt; false),
+    }
+    Ok(())
+}

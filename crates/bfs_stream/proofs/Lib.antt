@@ -1,0 +1,5 @@
+pub mod Sized
+pub mod Levels
+pub mod Arrays
+pub mod Doubles
+pub mod Placed

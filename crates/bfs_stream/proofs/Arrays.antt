@@ -1,9 +1,9 @@
 -- The runs of an array, block by block and place by place.
-use Rattle.std.proofs.Common.{◌≡◌, ◌≤◌, ◌<◌, ◌+◌, ◌-◌, ◌*◌, ◌/◌, ◌%◌, ℕ, zero, suc, List, [], ◌∷◌, ◌++◌, length, take, drop, get_or, Bool, true, false, cond, Option, Some, None, IfSome, is_some, unwrap_or, refl, sym, ap, ◌∙◌, subst, arith, append_assoc, length-append}
+use Rattle.std.proofs.Common.{◌≡◌, ◌≤◌, ◌<◌, ◌+◌, ◌-◌, ◌*◌, ◌/◌, ◌%◌, ℕ, zero, suc, List, [], ◌∷◌, ◌++◌, length, drop, get_or, Bool, true, false, cond, Option, Some, None, IfSome, unwrap_or, refl, sym, ap, ◌∙◌, subst, arith, length-append}
 use Rattle.std.specs.Prelude.{All, slice_get, ◌==◌, IsSome}
 use Rattle.std.specs.List.{flat_map}
 use Rattle.std.proofs.lemmas.List.{drop_more, drop_all}
-use Rattle.std.proofs.lemmas.Option.{slice_get-get_or, get_or_from_slice_get, slice_get_past}
+use Rattle.std.proofs.lemmas.Option.{slice_get-get_or, get_or_from_slice_get}
 use Rattle.std.proofs.Math.Nat.{div-add-mod, mod-lt}
 use Rattle.bfs_base.specs.Lists.{counted_from, times, Has}
 use Rattle.bfs_bytes.specs.declared.Run.{Run}
@@ -13,8 +13,8 @@ use Rattle.bfs_inode.proofs.Runs.{length-runs_in, get_or-runs_in}
 use Rattle.bfs_txn.specs.Told.{AreOfBlock}
 use Rattle.bfs_txn.specs.Faults.{Counts, AreLater}
 use Rattle.bfs_stream.specs.Sizes.{Sizes, IsInVolume, first_block, runs_per_block}
-use Rattle.bfs_stream.specs.Places.{run_blocks, blocks_of, used_runs, array_runs}
-use Rattle.bfs_stream.specs.Told.{contents, AreTold}
+use Rattle.bfs_stream.specs.Places.{run_blocks, used_runs, array_runs}
+use Rattle.bfs_stream.specs.Told.{contents}
 use Rattle.bfs_stream.specs.Scans.{block_in}
 use Rattle.bfs_stream.proofs.Levels.{get_left, get_right, length-counted, counted_get}
 

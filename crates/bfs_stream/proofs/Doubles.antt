@@ -1,12 +1,12 @@
 -- A place of the double indirect level.
-use Rattle.std.proofs.Common.{◌≡◌, ◌≤◌, ◌<◌, ◌+◌, ◌-◌, ◌*◌, ◌/◌, ◌%◌, ℕ, zero, suc, List, [], ◌∷◌, ◌++◌, length, get_or, Bool, true, false, cond, Option, Some, None, refl, sym, ap, ◌∙◌, subst, arith, length-append}
+use Rattle.std.proofs.Common.{◌≡◌, ◌≤◌, ◌<◌, ◌+◌, ◌*◌, ◌/◌, ◌%◌, ℕ, zero, suc, List, [], ◌∷◌, ◌++◌, length, get_or, Bool, true, false, cond, Option, Some, None, sym, ap, ◌∙◌, subst, arith}
 use Rattle.std.specs.Prelude.{All, slice_get, ◌==◌}
 use Rattle.std.specs.List.{flat_map}
 use Rattle.std.proofs.lemmas.Option.{slice_get-get_or, slice_get_within, get_or_from_slice_get}
-use Rattle.std.proofs.Math.Nat.{div-add-mod, mod-lt, div-lt_iff_lt-mul, mul_comm}
-use Rattle.bfs_base.specs.Lists.{counted_from, times, Has}
+use Rattle.std.proofs.Math.Nat.{mod-lt, div-lt_iff_lt-mul, mul_comm}
+use Rattle.bfs_base.specs.Lists.{times, Has}
 use Rattle.bfs_bytes.specs.declared.Run.{Run}
-use Rattle.bfs_stream.specs.Sizes.{Sizes, IsInVolume, IsWhole, first_block, runs_per_block, array_length}
+use Rattle.bfs_stream.specs.Sizes.{Sizes, IsWhole, first_block, runs_per_block, array_length}
 use Rattle.bfs_stream.specs.Places.{run_blocks, blocks_of, used_runs, array_runs}
 use Rattle.bfs_stream.specs.Told.{contents, AreTold}
 use Rattle.bfs_stream.specs.Scans.{block_in, HasDouble}

@@ -1,18 +1,17 @@
 -- The levels of a stream that keeps its format: up to where each reaches, and the block at a place of each.
 use Rattle.std.proofs.Common.{◌≡◌, ◌≤◌, ◌<◌, ◌+◌, ◌-◌, ◌*◌, ◌/◌, ℕ, zero, suc, ℤ, pos, List, [], ◌∷◌, ◌++◌, length, get_or, Bool, true, false, cond, Option, Some, None, refl, sym, ap, ◌∙◌, subst, arith, length-append, ◌⊎◌, inl, inr, max}
-use Rattle.std.specs.Prelude.{All, slice_get, ◌==◌, IsSome}
+use Rattle.std.specs.Prelude.{slice_get, ◌==◌, IsSome}
 use Rattle.std.specs.List.{flat_map}
 use Rattle.std.proofs.lemmas.List.{nil_from_length}
 use Rattle.std.proofs.lemmas.Option.{slice_get-get_or}
 use Rattle.std.proofs.Math.Nat.{mul-div_cancel_left}
-use Rattle.bfs_base.specs.Lists.{times, Has}
+use Rattle.bfs_base.specs.Lists.{times}
 use Rattle.bfs_bytes.specs.declared.Run.{Run}
 use Rattle.bfs_super.specs.Conditions.{natural}
-use Rattle.bfs_inode.specs.Inode.{Stream, stream_at}
 use Rattle.bfs_stream.specs.Sizes.{Sizes, HasSizes, Origin, IsInVolume, IsWhole, first_block, runs_per_block}
-use Rattle.bfs_stream.specs.Places.{run_blocks, blocks_of, used_runs, array_runs, fields, direct_runs, indirect_runs, second_arrays, double_runs, direct_blocks, indirect_blocks, double_blocks, places_at, arrays_at, frame_at, level_end, HasStream}
+use Rattle.bfs_stream.specs.Places.{run_blocks, blocks_of, used_runs, array_runs, fields, direct_runs, indirect_runs, second_arrays, direct_blocks, indirect_blocks, double_blocks, places_at, arrays_at, level_end, HasStream}
 use Rattle.bfs_stream.specs.Told.{contents, AreTold, Stands}
-use Rattle.bfs_stream.specs.Scans.{block_in, ends_of, last_end, HasDouble}
+use Rattle.bfs_stream.specs.Scans.{block_in, ends_of, HasDouble}
 use Rattle.bfs_stream.proofs.Levels.{get_left, get_right, length-counted}
 use Rattle.bfs_stream.proofs.Arrays.{length-array}
 use Rattle.bfs_stream.proofs.Doubles.{length-used, times-append}

@@ -1,5 +1,5 @@
 -- The sizes of a valid superblock.
-use Rattle.std.proofs.Common.{◌≡◌, ◌≤◌, ◌<◌, ◌^◌, ◌*◌, ◌∙◌, ℕ, ℤ, pos, negsuc, sym, subst, arith, lit<, inl, inr, ◌⊎◌, refl, ap}
+use Rattle.std.proofs.Common.{◌≡◌, ◌≤◌, ◌<◌, ◌^◌, ℕ, ℤ, pos, negsuc, sym, subst, arith, lit<, inl, inr, ◌⊎◌, ap}
 use Rattle.std.proofs.lemmas.Int.{ints}
 use Rattle.std.specs.Prelude.{◌≤ℤ◌}
 use Rattle.std.proofs.Math.Nat.{pow-le-pow_right, one-le-pow}

@@ -1,11 +1,11 @@
 -- The blocks of a stream, its array blocks and its bytes, by the bytes of all blocks.
-use Rattle.std.specs.Prelude.{◌≡◌, ◌<◌, ◌≤◌, ◌⊎◌, ◌≤ℤ◌, ℕ, ℤ, pos, ◌+◌, ◌*◌, List, [], ◌∷◌, ◌++◌, length, take, ◌==◌, if◌then◌else◌, All}
+use Rattle.std.specs.Prelude.{◌≡◌, ◌<◌, ◌≤◌, ◌⊎◌, ◌≤ℤ◌, ℕ, pos, ◌+◌, ◌*◌, List, [], ◌∷◌, ◌++◌, length, take, ◌==◌, if◌then◌else◌, All}
 use Rattle.std.specs.List.{flat_map}
 use Rattle.bfs_base.specs.Lists.{counted_from}
 use Rattle.bfs_bytes.specs.declared.Run.{Run}
 use Rattle.bfs_super.specs.Conditions.{natural}
 use Rattle.bfs_inode.specs.Inode.{Stream, stream_at, runs_in}
-use Rattle.bfs_stream.specs.Sizes.{Sizes, runs_per_block, array_length, first_block, IsInVolume, IsWhole}
+use Rattle.bfs_stream.specs.Sizes.{Sizes, runs_per_block, first_block, IsInVolume, IsWhole}
 
 -- the blocks of a run, and of runs one after the other
 abbrev pub run_blocks : Sizes → Run → List ℕ

@@ -1,6 +1,6 @@
 -- What looks through tables of runs answer.
 use Rattle.std.specs.List.{flat_map}
-use Rattle.std.specs.Prelude.{◌≡◌, ◌<◌, ℕ, ◌+◌, ◌*◌, ◌/◌, ◌%◌, List, ◌++◌, length, Option, Some, None, Result, IfOk, IfErr, slice_get, max, All}
+use Rattle.std.specs.Prelude.{◌≡◌, ◌<◌, ℕ, ◌/◌, List, ◌++◌, length, Option, Some, None, slice_get, max, All}
 use Rattle.bfs_bytes.specs.declared.Run.{Run}
 use Rattle.bfs_txn.specs.declared.fault.BlockFault.{BlockFault}
 use Rattle.bfs_txn.specs.declared.fault.BlockFault.TheVariants.{Disk, Stopped, Damaged, NoMemory}

@@ -1,5 +1,5 @@
 -- Streams of a volume that is told.
-use Rattle.std.specs.Prelude.{◌≡◌, ℕ, List, [], Option, IsSome, unwrap_or}
+use Rattle.std.specs.Prelude.{ℕ, List, [], Option, IsSome, unwrap_or}
 use Rattle.bfs_base.specs.Lists.{Has}
 use Rattle.bfs_stream.specs.Sizes.{Origin}
 use Rattle.bfs_stream.specs.Places.{frame_at, HasStream}

@@ -9,3 +9,6 @@ mod stream;
 
 pub use fault::StreamFault;
 pub use stream::Stream;
+
+#[cfg(test)]
+mod tests;

@@ -1,10 +1,10 @@
-use Rattle.std.proofs.Common.{◌≡◌, ◌<◌, ◌≤◌, ◌+◌, ◌*◌, ◌++◌, ◌∙◌, ℕ, List, Option, Some, None, ap, sym, subst, arith, refl}
+use Rattle.std.proofs.Common.{◌≡◌, ◌+◌, ◌++◌, ◌∙◌, List, ap, sym, subst, arith}
 use Rattle.std.specs.Prelude.{All}
 use Rattle.bfs_bytes.specs.declared.Run.{Run}
 use Rattle.bfs_txn.specs.Told.{AreOfBlock}
 use Rattle.bfs_stream.specs.Sizes.{IsInVolume, first_block}
-use Rattle.bfs_stream.specs.Places.{used_runs, run_blocks}
-use Rattle.bfs_stream.specs.Told.{contents, AreTold}
+use Rattle.bfs_stream.specs.Places.{used_runs}
+use Rattle.bfs_stream.specs.Told.{contents}
 use Rattle.bfs_stream.specs.Scans.{block_in}
 use Rattle.bfs_stream.proofs.Arrays.{has_counted, read_is, runs_are, array_is, later_twice, walked_more, walked_found, walked_broken, walked_all}
 use Rattle.bfs_stream.proofs.stream.Stream.in_array.Goals as goal

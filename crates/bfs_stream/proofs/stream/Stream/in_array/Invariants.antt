@@ -1,4 +1,4 @@
-use Rattle.std.proofs.Common.{◌≡◌, ◌≤◌, ℕ, List, Option, Some, length}
+use Rattle.std.proofs.Common.{◌≡◌, ℕ, List, Option, Some, length}
 use Rattle.bfs_txn.specs.Faults.{AreLater}
 use Rattle.bfs_stream.specs.Places.{run_blocks}
 use Rattle.bfs_stream.specs.Told.{AreTold, contents}

@@ -1,4 +1,4 @@
-use Rattle.std.proofs.Common.{◌≡◌, ◌<◌, ◌≤◌, ◌+◌, ◌*◌, ◌/◌, ◌%◌, ◌∙◌, ℕ, List, Option, Some, None, ap, sym, subst, arith, true, false, refl}
+use Rattle.std.proofs.Common.{◌≡◌, ◌+◌, ◌*◌, ◌/◌, ◌%◌, ◌∙◌, ℕ, Option, Some, ap, sym, subst, arith, refl}
 use Rattle.std.specs.Prelude.{slice_get}
 use Rattle.bfs_bytes.specs.declared.Run.{Run}
 use Rattle.bfs_stream.specs.Sizes.{Sizes, first_block, IsWhole}

@@ -1,5 +1,5 @@
 use Rattle.std.proofs.Common.{◌≡◌, ◌<◌, ◌≤◌, ◌+◌, ◌-◌, ◌∙◌, ℕ, List, length, ap, sym, subst, arith, Option, Some, None, true, false}
-use Rattle.std.specs.Prelude.{max, slice_get, All}
+use Rattle.std.specs.Prelude.{slice_get, All}
 use Rattle.std.specs.List.{flat_map}
 use Rattle.std.proofs.lemmas.Result.{IfOk-weaker, IfErr-weaker}
 use Rattle.bfs_bytes.specs.declared.Run.{Run}
@@ -9,7 +9,7 @@ use Rattle.bfs_stream.specs.Places.{fields, places_at, direct_blocks, indirect_b
 use Rattle.bfs_stream.specs.Told.{contents, AreTold, Stands}
 use Rattle.bfs_stream.specs.Scans.{ends_of, last_end, block_in, HasDouble, IsDamage}
 use Rattle.bfs_stream.specs.declared.lookup.Ends.{Ends}
-use Rattle.bfs_stream.proofs.Placed.{AreEnds, last_is, ends_are, length-places, places_direct, places_indirect, places_double, direct_some, indirect_some, in_indirect, in_double, told_indirect, has_double, holds_indirect, holds_double}
+use Rattle.bfs_stream.proofs.Placed.{AreEnds, ends_are, places_direct, places_indirect, places_double, direct_some, indirect_some, in_indirect, in_double, told_indirect, has_double, holds_indirect, holds_double}
 use Rattle.bfs_stream.proofs.stream.Stream.in_levels.Goals as goal
 
 -- what the ranges that were read say of the levels

@@ -1,9 +1,7 @@
-use Rattle.std.proofs.Common.{◌≡◌, ◌<◌, ◌≤◌, ◌+◌, ◌*◌, ◌-◌, ◌∙◌, ℕ, List, length, get_or, ap, sym, subst, arith, Some, true, false, refl}
-use Rattle.bfs_bytes.specs.declared.Run.{Run}
+use Rattle.std.proofs.Common.{◌≡◌, ◌<◌, ◌+◌, ◌-◌, ◌∙◌, ℕ, ap, sym, subst, arith, Some, true, false, refl}
 use Rattle.bfs_inode.specs.Inode.{runs_in}
 use Rattle.bfs_inode.proofs.Runs.{length-runs_in, get_or-runs_in}
-use Rattle.bfs_stream.specs.Scans.{block_in}
-use Rattle.bfs_stream.proofs.Levels.{IsScanned, scanned_none, scanned_more, scanned_found, scanned_broken, scanned_all}
+use Rattle.bfs_stream.proofs.Levels.{IsScanned, scanned_more, scanned_found, scanned_broken, scanned_all}
 use Rattle.bfs_stream.proofs.stream.Stream.scan.Goals as goal
 
 pub returns-then-not-is_used-clause-scan : goal.returns-then-not-is_used-clause-scan

@@ -9,7 +9,8 @@ use Rattle.bfs_base.specs.Lists.{times}
 use Rattle.bfs_bytes.specs.declared.Run.{Run}
 use Rattle.bfs_super.specs.Conditions.{natural}
 use Rattle.bfs_stream.specs.Sizes.{Sizes, HasSizes, Origin, IsInVolume, IsWhole, first_block, runs_per_block}
-use Rattle.bfs_stream.specs.Places.{run_blocks, blocks_of, used_runs, array_runs, fields, direct_runs, indirect_runs, second_arrays, direct_blocks, indirect_blocks, double_blocks, places_at, arrays_at, level_end, HasStream}
+use Rattle.bfs_stream.specs.Places.{run_blocks, blocks_of, used_runs, array_runs, fields, second_arrays, places_at, arrays_at, level_end, HasStream, level_blocks, arrays_of}
+use Rattle.bfs_stream.proofs.Named.{direct_runs, indirect_runs, direct_blocks, indirect_blocks, double_blocks}
 use Rattle.bfs_stream.specs.Told.{contents, AreTold, Stands}
 use Rattle.bfs_stream.specs.Scans.{block_in, ends_of, HasDouble}
 use Rattle.bfs_stream.proofs.Levels.{get_left, get_right, length-counted}
@@ -42,27 +43,27 @@ never_none xs i d h e = let some : slice_get xs i ≡ Some (get_or xs i d) = sli
 
 module _ (s : Sizes) (blocks : ℕ → List ℕ) (id : ℕ) where
   pub direct_some : (i : ℕ) → i < length (direct_blocks s blocks id) → block_in s (fields s blocks id).direct i ≡ None → ⊥
-  unfolding direct_blocks
+  unfolding level_blocks
   direct_some i h e = never_none (blocks_of s (direct_runs s blocks id)) i 0 h e
 
   pub indirect_some : (i : ℕ) → i < length (indirect_blocks s blocks id) → block_in s (array_runs s blocks (fields s blocks id).indirect) i ≡ None → ⊥
-  unfolding indirect_blocks
+  unfolding level_blocks
   indirect_some i h e = never_none (blocks_of s (indirect_runs s blocks id)) i 0 h e
 
   pub places_direct : (i : ℕ) → i < length (direct_blocks s blocks id) → slice_get (places_at s blocks id) i ≡ block_in s (fields s blocks id).direct i
-  unfolding direct_blocks
+  unfolding level_blocks
   places_direct i h = get_left (direct_blocks s blocks id) (indirect_blocks s blocks id ++ double_blocks s blocks id) i h
 
   pub places_indirect : (i : ℕ) → length (direct_blocks s blocks id) ≤ i → i < length (direct_blocks s blocks id) + length (indirect_blocks s blocks id)
       → slice_get (places_at s blocks id) i ≡ block_in s (array_runs s blocks (fields s blocks id).indirect) (i - length (direct_blocks s blocks id))
-  unfolding indirect_blocks
+  unfolding level_blocks
   places_indirect i low high =
       get_right (direct_blocks s blocks id) (indirect_blocks s blocks id ++ double_blocks s blocks id) i low
       ∙ get_left (indirect_blocks s blocks id) (double_blocks s blocks id) (i - length (direct_blocks s blocks id)) (omega arith)
 
   pub places_double : (i : ℕ) → length (direct_blocks s blocks id) + length (indirect_blocks s blocks id) ≤ i
       → slice_get (places_at s blocks id) i ≡ block_in s (flat_map (array_runs s blocks) (second_arrays s blocks id)) (i - (length (direct_blocks s blocks id) + length (indirect_blocks s blocks id)))
-  unfolding double_blocks
+  unfolding level_blocks
   places_double i low =
       let e : i - length (direct_blocks s blocks id) - length (indirect_blocks s blocks id) ≡ i - (length (direct_blocks s blocks id) + length (indirect_blocks s blocks id)) = omega arith in
       get_right (direct_blocks s blocks id) (indirect_blocks s blocks id ++ double_blocks s blocks id) i (omega arith)
@@ -71,7 +72,7 @@ module _ (s : Sizes) (blocks : ℕ → List ℕ) (id : ℕ) where
 
   -- the double indirect level is used only behind the indirect one
   some_indirect : HasStream s blocks id → 0 < length (double_blocks s blocks id) → 0 < length (indirect_blocks s blocks id)
-  unfolding indirect_blocks double_blocks
+  unfolding level_blocks
   some_indirect stands some = by_cases stands.double
     where
       by_cases : ((fields s blocks id).double_indirect.len ≡ 0)
@@ -153,7 +154,7 @@ module _ (m : ℕ → Option (List ℕ)) where
     told_inode = told_first o.id (arrays_at o.sizes (contents m) o.id) stands.told
 
     told_arrays : AreTold m (run_blocks o.sizes (fields o.sizes (contents m) o.id).indirect ++ (run_blocks o.sizes (fields o.sizes (contents m) o.id).double_indirect ++ blocks_of o.sizes (second_arrays o.sizes (contents m) o.id)))
-    unfolding arrays_at
+    unfolding arrays_of
     told_arrays = told_rest o.id (arrays_at o.sizes (contents m) o.id) stands.told
 
     pub told_indirect : AreTold m (run_blocks o.sizes (fields o.sizes (contents m) o.id).indirect)
@@ -163,7 +164,7 @@ module _ (m : ℕ → Option (List ℕ)) where
     told_doubles = told_right (run_blocks o.sizes (fields o.sizes (contents m) o.id).indirect) (run_blocks o.sizes (fields o.sizes (contents m) o.id).double_indirect ++ blocks_of o.sizes (second_arrays o.sizes (contents m) o.id)) told_arrays
 
     pub has_double : (i : ℕ) → i < length (double_blocks o.sizes (contents m) o.id) → HasDouble o.sizes m (fields o.sizes (contents m) o.id).double_indirect i
-    unfolding double_blocks
+    unfolding level_blocks
     has_double i h = record {
       first = told_left (run_blocks o.sizes (fields o.sizes (contents m) o.id).double_indirect) (blocks_of o.sizes (second_arrays o.sizes (contents m) o.id)) told_doubles;
       second = told_right (run_blocks o.sizes (fields o.sizes (contents m) o.id).double_indirect) (blocks_of o.sizes (second_arrays o.sizes (contents m) o.id)) told_doubles;
@@ -174,7 +175,7 @@ module _ (m : ℕ → Option (List ℕ)) where
 
     -- a level that is used has its array in the volume
     pub holds_indirect : 0 < length (indirect_blocks o.sizes (contents m) o.id) → IsInVolume o.sizes (fields o.sizes (contents m) o.id).indirect
-    unfolding indirect_blocks
+    unfolding level_blocks
     holds_indirect some = by_cases stands.sound.indirect
       where
         by_cases : ((fields o.sizes (contents m) o.id).indirect.len ≡ 0) ⊎ (IsInVolume o.sizes (fields o.sizes (contents m) o.id).indirect × (length (direct_runs o.sizes (contents m) o.id) ≡ 12)) → IsInVolume o.sizes (fields o.sizes (contents m) o.id).indirect
@@ -187,7 +188,7 @@ module _ (m : ℕ → Option (List ℕ)) where
         by_cases (inr full) = full.0
 
     pub holds_double : 0 < length (double_blocks o.sizes (contents m) o.id) → IsWhole o.sizes (fields o.sizes (contents m) o.id).double_indirect
-    unfolding double_blocks
+    unfolding level_blocks
     holds_double some = by_cases stands.sound.double
       where
         by_cases : ((fields o.sizes (contents m) o.id).double_indirect.len ≡ 0)

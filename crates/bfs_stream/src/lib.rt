@@ -3,11 +3,13 @@
 #![tactic(auto)]
 
 mod fault;
+mod laws;
 mod lookup;
 mod scan;
 mod stream;
 
 pub use fault::StreamFault;
+pub use laws::streams_stay;
 pub use stream::Stream;
 
 #[cfg(test)]

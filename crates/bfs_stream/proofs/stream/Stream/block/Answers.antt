@@ -1,7 +1,8 @@
 use Rattle.std.proofs.Common.{◌≡◌, ◌∙◌, ℕ, List, length, ap, sym, subst, arith}
 use Rattle.std.proofs.lemmas.List.{with_items_is}
 use Rattle.bfs_inode.specs.Inode.{stream_at}
-use Rattle.bfs_stream.specs.Places.{fields, places_at, direct_blocks, indirect_blocks, double_blocks}
+use Rattle.bfs_stream.specs.Places.{fields, places_at}
+use Rattle.bfs_stream.proofs.Named.{direct_blocks, indirect_blocks, double_blocks}
 use Rattle.bfs_txn.specs.Told.{AreOfBlock}
 use Rattle.bfs_stream.specs.Sizes.{Origin}
 use Rattle.bfs_stream.specs.Told.{contents}

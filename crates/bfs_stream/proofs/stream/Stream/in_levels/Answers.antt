@@ -5,7 +5,8 @@ use Rattle.std.proofs.lemmas.Result.{IfOk-weaker, IfErr-weaker}
 use Rattle.bfs_bytes.specs.declared.Run.{Run}
 use Rattle.bfs_inode.specs.Inode.{stream_at}
 use Rattle.bfs_stream.specs.Sizes.{Origin, HasSizes, IsInVolume, IsWhole}
-use Rattle.bfs_stream.specs.Places.{fields, places_at, direct_blocks, indirect_blocks, double_blocks, used_runs, array_runs, run_blocks}
+use Rattle.bfs_stream.specs.Places.{fields, places_at, used_runs, array_runs, run_blocks}
+use Rattle.bfs_stream.proofs.Named.{direct_blocks, indirect_blocks, double_blocks}
 use Rattle.bfs_stream.specs.Told.{contents, AreTold, Stands}
 use Rattle.bfs_stream.specs.Scans.{ends_of, last_end, block_in, HasDouble, IsDamage}
 use Rattle.bfs_stream.specs.declared.lookup.Ends.{Ends}

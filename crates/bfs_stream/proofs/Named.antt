@@ -1,9 +1,8 @@
 -- Names for the levels of a stream.
 use Rattle.std.proofs.Common.{ℕ, List}
-use Rattle.std.specs.List.{flat_map}
 use Rattle.bfs_bytes.specs.declared.Run.{Run}
 use Rattle.bfs_stream.specs.Sizes.{Sizes}
-use Rattle.bfs_stream.specs.Places.{used_runs, array_runs, level_blocks, fields, levels_at, second_arrays}
+use Rattle.bfs_stream.specs.Places.{used_runs, level_blocks, levels_at}
 
 module _ (s : Sizes) (blocks : ℕ → List ℕ) (id : ℕ) where
   abbrev pub direct_runs : List Run

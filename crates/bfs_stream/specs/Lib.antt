@@ -1,0 +1,5 @@
+pub mod Sizes
+pub mod Places
+pub mod Told
+pub mod Scans
+pub mod Faults

@@ -1,0 +1,5 @@
+pub mod Homes
+pub mod Entries
+pub mod Sizes
+pub mod Images
+pub mod Going

@@ -1,0 +1,6 @@
+pub mod Layouts
+pub mod Versions
+pub mod Calls
+pub mod Phases
+pub mod Books
+pub mod Steps

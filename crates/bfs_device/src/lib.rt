@@ -1,0 +1,7 @@
+// A disk with a journal. Groups of changed blocks go into the log and from there home, a disk call a step.
+#![tactic(auto)]
+
+mod calls;
+mod journal;
+
+pub use journal::{DeviceFault, Mark, Progress};

@@ -3,3 +3,4 @@ pub mod Entries
 pub mod Sizes
 pub mod Images
 pub mod Going
+pub mod Fronts

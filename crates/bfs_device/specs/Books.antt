@@ -135,7 +135,7 @@ pub record Ready (j : Journal) : Type 0 where
   pub phase : IsPhaseFor j.groups.items j.phase
   pub few : length j.groups.items ≤ 16
   pub room : 16 ≤ vec_capacity j.groups
-  pub marks : length j.marks.items + length (waiting j.groups.items j.phase) ≤ vec_capacity j.marks
+  pub marks : length j.marks.items + length (waiting j.groups.items j.phase) + j.spare ≤ vec_capacity j.marks
   pub buffer : length j.buffer.items ≡ j.sup.block_size
 
 abbrev pub books_of : Journal → Books
@@ -145,7 +145,7 @@ books_of j = record {
   phase = j.phase;
   left = j.left;
   marks = j.marks.items;
-  spare = vec_capacity j.marks - (length j.marks.items + length (waiting j.groups.items j.phase));
+  spare = j.spare;
   moment = j.moment;
   stop = j.stop;
 }

@@ -1,6 +1,4 @@
 // What a device keeps beside its disk.
-ghost use Rattle.std.specs.Prelude.{◌≡◌, ◌≤◌, ◌<◌, ◌+◌, ◌-◌, ◌*◌, ◌/◌, ◌^◌, ℕ, length, IsTrue};
-
 use bfs_super::Super;
 use bfs_txn::Group;
 
@@ -74,6 +72,7 @@ pub struct Journal {
     pub phase: Phase,
     pub left: u64,
     pub marks: Vec<Mark>,
+    pub spare: usize,
     pub moment: u64,
     pub stop: Option<Stop>,
     pub buffer: Vec<u8>,

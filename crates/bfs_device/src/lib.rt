@@ -3,5 +3,6 @@
 
 mod calls;
 mod journal;
+mod turn;
 
 pub use journal::{DeviceFault, Mark, Progress};

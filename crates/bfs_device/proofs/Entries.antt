@@ -68,6 +68,9 @@ number_in m n k ps d lt =
     (get_or-map (λ p. p.0) (take n (drop m ps)) k (0, []) d short ∙ ap (λ p. p.0) (get_cut n k (drop m ps) (0, []) (omega (arith, short, within)) ∙ get_past m k ps (0, [])),
     omega (arith, short, within, length-drop m ps))
 
+pub length-part_low : (ps : Pairs) (e : ℕ) → length (named_in ps e) ≤ 126
+length-part_low ps e = omega (arith, length-map (take 126 (drop (126 * e) ps)) (λ p. p.0), length-cut 126 (drop (126 * e) ps))
+
 pub cut_min : (n : ℕ) (ps : Pairs) → take (min n (length ps)) ps ≡ take n ps
 cut_min n ps = ⊎_elim
     (λ lt. let e : min n (length ps) ≡ n = omega (arith, lt) in ap (λ (k : ℕ). take k ps) e)

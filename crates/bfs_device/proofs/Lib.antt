@@ -4,3 +4,5 @@ pub mod Sizes
 pub mod Images
 pub mod Going
 pub mod Fronts
+pub mod Phasing
+pub mod Right

@@ -1,0 +1,145 @@
+-- A device stays right over its calls.
+use Rattle.std.proofs.Common.{◌≡◌, ◌≢◌, ◌⊎◌, inl, inr, ⊎_elim, ℕ, zero, suc, ◌+◌, ◌*◌, ◌<◌, ◌≤◌, List, [], ◌∷◌, ◌++◌, length, refl, sym, ◌∙◌, ap, subst, arith, Bool, true, false, cond, nat_le, Option, Some, None}
+use Rattle.std.proofs.lemmas.Bool.{cond-true, cond-false, le-leb, lt-leb, true≢false}
+use Rattle.std.proofs.lemmas.List.{append-nil}
+use Rattle.bfs_disk.specs.State.{State, IsImage, Filled, Tells}
+use Rattle.bfs_disk.specs.Blocks.{contents_of}
+use Rattle.bfs_disk.specs.Disk.{MayLeave}
+use Rattle.bfs_super.specs.declared.sup.Super.{Super}
+use Rattle.bfs_super.specs.declared.geometry.Geometry.{Geometry}
+use Rattle.bfs_super.specs.Conditions.{natural, IsValid}
+use Rattle.bfs_super.specs.Geometry.{geometry_of}
+use Rattle.bfs_log.specs.Replay.{Home, over, log_from, log_to}
+use Rattle.bfs_txn.specs.declared.group.Group.{Group}
+use Rattle.bfs_device.specs.declared.journal.Phase.{Phase}
+use Rattle.bfs_device.specs.declared.journal.Phase.TheVariants.{Log, LogSafe, Open, OpenSafe, Home as GoHome, HomeSafe, Tail, TailSafe, Pass}
+use Rattle.bfs_device.specs.declared.journal.Stop.{Stop}
+use Rattle.bfs_device.specs.Layouts.{Layout, IsData, layout_of, homes_in, ring_count, closed_of}
+use Rattle.bfs_device.specs.Versions.{RecoversTo, upto, used_upto}
+use Rattle.bfs_device.specs.Calls.{Call, Write, Barrier, state_after, touched_after, LeftDuring}
+use Rattle.bfs_device.specs.Phases.{Rests, Stands, Follows}
+use Rattle.bfs_device.specs.Books.{Books, IsSealed, IsNext, Follow, IsPhaseOf, IsPhaseFor, IsLastOf, IsVersion, RecoversOne, Standing, waiting, is_durable, durable_in, version, used_of}
+use Rattle.bfs_device.specs.Steps.{call_of, AreRead, next_phase, front_phase, first_phase, after_phase}
+use Rattle.bfs_device.proofs.Homes.{over_same, over_joined}
+use Rattle.bfs_device.proofs.Going as going
+use Rattle.bfs_device.proofs.Phasing.{follows, MayRecover, stands_image, during_image, next_stands, stands_agrees, stands_read, rests_read, Agrees}
+
+-- ---- the groups up to a number
+
+upto_low : (l : Layout) (size left used n : ℕ) (gs : List Group) → Follow l size left used gs → n ≤ left → upto n gs ≡ []
+upto_low l size left used n [] follow le = refl
+upto_low l size left used n (g ∷ gs) follow le =
+    let lt : n < g.last = omega (arith, le, follow.0.follows, follow.0.sealed.order) in
+    ap (λ (hs : List Home). hs ++ upto n gs) (cond-false (nat_le g.last n) (homes_in g.blocks) [] (lt-leb g.last n lt))
+    ∙ upto_low l size g.last g.used n gs follow.1 (omega (arith, lt))
+
+used_low : (l : Layout) (size left used n u : ℕ) (gs : List Group) → Follow l size left used gs → n ≤ left → used_upto n gs u ≡ u
+used_low l size left used n u [] follow le = refl
+used_low l size left used n u (g ∷ gs) follow le =
+    let lt : n < g.last = omega (arith, le, follow.0.follows, follow.0.sealed.order) in
+    ap (λ (k : ℕ). used_upto n gs k) (cond-false (nat_le g.last n) g.used u (lt-leb g.last n lt))
+    ∙ used_low l size g.last g.used n u gs follow.1 (omega (arith, lt))
+
+last_above : (l : Layout) (size left used n : ℕ) (gs : List Group) → Follow l size left used gs → IsLastOf n gs → left < n
+last_above l size left used n [] follow one = absurd one
+last_above l size left used n (g ∷ gs) follow one = ⊎_elim
+    (λ here. omega (arith, here, follow.0.follows, follow.0.sealed.order))
+    (λ later. let lt = last_above l size g.last g.used n gs follow.1 later in omega (arith, lt, follow.0.follows, follow.0.sealed.order)) one
+
+module _ (l : Layout) (size left used n : ℕ) (g : Group) (gs : List Group) (follow : Follow l size left used (g ∷ gs)) where
+  pub upto_with : g.last ≤ n → upto n (g ∷ gs) ≡ homes_in g.blocks ++ upto n gs
+  upto_with le = ap (λ (hs : List Home). hs ++ upto n gs) (cond-true (nat_le g.last n) (homes_in g.blocks) [] (le-leb g.last n le))
+
+  upto_first : upto g.last (g ∷ gs) ≡ homes_in g.blocks
+  upto_first =
+      ap (λ (hs : List Home). hs ++ upto g.last gs) (cond-true (nat_le g.last g.last) (homes_in g.blocks) [] (le-leb g.last g.last (omega arith)))
+      ∙ ap (λ (hs : List Home). homes_in g.blocks ++ hs) (upto_low l size g.last g.used g.last gs follow.1 (omega arith))
+      ∙ append-nil (homes_in g.blocks)
+
+  used_first : (u : ℕ) → used_upto g.last (g ∷ gs) u ≡ g.used
+  used_first u =
+      ap (λ (k : ℕ). used_upto g.last gs k) (cond-true (nat_le g.last g.last) g.used u (le-leb g.last g.last (omega arith)))
+      ∙ used_low l size g.last g.used g.last g.used gs follow.1 (omega arith)
+
+-- the same version under another name
+to_version : (s : Super) (t : ℕ → Bool) (w w' : ℕ → List ℕ) (u u' : ℕ) (image : List ℕ) → ((b : ℕ) → IsData (layout_of s) b → t b ≡ false → w b ≡ w' b) → u ≡ u' → RecoversTo s t w u image → RecoversTo s t w' u' image
+to_version s t w w' u u' image same used recovers = record {
+  result = recovers.result;
+  replayed = recovers.replayed;
+  geometry = recovers.geometry ∙ ap (λ (k : ℕ). let g : Geometry = record (geometry_of s) { used = k } in g) used;
+  agrees = λ b is_data clear. recovers.agrees b is_data clear ∙ same b is_data clear;
+}
+
+-- ---- a device whose first group is this
+
+module _ (b : Books) (g : Group) (gs : List Group) (valid : IsValid b.sup) (empty : log_from b.sup ≡ log_to b.sup)
+    (follow : Follow (layout_of b.sup) b.sup.block_size b.left (natural b.sup.used_blocks) (g ∷ gs)) where
+  abbrev pub at : Phase → Books
+  at p = record b { groups = g ∷ gs; phase = p }
+
+  abbrev pub reading : State → ℕ → List ℕ
+  reading st = contents_of st (layout_of b.sup).sectors
+
+  -- an image that recovers to the version without the group
+  before_one : (v : ℕ → List ℕ) (t : ℕ → Bool) (st : State) (p : Phase) (image : List ℕ) → is_durable p ≡ false → ((k : ℕ) → IsData (layout_of b.sup) k → t k ≡ false → v k ≡ reading st k)
+      → RecoversTo b.sup t v (natural b.sup.used_blocks) image → RecoversOne (at p) t st image
+  before_one v t st p image early same recovers = record {
+    number = b.left;
+    is_version = inl (sym (cond-false (is_durable p) g.last b.left early));
+    recovers = to_version b.sup t v (version (at p) st b.left) (natural b.sup.used_blocks) (used_of (at p) b.left) image
+        (λ k is_data clear. same k is_data clear ∙ sym (ap (λ (hs : List Home). over hs (reading st) k) (upto_low (layout_of b.sup) b.sup.block_size b.left (natural b.sup.used_blocks) b.left (g ∷ gs) follow (omega arith))))
+        (sym (used_low (layout_of b.sup) b.sup.block_size b.left (natural b.sup.used_blocks) b.left (natural b.sup.used_blocks) (g ∷ gs) follow (omega arith))) recovers;
+  }
+
+  -- and one that recovers to the version with it
+  with_one : (v : ℕ → List ℕ) (t : ℕ → Bool) (st : State) (p : Phase) (image : List ℕ) → ((k : ℕ) → IsData (layout_of b.sup) k → t k ≡ false → over (homes_in g.blocks) v k ≡ over (homes_in g.blocks) (reading st) k)
+      → RecoversTo b.sup t (over (homes_in g.blocks) v) g.used image → RecoversOne (at p) t st image
+  with_one v t st p image same recovers = record {
+    number = g.last;
+    is_version = by_phase (is_durable p);
+    recovers = to_version b.sup t (over (homes_in g.blocks) v) (version (at p) st g.last) g.used (used_of (at p) g.last) image
+        (λ k is_data clear. same k is_data clear ∙ sym (ap (λ (hs : List Home). over hs (reading st) k) (upto_first (layout_of b.sup) b.sup.block_size b.left (natural b.sup.used_blocks) g.last g gs follow)))
+        (sym (used_first (layout_of b.sup) b.sup.block_size b.left (natural b.sup.used_blocks) g.last g gs follow (natural b.sup.used_blocks))) recovers;
+  }
+    where
+      by_phase : (d : Bool) → (g.last ≡ cond d g.last b.left) ⊎ IsLastOf g.last (cond d gs (g ∷ gs))
+      by_phase true = inl refl
+      by_phase false = inr (inl refl)
+
+  -- how what a disk reads agrees with the version: without the group where that isn't durable, with it in any case
+  pub record Reading (v : ℕ → List ℕ) (t : ℕ → Bool) (st : State) (durable : Bool) : Type 0 where
+    pub without : durable ≡ false → (k : ℕ) → IsData (layout_of b.sup) k → t k ≡ false → v k ≡ reading st k
+    pub with_it : (k : ℕ) → IsData (layout_of b.sup) k → t k ≡ false → over (homes_in g.blocks) v k ≡ over (homes_in g.blocks) (reading st) k
+
+  pub one_of : (v : ℕ → List ℕ) (t : ℕ → Bool) (st : State) (image : List ℕ) (p : Phase) → Reading v t st (is_durable p) → MayRecover b.sup g valid follow.0.sealed empty v t image p → RecoversOne (at p) t st image
+  one_of v t st image (Log i) same may = before_one v t st (Log i) image refl (same.without refl) may
+  one_of v t st image LogSafe same may = before_one v t st LogSafe image refl (same.without refl) may
+  one_of v t st image Open same may = ⊎_elim (before_one v t st Open image refl (same.without refl)) (with_one v t st Open image same.with_it) may
+  one_of v t st image OpenSafe same may = ⊎_elim (before_one v t st OpenSafe image refl (same.without refl)) (with_one v t st OpenSafe image same.with_it) may
+  one_of v t st image (GoHome i) same may = with_one v t st (GoHome i) image same.with_it may
+  one_of v t st image HomeSafe same may = with_one v t st HomeSafe image same.with_it may
+  one_of v t st image Tail same may = with_one v t st Tail image same.with_it may
+  one_of v t st image TailSafe same may = with_one v t st TailSafe image same.with_it may
+  one_of v t st image Pass same may = before_one v t st Pass image refl (same.without refl) may
+
+  same_reading : (t : ℕ → Bool) (st : State) (d : Bool) → Reading (reading st) t st d
+  same_reading t st d = record { without = λ _ k _ _. refl; with_it = λ k _ _. refl }
+
+  -- what a right device's disk leaves
+  pub standing_one : (t : ℕ → Bool) (st : State) (p : Phase) → IsPhaseOf g.blocks p → (layout_of b.sup).sectors * (layout_of b.sup).blocks ≤ st.size → Stands b.sup g (reading st) t st p
+      → (image : List ℕ) → IsImage st image → RecoversOne (at p) t st image
+  standing_one t st p fits sized known image is = one_of (reading st) t st image p (same_reading t st (is_durable p)) (stands_image b.sup g valid follow.0.sealed empty (reading st) t st sized image p fits known is)
+
+  -- and its call
+  pub during_one : (t : ℕ → Bool) (st : State) (p : Phase) → IsPhaseOf g.blocks p → AreRead b.sup g p → (layout_of b.sup).sectors * (layout_of b.sup).blocks ≤ st.size → Stands b.sup g (reading st) t st p
+      → (image : List ℕ) → LeftDuring (call_of b.sup g p) (Some st) image → RecoversOne (at p) t st image
+  during_one t st p fits read sized known image is = one_of (reading st) t st image p (same_reading t st (is_durable p)) (during_image b.sup g valid follow.0.sealed empty (reading st) t st sized image p fits read known is)
+
+  -- the groups behind stand in the new version
+  front_stands : (v : ℕ → List ℕ) (t : ℕ → Bool) (st : State) (s : Super) (xs : List Group) → Follow (layout_of s) s.block_size b.left (natural s.used_blocks) xs → IsValid s → log_from s ≡ log_to s → Rests s v t st → Standing s xs (front_phase xs) v t st
+  front_stands v t st s [] goes ok none_left known = known
+  front_stands v t st s (x ∷ xs) goes ok none_left known = by_blocks x.blocks refl
+    where
+      by_blocks : (ps : List (ℕ × List ℕ)) → x.blocks ≡ ps → Stands s x v t st (first_phase ps)
+      by_blocks [] is = known
+      by_blocks (p ∷ ps) is = going.begun s x v t ok goes.0.sealed none_left st known

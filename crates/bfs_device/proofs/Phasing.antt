@@ -136,6 +136,11 @@ module _ (s : Super) (g : Group) (valid : IsValid s) (sealed : IsSealed (layout_
   next_stands v t st TailSafe not_tail not_pass fits known = absurd (not_tail refl)
   next_stands v t st Pass not_tail not_pass fits known = absurd (not_pass refl)
 
+-- what a disk reads is the version, with the group over it where that is durable
+abbrev pub Agrees : Group → (ℕ → List ℕ) → (ℕ → List ℕ) → Bool → ℕ → Type 0
+Agrees g v w true b = over (homes_in g.blocks) w b ≡ over (homes_in g.blocks) v b
+Agrees g v w false b = w b ≡ v b
+
 -- what a read gives, and versions under another name
 module _ (s : Super) (st : State) (filled : Filled st) (valid : IsValid s) (sized : (layout_of s).sectors * (layout_of s).blocks ≤ st.size) where
   fits : (b : ℕ) → IsData (layout_of s) b → (layout_of s).sectors * b + (layout_of s).sectors ≤ st.size
@@ -185,12 +190,7 @@ module _ (s : Super) (st : State) (filled : Filled st) (valid : IsValid s) (size
         (λ same. over_same (homes_in g.blocks) (contents_of st (layout_of s).sectors) (over (homes_in g.blocks) v) b same ∙ over_again (homes_in g.blocks) v b)
         (reads_held (log_from s) (log_block s g.blocks) [] (over (homes_in g.blocks) v) m known b is_data)
 
-    -- what the disk reads is the version, with the group over it where that is durable
-    abbrev pub Agrees : (ℕ → List ℕ) → Bool → ℕ → Type 0
-    Agrees w true b = over (homes_in g.blocks) w b ≡ over (homes_in g.blocks) v b
-    Agrees w false b = w b ≡ v b
-
-    pub stands_agrees : (p : Phase) → Stands s g v t st p → (b : ℕ) → IsData (layout_of s) b → Agrees (contents_of st (layout_of s).sectors) (is_durable p) b
+    pub stands_agrees : (p : Phase) → Stands s g v t st p → (b : ℕ) → IsData (layout_of s) b → Agrees g v (contents_of st (layout_of s).sectors) (is_durable p) b
     stands_agrees (Log i) known = before i known
     stands_agrees LogSafe known = before (ring_count g.blocks) known
     stands_agrees Open known = before (ring_count g.blocks) known

@@ -22,7 +22,8 @@ use Rattle.bfs_device.specs.Books.{Books, IsSealed, IsNext, Follow, IsPhaseOf, I
 use Rattle.bfs_device.specs.Steps.{call_of, AreRead, next_phase, front_phase, first_phase, after_phase}
 use Rattle.bfs_device.proofs.Homes.{over_same, over_joined}
 use Rattle.bfs_device.proofs.Going as going
-use Rattle.bfs_device.proofs.Phasing.{follows, MayRecover, stands_image, during_image, next_stands, stands_agrees, stands_read, rests_read, Agrees}
+use Rattle.bfs_device.proofs.Phasing.{follows, MayRecover, stands_image, during_image, next_stands, stands_agrees, stands_read, rests_read, reads_plain, Agrees}
+use Rattle.bfs_device.proofs.Fronts.{front_waiting}
 
 -- ---- the groups up to a number
 
@@ -69,6 +70,28 @@ to_version s t w w' u u' image same used recovers = record {
   geometry = recovers.geometry ∙ ap (λ (k : ℕ). let g : Geometry = record (geometry_of s) { used = k } in g) used;
   agrees = λ b is_data clear. recovers.agrees b is_data clear ∙ same b is_data clear;
 }
+
+-- the groups behind one that has left stand in the new version
+front_stands : (v : ℕ → List ℕ) (t : ℕ → Bool) (st : State) (s : Super) (left : ℕ) (xs : List Group) → Follow (layout_of s) s.block_size left (natural s.used_blocks) xs → IsValid s → log_from s ≡ log_to s → Rests s v t st → Standing s xs (front_phase xs) v t st
+front_stands v t st s left [] goes ok none_left known = known
+front_stands v t st s left (x ∷ xs) goes ok none_left known = by_blocks x.blocks
+  where
+    by_blocks : (ps : List (ℕ × List ℕ)) → Stands s x v t st (first_phase ps)
+    by_blocks [] = known
+    by_blocks (p ∷ ps) = going.begun s x v t ok goes.0.sealed none_left st known
+
+front_not_durable : (left : ℕ) (xs : List Group) → durable_in left xs (front_phase xs) ≡ left
+front_not_durable left [] = refl
+front_not_durable left (x ∷ xs) = by_blocks x.blocks
+  where
+    by_blocks : (ps : List (ℕ × List ℕ)) → cond (is_durable (first_phase ps)) x.last left ≡ left
+    by_blocks [] = refl
+    by_blocks (p ∷ ps) = refl
+
+-- a call keeps the number of sectors
+size_after : (call : Call) (st : State) → (state_after call st).size ≡ st.size
+size_after (Write at bytes) st = refl
+size_after Barrier st = refl
 
 -- ---- a device whose first group is this
 
@@ -135,11 +158,101 @@ module _ (b : Books) (g : Group) (gs : List Group) (valid : IsValid b.sup) (empt
       → (image : List ℕ) → LeftDuring (call_of b.sup g p) (Some st) image → RecoversOne (at p) t st image
   during_one t st p fits read sized known image is = one_of (reading st) t st image p (same_reading t st (is_durable p)) (during_image b.sup g valid follow.0.sealed empty (reading st) t st sized image p fits read known is)
 
-  -- the groups behind stand in the new version
-  front_stands : (v : ℕ → List ℕ) (t : ℕ → Bool) (st : State) (s : Super) (xs : List Group) → Follow (layout_of s) s.block_size b.left (natural s.used_blocks) xs → IsValid s → log_from s ≡ log_to s → Rests s v t st → Standing s xs (front_phase xs) v t st
-  front_stands v t st s [] goes ok none_left known = known
-  front_stands v t st s (x ∷ xs) goes ok none_left known = by_blocks x.blocks refl
-    where
-      by_blocks : (ps : List (ℕ × List ℕ)) → x.blocks ≡ ps → Stands s x v t st (first_phase ps)
-      by_blocks [] is = known
-      by_blocks (p ∷ ps) is = going.begun s x v t ok goes.0.sealed none_left st known
+
+  -- ---- after the call has succeeded
+
+  module _ (t : ℕ → Bool) (st : State) (sized : (layout_of b.sup).sectors * (layout_of b.sup).blocks ≤ st.size) where
+    goes : (p : Phase) → (p ≡ TailSafe → ⊥) → (p ≡ Pass → ⊥) → IsPhaseOf g.blocks p → AreRead b.sup g p → Filled (state_after (call_of b.sup g p) st) → Stands b.sup g (reading st) t st p
+        → Stands b.sup g (reading (state_after (call_of b.sup g p) st)) (touched_after (call_of b.sup g p) t) (state_after (call_of b.sup g p) st) (next_phase g p)
+    goes p not_tail not_pass fits read filled known =
+        stands_read b.sup (state_after (call_of b.sup g p) st) filled valid (omega (arith, size_after (call_of b.sup g p) st, sized)) g (reading st) (touched_after (call_of b.sup g p) t) (next_phase g p)
+        (next_stands b.sup g valid follow.0.sealed empty (reading st) (touched_after (call_of b.sup g p) t) (state_after (call_of b.sup g p) st) p not_tail not_pass fits
+        (follows b.sup g valid follow.0.sealed empty (reading st) t st p fits read known))
+
+    abbrev pub IsRightAfter : Phase → Type 0
+    IsRightAfter p = Standing (after_phase g gs (at p) p).sup (after_phase g gs (at p) p).groups (after_phase g gs (at p) p).phase
+        (contents_of (state_after (call_of b.sup g p) st) (layout_of (after_phase g gs (at p) p).sup).sectors) (touched_after (call_of b.sup g p) t) (state_after (call_of b.sup g p) st)
+
+    pub right_after : (p : Phase) → IsPhaseOf g.blocks p → AreRead b.sup g p → Filled (state_after (call_of b.sup g p) st) → Stands b.sup g (reading st) t st p → IsRightAfter p
+    right_after (Log i) fits read filled known = goes (Log i) (λ e. absurd (cc)) (λ e. absurd (cc)) fits read filled known
+    right_after LogSafe fits read filled known = goes LogSafe (λ e. absurd (cc)) (λ e. absurd (cc)) fits read filled known
+    right_after Open fits read filled known = goes Open (λ e. absurd (cc)) (λ e. absurd (cc)) fits read filled known
+    right_after OpenSafe fits read filled known = goes OpenSafe (λ e. absurd (cc)) (λ e. absurd (cc)) fits read filled known
+    right_after (GoHome i) fits read filled known = goes (GoHome i) (λ e. absurd (cc)) (λ e. absurd (cc)) fits read filled known
+    right_after HomeSafe fits read filled known = goes HomeSafe (λ e. absurd (cc)) (λ e. absurd (cc)) fits read filled known
+    right_after Tail fits read filled known = goes Tail (λ e. absurd (cc)) (λ e. absurd (cc)) fits read filled known
+    right_after TailSafe fits read filled known =
+        let s : Super = closed_of b.sup g in
+        let st' : State = state_after (call_of b.sup g TailSafe) st in
+        let ok : IsValid s = going.closed_valid b.sup g (reading st) t valid follow.0.sealed empty in
+        let rests = follows b.sup g valid follow.0.sealed empty (reading st) t st TailSafe fits read known in
+        front_stands _ _ st' s g.last gs follow.1 ok refl (rests_read s st' filled ok sized (over (homes_in g.blocks) (reading st)) _ rests)
+    right_after Pass fits read filled known =
+        let st' : State = state_after (call_of b.sup g Pass) st in
+        let rests = follows b.sup g valid follow.0.sealed empty (reading st) t st Pass fits read known in
+        let same : g.used ≡ natural b.sup.used_blocks = follow.0.same_used fits in
+        front_stands _ _ st' b.sup g.last gs (subst (λ (u : ℕ). Follow (layout_of b.sup) b.sup.block_size g.last u gs) same follow.1) valid empty (rests_read b.sup st' filled valid sized (reading st) _ rests)
+
+    -- the versions stay: where what the disk reads agrees, without the group or with it
+    kept_by : (d : Bool) (n : ℕ) (new : State) (k : ℕ) → Agrees g (reading st) (reading new) d k → (d ≡ true → g.last ≤ n) → over (upto n (g ∷ gs)) (reading new) k ≡ over (upto n (g ∷ gs)) (reading st) k
+    kept_by true n new k agree later =
+        let is = upto_with (layout_of b.sup) b.sup.block_size b.left (natural b.sup.used_blocks) n g gs follow (later refl) in
+        ap (λ (hs : List Home). over hs (reading new) k) is ∙ over_joined (homes_in g.blocks) (upto n gs) (reading new) k
+        ∙ over_same (upto n gs) (over (homes_in g.blocks) (reading new)) (over (homes_in g.blocks) (reading st)) k agree
+        ∙ sym (over_joined (homes_in g.blocks) (upto n gs) (reading st) k) ∙ ap (λ (hs : List Home). over hs (reading st) k) (sym is)
+    kept_by false n new k agree later = over_same (upto n (g ∷ gs)) (reading new) (reading st) k agree
+
+    later_one : (n : ℕ) (p : Phase) → IsVersion (at p) n → is_durable p ≡ true → g.last ≤ n
+    later_one n p is durable = ⊎_elim
+        (λ here. let e = here ∙ cond-true (is_durable p) g.last b.left durable in omega (arith, e))
+        (λ one. let lt = last_above (layout_of b.sup) b.sup.block_size g.last g.used n gs follow.1 (subst (IsLastOf n) (cond-true (is_durable p) gs (g ∷ gs) durable) one) in omega (arith, lt))
+        is
+
+    goes_kept : (p : Phase) → (p ≡ TailSafe → ⊥) → (p ≡ Pass → ⊥) → IsPhaseOf g.blocks p → AreRead b.sup g p → Filled (state_after (call_of b.sup g p) st) → Stands b.sup g (reading st) t st p
+        → (n : ℕ) → IsVersion (at (next_phase g p)) n → (k : ℕ) → IsData (layout_of b.sup) k
+        → over (upto n (g ∷ gs)) (reading (state_after (call_of b.sup g p) st)) k ≡ over (upto n (g ∷ gs)) (reading st) k
+    goes_kept p not_tail not_pass fits read filled known n is k is_data =
+        let st' : State = state_after (call_of b.sup g p) st in
+        let next = next_stands b.sup g valid follow.0.sealed empty (reading st) (touched_after (call_of b.sup g p) t) st' p not_tail not_pass fits (follows b.sup g valid follow.0.sealed empty (reading st) t st p fits read known) in
+        kept_by (is_durable (next_phase g p)) n st' k
+        (stands_agrees b.sup st' filled valid (omega (arith, size_after (call_of b.sup g p) st, sized)) g (reading st) (touched_after (call_of b.sup g p) t) (next_phase g p) next k is_data)
+        (later_one n (next_phase g p) is)
+
+    abbrev pub AreKept : Phase → Type 0
+    AreKept p = (n : ℕ) → IsVersion (after_phase g gs (at p) p) n → (k : ℕ) → IsData (layout_of b.sup) k
+        → version (after_phase g gs (at p) p) (state_after (call_of b.sup g p) st) n k ≡ version (at p) st n k
+
+    tail_kept : IsPhaseOf g.blocks TailSafe → AreRead b.sup g TailSafe → Filled (state_after (call_of b.sup g TailSafe) st) → Stands b.sup g (reading st) t st TailSafe → AreKept TailSafe
+    tail_kept fits read filled known n is k is_data =
+        let s : Super = closed_of b.sup g in
+        let st' : State = state_after (call_of b.sup g TailSafe) st in
+        let ok : IsValid s = going.closed_valid b.sup g (reading st) t valid follow.0.sealed empty in
+        let rests = follows b.sup g valid follow.0.sealed empty (reading st) t st TailSafe fits read known in
+        let later : g.last ≤ n = ⊎_elim
+        (λ here. let e = here ∙ front_not_durable g.last gs in omega (arith, e))
+        (λ one. let lt = last_above (layout_of b.sup) b.sup.block_size g.last g.used n gs follow.1 (subst (IsLastOf n) (front_waiting gs) one) in omega (arith, lt)) is in
+        over_same (upto n gs) (reading st') (over (homes_in g.blocks) (reading st)) k (reads_plain s st' filled ok sized (over (homes_in g.blocks) (reading st)) rests k is_data)
+        ∙ sym (over_joined (homes_in g.blocks) (upto n gs) (reading st) k)
+        ∙ ap (λ (hs : List Home). over hs (reading st) k) (sym (upto_with (layout_of b.sup) b.sup.block_size b.left (natural b.sup.used_blocks) n g gs follow later))
+    either_none : (d : Bool) → cond {A = List Home} d [] [] ≡ []
+    either_none true = refl
+    either_none false = refl
+
+    pass_kept : IsPhaseOf g.blocks Pass → AreRead b.sup g Pass → Filled (state_after (call_of b.sup g Pass) st) → Stands b.sup g (reading st) t st Pass → AreKept Pass
+    pass_kept fits read filled known n is k is_data =
+        let st' : State = state_after (call_of b.sup g Pass) st in
+        let rests = follows b.sup g valid follow.0.sealed empty (reading st) t st Pass fits read known in
+        let same : upto n gs ≡ upto n (g ∷ gs) = sym (ap (λ (ps : List (ℕ × List ℕ)). cond (nat_le g.last n) (homes_in ps) [] ++ upto n gs) fits ∙ ap (λ (hs : List Home). hs ++ upto n gs) (either_none (nat_le g.last n))) in
+        over_same (upto n gs) (reading st') (reading st) k (reads_plain b.sup st' filled valid sized (reading st) rests k is_data)
+        ∙ ap (λ (hs : List Home). over hs (reading st) k) same
+
+    pub versions_after : (p : Phase) → IsPhaseOf g.blocks p → AreRead b.sup g p → Filled (state_after (call_of b.sup g p) st) → Stands b.sup g (reading st) t st p → AreKept p
+    versions_after (Log i) fits read filled known = goes_kept (Log i) (λ e. absurd (cc)) (λ e. absurd (cc)) fits read filled known
+    versions_after LogSafe fits read filled known = goes_kept LogSafe (λ e. absurd (cc)) (λ e. absurd (cc)) fits read filled known
+    versions_after Open fits read filled known = goes_kept Open (λ e. absurd (cc)) (λ e. absurd (cc)) fits read filled known
+    versions_after OpenSafe fits read filled known = goes_kept OpenSafe (λ e. absurd (cc)) (λ e. absurd (cc)) fits read filled known
+    versions_after (GoHome i) fits read filled known = goes_kept (GoHome i) (λ e. absurd (cc)) (λ e. absurd (cc)) fits read filled known
+    versions_after HomeSafe fits read filled known = goes_kept HomeSafe (λ e. absurd (cc)) (λ e. absurd (cc)) fits read filled known
+    versions_after Tail fits read filled known = goes_kept Tail (λ e. absurd (cc)) (λ e. absurd (cc)) fits read filled known
+    versions_after TailSafe fits read filled known = tail_kept fits read filled known
+    versions_after Pass fits read filled known = pass_kept fits read filled known

@@ -12,8 +12,12 @@ use Rattle.bfs_device.specs.declared.journal.Phase.TheVariants.{Log, LogSafe, Op
 use Rattle.bfs_device.specs.declared.journal.Progress.{Progress}
 use Rattle.bfs_device.specs.declared.journal.Progress.TheVariants as made
 use Rattle.bfs_device.specs.declared.journal.Mark.{Mark}
+use Rattle.bfs_device.specs.declared.journal.DeviceFault.{DeviceFault}
+use Rattle.bfs_device.specs.declared.journal.DeviceFault.TheVariants.{Disk, Stopped}
+use Rattle.bfs_disk.specs.State.{State}
+use Rattle.bfs_disk.specs.Disk.{MayLeave}
 use Rattle.bfs_device.specs.Layouts.{layout_of, slot, ring_count, log_block, opened_of, closed_of}
-use Rattle.bfs_device.specs.Calls.{Call, Write, Barrier}
+use Rattle.bfs_device.specs.Calls.{Call, Write, Barrier, told_after, IsFailed, LeftDuring, touched_after}
 use Rattle.bfs_device.specs.Books.{Books, durable_of}
 
 -- the disk call of a phase
@@ -119,10 +123,41 @@ abbrev pub progress_to : List Group → Phase → Progress
 progress_to [] phase = made.Idle
 progress_to (g ∷ gs) phase = progress_in g phase
 
--- the call of the first group's phase
-abbrev pub front_call : Super → List Group → Phase → Option Call
-front_call s [] phase = None
-front_call s (g ∷ gs) phase = Some (call_of s g phase)
+-- what the call of the first group's phase makes of a disk; without a group there is none
+abbrev pub told_front : Super → List Group → Phase → Option State → Option State
+told_front s [] phase told = told
+told_front s (g ∷ gs) phase told = told_after (call_of s g phase) told
+
+abbrev pub FailedFront : Super → List Group → Phase → Option State → Option State → Type 0
+FailedFront s [] phase old new = ⊥
+FailedFront s (g ∷ gs) phase old new = IsFailed (call_of s g phase) old new
+
+abbrev pub LeftFront : Super → List Group → Phase → Option State → List ℕ → Type 0
+LeftFront s [] phase told image = MayLeave told image
+LeftFront s (g ∷ gs) phase told image = LeftDuring (call_of s g phase) told image
+
+abbrev pub ReadFront : Super → List Group → Phase → Type 0
+ReadFront s [] phase = Unit {0}
+ReadFront s (g ∷ gs) phase = AreRead s g phase
+
+abbrev pub touched_front : Super → List Group → Phase → (ℕ → Bool) → ℕ → Bool
+touched_front s [] phase touched = touched
+touched_front s (g ∷ gs) phase touched = touched_after (call_of s g phase) touched
+
+-- the blocks that data writes have named since the last barrier that succeeded, after the call of a step
+abbrev pub still_touched : Books → (ℕ → Bool) → ℕ → Bool
+still_touched b touched = touched_front b.sup b.groups b.phase touched
+
+-- the books once a write or a barrier has failed
+abbrev pub halted : Books → ℕ → Books
+halted b after = record b { moment = counted b.moment; stop = Some (record { durable = durable_of b; faults = after }) }
+
+-- A fault and its cause: in this call a write or a barrier failed, so that both counts rose, and the device has stopped; or it
+-- had stopped before, and nothing has changed.
+abbrev pub IsStepFault : Books → Books → ℕ → ℕ → ℕ → ℕ → DeviceFault → Type 0
+IsStepFault b new old_faults faults old_stops stops (Disk before after stopped) =
+    (b.stop ≡ None) × (before ≡ old_faults) × (after ≡ faults) × Rose old_faults faults × (stopped ≡ true) × Rose old_stops stops × (new ≡ halted b after)
+IsStepFault b new old_faults faults old_stops stops (Stopped durable count) = (b.stop ≡ Some (record { durable = durable; faults = count })) × (new ≡ b)
 
 -- the calls from a phase on until the group has left
 abbrev pub calls_from : List (ℕ × List ℕ) → Phase → ℕ

@@ -3,6 +3,7 @@
 
 mod calls;
 mod journal;
+mod step;
 mod turn;
 
 pub use journal::{DeviceFault, Mark, Progress};

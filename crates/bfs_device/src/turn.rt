@@ -80,6 +80,19 @@ fn front(groups: &[Group]) -> Phase
     }
 }
 
+/// The number of the last entry that is durable.
+pub fn durable_number(journal: &Journal) -> u64
+    ensures { result ≡ durable_of (books_of journal.now) }
+{
+    if journal.groups.is_empty() {
+        return journal.left;
+    }
+    match journal.phase {
+        Phase::Home(_) | Phase::HomeSafe | Phase::Tail | Phase::TailSafe => journal.groups[0].last,
+        Phase::Log(_) | Phase::LogSafe | Phase::Open | Phase::OpenSafe | Phase::Pass => journal.left,
+    }
+}
+
 // Stores a mark, for which there is room.
 fn store(marks: &mut Vec<Mark>, mark: Mark)
     requires { length marks.old.items < vec_capacity marks.old }

@@ -1,0 +1,53 @@
+// A step of a device: one disk call, and what is kept of it.
+ghost use Rattle.std.specs.Prelude.{◌≡◌, ◌≤◌, ◌<◌, ◌+◌, ◌*◌, ◌^◌, ℕ, List, [], length, Bool, true, OnOk, OnErr, IfOk, IfErr, Option, Some, None};
+ghost use Rattle.bfs_base.specs.Counts.{HasCause, Rose};
+ghost use Rattle.bfs_base.specs.Moments.{Elapses, Passed};
+ghost use Rattle.bfs_disk.specs.State.{State, Tells};
+ghost use Rattle.bfs_disk.specs.Disk.{MayLeave};
+ghost use Rattle.bfs_device.specs.Layouts.{IsData, layout_of};
+ghost use Rattle.bfs_device.specs.Books.{Ready, IsOnDisk, IsRight, IsVersion, RecoversOne, Books, books_of, durable_of, version};
+ghost use Rattle.bfs_device.specs.Steps.{told_front, FailedFront, LeftFront, ReadFront, still_touched, halted, stepped, progress_to, IsStepFault};
+
+use crate::calls::perform;
+use crate::journal::{DeviceFault, Journal, Progress, Stop};
+use crate::turn::{advance, durable_number};
+use bfs_disk::{Disk, Failed};
+
+// Makes the disk call of the first group's phase.
+fn act<D: Disk>(disk: &mut D, journal: &mut Journal) -> Result<(), Failed>
+    requires ready { Ready journal.old }
+    requires some { 0 < length journal.old.groups.items }
+    requires on_disk { IsOnDisk (D.size disk.old) journal.old.sup }
+    ensures ready { Ready journal.new }
+    ensures books { books_of journal.new ≡ books_of journal.old }
+    ensures size { D.size disk.new ≡ D.size disk.old }
+    ensures done { OnOk result (D.state disk.new ≡ told_front journal.old.sup journal.old.groups.items journal.old.phase (D.state disk.old)) }
+    ensures failed { OnErr result (FailedFront journal.old.sup journal.old.groups.items journal.old.phase (D.state disk.old) (D.state disk.new)) }
+    ensures time { Elapses (D.state disk.old) result (D.clock disk.old) (D.clock disk.new) (D.since disk.old) (D.since disk.new) (LeftFront journal.old.sup journal.old.groups.items journal.old.phase (D.state disk.old)) }
+    ensures cause { HasCause (D.faults disk.old) (D.faults disk.new) result }
+    ensures stops { HasCause (D.stops disk.old) (D.stops disk.new) result }
+    ensures read { ReadFront journal.old.sup journal.old.groups.items journal.old.phase }
+{
+    let phase = journal.phase;
+    let group = &journal.groups[0];
+    perform(disk, &journal.sup, group, phase, journal.buffer.as_mut_slice())
+}
+
+// Stops for good.
+pub fn halt(journal: &mut Journal, before: u64, after: u64) -> DeviceFault
+    requires { Ready journal.old }
+    ensures ready { Ready journal.new }
+    ensures books { books_of journal.new ≡ halted (books_of journal.old) after }
+    ensures fault { result ≡ DeviceFault.Disk before after true }
+{
+    journal.moment = journal.moment.saturating_add(1);
+    journal.stop = Some(Stop {
+        durable: durable_number(journal),
+        faults: after,
+    });
+    DeviceFault::Disk {
+        before,
+        after,
+        stops: true,
+    }
+}

@@ -6,3 +6,4 @@ pub mod Going
 pub mod Fronts
 pub mod Phasing
 pub mod Right
+pub mod Failing

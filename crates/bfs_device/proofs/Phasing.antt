@@ -59,7 +59,7 @@ module _ (s : Super) (g : Group) (valid : IsValid s) (sealed : IsSealed (layout_
   some_ring : 0 < length g.blocks → 0 < ring_count g.blocks
   some_ring some = omega (arith, some)
 
-  long_block : (i : ℕ) → i < ring_count g.blocks → length (log_block s g.blocks i) ≡ 512 * r
+  pub long_block : (i : ℕ) → i < ring_count g.blocks → length (log_block s g.blocks i) ≡ 512 * r
   long_block i lt =
       let size = sizes s valid in
       ⊎_elim
@@ -67,7 +67,7 @@ module _ (s : Super) (g : Group) (valid : IsValid s) (sealed : IsSealed (layout_
       (λ other. ap length (cond-false _ _ _ (ne_eqb (i % 127) 0 other)) ∙ sealed.sized (126 * (i / 127) + (i % 127 - 1)) (omega (arith, lt, other)) ∙ size.0)
       (cases_eq (i % 127) 0)
 
-  long_home : (i : ℕ) → i < length g.blocks → length (bytes_at g.blocks i) ≡ 512 * r
+  pub long_home : (i : ℕ) → i < length g.blocks → length (bytes_at g.blocks i) ≡ 512 * r
   long_home i lt = sealed.sized i lt ∙ (sizes s valid).0
 
   -- what stands behind the call of a phase

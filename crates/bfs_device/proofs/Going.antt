@@ -233,3 +233,11 @@ module _ (s : Super) (g : Group) (v : ℕ → List ℕ) (t : ℕ → Bool) (vali
     pub rest_image : Rests s v t st → RecoversTo s t v (natural s.used_blocks) image
     rest_image known = recovers_empty s s (natural s.used_blocks) image refl valid (known_super image known leaves some) long_image t v empty
         (λ b is_data. known_image image known leaves b is_data.0 (fits b is_data.1) is_data)
+
+-- an image of a disk on which no group is on its way
+pub rested_image : (s : Super) (v : ℕ → List ℕ) (t : ℕ → Bool) → IsValid s → log_from s ≡ log_to s → (st : State) → (layout_of s).sectors * (layout_of s).blocks ≤ st.size → (image : List ℕ) → IsImage st image → Rests s v t st → RecoversTo s t v (natural s.used_blocks) image
+rested_image s v t valid empty st sized image leaves known =
+    let fits : (b : ℕ) → b < (layout_of s).blocks → (layout_of s).sectors * b + (layout_of s).sectors ≤ st.size = λ b lt. omega (arith, fits_sectors s valid b lt, sized) in
+    let some : 1 < st.size = let f = fits 0 (omega (arith, (good s valid).inside, (good s valid).behind_zero)) in omega (arith, f, (good s valid).two) in
+    recovers_empty s s (natural s.used_blocks) image refl valid (known_super image known leaves some) (omega (arith, leaves.size, sized)) t v empty
+    (λ b is_data. known_image image known leaves b is_data.0 (fits b is_data.1) is_data)

@@ -7,3 +7,4 @@ pub mod Fronts
 pub mod Phasing
 pub mod Right
 pub mod Failing
+pub mod Stepping

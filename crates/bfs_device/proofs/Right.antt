@@ -63,7 +63,7 @@ module _ (l : Layout) (size left used n : ℕ) (g : Group) (gs : List Group) (fo
       ∙ used_low l size g.last g.used g.last g.used gs follow.1 (omega arith)
 
 -- the same version under another name
-to_version : (s : Super) (t : ℕ → Bool) (w w' : ℕ → List ℕ) (u u' : ℕ) (image : List ℕ) → ((b : ℕ) → IsData (layout_of s) b → t b ≡ false → w b ≡ w' b) → u ≡ u' → RecoversTo s t w u image → RecoversTo s t w' u' image
+pub to_version : (s : Super) (t : ℕ → Bool) (w w' : ℕ → List ℕ) (u u' : ℕ) (image : List ℕ) → ((b : ℕ) → IsData (layout_of s) b → t b ≡ false → w b ≡ w' b) → u ≡ u' → RecoversTo s t w u image → RecoversTo s t w' u' image
 to_version s t w w' u u' image same used recovers = record {
   result = recovers.result;
   replayed = recovers.replayed;
@@ -88,8 +88,17 @@ front_not_durable left (x ∷ xs) = by_blocks x.blocks
     by_blocks [] = refl
     by_blocks (p ∷ ps) = refl
 
+-- a device without a group
+pub rest_one : (b : Books) → IsValid b.sup → log_from b.sup ≡ log_to b.sup → (t : ℕ → Bool) (st : State) → (layout_of b.sup).sectors * (layout_of b.sup).blocks ≤ st.size
+    → Rests b.sup (contents_of st (layout_of b.sup).sectors) t st → (image : List ℕ) → IsImage st image → (let c : Books = record b { groups = [] } in RecoversOne c t st image)
+rest_one b valid empty t st sized known image is = record {
+  number = b.left;
+  is_version = inl refl;
+  recovers = going.rested_image b.sup (contents_of st (layout_of b.sup).sectors) t valid empty st sized image is known;
+}
+
 -- a call keeps the number of sectors
-size_after : (call : Call) (st : State) → (state_after call st).size ≡ st.size
+pub size_after : (call : Call) (st : State) → (state_after call st).size ≡ st.size
 size_after (Write at bytes) st = refl
 size_after Barrier st = refl
 
@@ -194,7 +203,7 @@ module _ (b : Books) (g : Group) (gs : List Group) (valid : IsValid b.sup) (empt
         front_stands _ _ st' b.sup g.last gs (subst (λ (u : ℕ). Follow (layout_of b.sup) b.sup.block_size g.last u gs) same follow.1) valid empty (rests_read b.sup st' filled valid sized (reading st) _ rests)
 
     -- the versions stay: where what the disk reads agrees, without the group or with it
-    kept_by : (d : Bool) (n : ℕ) (new : State) (k : ℕ) → Agrees g (reading st) (reading new) d k → (d ≡ true → g.last ≤ n) → over (upto n (g ∷ gs)) (reading new) k ≡ over (upto n (g ∷ gs)) (reading st) k
+    pub kept_by : (d : Bool) (n : ℕ) (new : State) (k : ℕ) → Agrees g (reading st) (reading new) d k → (d ≡ true → g.last ≤ n) → over (upto n (g ∷ gs)) (reading new) k ≡ over (upto n (g ∷ gs)) (reading st) k
     kept_by true n new k agree later =
         let is = upto_with (layout_of b.sup) b.sup.block_size b.left (natural b.sup.used_blocks) n g gs follow (later refl) in
         ap (λ (hs : List Home). over hs (reading new) k) is ∙ over_joined (homes_in g.blocks) (upto n gs) (reading new) k
@@ -202,7 +211,7 @@ module _ (b : Books) (g : Group) (gs : List Group) (valid : IsValid b.sup) (empt
         ∙ sym (over_joined (homes_in g.blocks) (upto n gs) (reading st) k) ∙ ap (λ (hs : List Home). over hs (reading st) k) (sym is)
     kept_by false n new k agree later = over_same (upto n (g ∷ gs)) (reading new) (reading st) k agree
 
-    later_one : (n : ℕ) (p : Phase) → IsVersion (at p) n → is_durable p ≡ true → g.last ≤ n
+    pub later_one : (n : ℕ) (p : Phase) → IsVersion (at p) n → is_durable p ≡ true → g.last ≤ n
     later_one n p is durable = ⊎_elim
         (λ here. let e = here ∙ cond-true (is_durable p) g.last b.left durable in omega (arith, e))
         (λ one. let lt = last_above (layout_of b.sup) b.sup.block_size g.last g.used n gs follow.1 (subst (IsLastOf n) (cond-true (is_durable p) gs (g ∷ gs) durable) one) in omega (arith, lt))

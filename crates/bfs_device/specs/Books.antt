@@ -163,9 +163,13 @@ Standing s (g ∷ gs) phase v touched state = Stands s g v touched state phase
 -- A device whose disk holds this state is right: the disk has what the phase says, or, where it has stopped, each image that a
 -- crash leaves recovers to one of the versions. The touched blocks are those that data writes named since the last barrier
 -- that succeeded.
+abbrev pub IsRightAs : Option Stop → Books → (ℕ → Bool) → State → Type 0
+IsRightAs None b touched state = Standing b.sup b.groups b.phase (contents_of state (layout_of b.sup).sectors) touched state
+IsRightAs (Some stop) b touched state = (image : List ℕ) → IsImage state image → RecoversOne b touched state image
+
 abbrev pub IsRight : Books → (ℕ → Bool) → State → Type 0
-IsRight b touched state = if_stopped b.stop
-  where
-    if_stopped : Option Stop → Type 0
-    if_stopped None = Standing b.sup b.groups b.phase (contents_of state (layout_of b.sup).sectors) touched state
-    if_stopped (Some stop) = (image : List ℕ) → IsImage state image → RecoversOne b touched state image
+IsRight b touched state = IsRightAs b.stop b touched state
+
+-- each block but block 0 and those of the log has the same bytes in each version
+abbrev pub AreSame : Books → State → Books → State → Type 0
+AreSame old_books old new_books new = (n : ℕ) → IsVersion new_books n → (k : ℕ) → IsData (layout_of old_books.sup) k → version new_books new n k ≡ version old_books old n k

@@ -16,7 +16,8 @@ use Rattle.bfs_device.specs.declared.journal.Stop.{Stop}
 use Rattle.bfs_device.specs.Layouts.{IsData, layout_of}
 use Rattle.bfs_device.specs.Calls.{Call, Write, Barrier, told_after, state_after, IsFailed, LeftDuring}
 use Rattle.bfs_device.specs.Phases.{none, Rests}
-use Rattle.bfs_device.specs.Books.{Books, Follow, IsPhaseFor, IsOnDisk, IsRight, IsRightAs, RecoversOne, AreSame, IsVersion, is_durable, version}
+use Rattle.bfs_device.specs.declared.journal.Journal.{Journal}
+use Rattle.bfs_device.specs.Books.{Books, Ready, books_of, Follow, IsPhaseFor, IsOnDisk, IsRight, IsRightAs, RecoversOne, AreSame, IsVersion, is_durable, version}
 use Rattle.bfs_device.specs.Steps.{call_of, after_phase, told_front, FailedFront, LeftFront, ReadFront, still_touched, halted, stepped}
 use Rattle.bfs_device.proofs.Phasing.{Agrees}
 use Rattle.bfs_device.proofs.Going as going
@@ -153,3 +154,6 @@ pub now_right : (b : Books) → Known b → (size : Option ℕ) → IsOnDisk siz
     → (image : List ℕ) → MayLeave told image → RecoversOne b t right.0 image
 now_right b know size on t told law right image left =
     now_as b.stop b know t right.0 (on_state b.sup size told right.0 law on right.1) right.2 image (subst (λ (o : Option State). MayLeave o image) right.1 left)
+
+pub known_of : (j : Journal) → Ready j → Known (books_of j)
+known_of j ready = record { valid = ready.valid; empty = ap natural ready.empty; follow = ready.follow; phase = ready.phase }

@@ -4,3 +4,4 @@ pub mod Calls
 pub mod Phases
 pub mod Books
 pub mod Steps
+pub mod Seals

@@ -1,5 +1,5 @@
 -- What a step of a device does.
-use Rattle.std.specs.Prelude.{◌≡◌, ◌<◌, ◌≤◌, ℕ, ◌+◌, ◌-◌, ◌*◌, ◌^◌, min, List, [], ◌∷◌, ◌++◌, length, Bool, true, false, Option, Some, None, nat_lt, if◌then◌else◌}
+use Rattle.std.specs.Prelude.{◌≡◌, ◌⊎◌, IsSome, ◌<◌, ◌≤◌, ℕ, ◌+◌, ◌-◌, ◌*◌, ◌^◌, min, List, [], ◌∷◌, ◌++◌, length, Bool, true, false, Option, Some, None, nat_lt, if◌then◌else◌}
 use Rattle.bfs_base.specs.Counts.{Rose}
 use Rattle.bfs_base.specs.Images.{IsBytes}
 use Rattle.bfs_super.specs.declared.sup.Super.{Super}
@@ -151,6 +151,10 @@ still_touched b touched = touched_front b.sup b.groups b.phase touched
 -- the books once a write or a barrier has failed
 abbrev pub halted : Books → ℕ → Books
 halted b after = record b { moment = counted b.moment; stop = Some (record { durable = durable_of b; faults = after }) }
+
+-- no disk call is made
+abbrev pub IsUnmoved : Books → Type 0
+IsUnmoved b = IsSome b.stop ⊎ (b.groups ≡ [])
 
 -- A fault and its cause: in this call a write or a barrier failed, so that both counts rose, and the device has stopped; or it
 -- had stopped before, and nothing has changed.

@@ -2,8 +2,10 @@
 #![tactic(auto)]
 
 mod calls;
+mod device;
 mod journal;
 mod step;
 mod turn;
 
+pub use device::Device;
 pub use journal::{DeviceFault, Mark, Progress};

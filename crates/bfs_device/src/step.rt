@@ -5,8 +5,8 @@ ghost use Rattle.bfs_base.specs.Moments.{Elapses, Passed};
 ghost use Rattle.bfs_disk.specs.State.{State, Tells};
 ghost use Rattle.bfs_disk.specs.Disk.{MayLeave};
 ghost use Rattle.bfs_device.specs.Layouts.{IsData, layout_of};
-ghost use Rattle.bfs_device.specs.Books.{Ready, IsOnDisk, IsRight, IsVersion, RecoversOne, Books, books_of, durable_of, version};
-ghost use Rattle.bfs_device.specs.Steps.{told_front, FailedFront, LeftFront, ReadFront, still_touched, halted, stepped, progress_to, IsStepFault};
+ghost use Rattle.bfs_device.specs.Books.{Ready, IsOnDisk, IsRight, IsVersion, RecoversOne, AreSame, Books, books_of, durable_of, version};
+ghost use Rattle.bfs_device.specs.Steps.{told_front, FailedFront, LeftFront, ReadFront, still_touched, halted, stepped, progress_to, IsStepFault, IsUnmoved};
 
 use crate::calls::perform;
 use crate::journal::{DeviceFault, Journal, Progress, Stop};
@@ -49,5 +49,48 @@ pub fn halt(journal: &mut Journal, before: u64, after: u64) -> DeviceFault
         before,
         after,
         stops: true,
+    }
+}
+
+// The answer of a device that has stopped.
+pub fn stopped(stop: Stop) -> DeviceFault
+    ensures { result ≡ DeviceFault.Stopped stop.durable stop.faults }
+{
+    DeviceFault::Stopped {
+        durable: stop.durable,
+        faults: stop.faults,
+    }
+}
+
+/// One disk call, or none where the device has stopped or has no group.
+pub fn step_of<D: Disk>(disk: &mut D, journal: &mut Journal) -> Result<Progress, DeviceFault>
+    requires ready { Ready journal.old }
+    requires on_disk { IsOnDisk (D.size disk.old) journal.old.sup }
+    ensures ready { Ready journal.new }
+    ensures size { D.size disk.new ≡ D.size disk.old }
+    ensures ok { IfOk result (λ p. (journal.old.stop ≡ None) × (p ≡ progress_to journal.old.groups.items journal.old.phase) × (books_of journal.new ≡ stepped (books_of journal.old))) }
+    ensures call { OnOk result (D.state disk.new ≡ told_front journal.old.sup journal.old.groups.items journal.old.phase (D.state disk.old)) }
+    ensures fault { IfErr result (IsStepFault (books_of journal.old) (books_of journal.new) (D.faults disk.old) (D.faults disk.new) (D.stops disk.old) (D.stops disk.new)) }
+    ensures unmoved { IsUnmoved (books_of journal.old) → disk.new ≡ disk.old }
+    ensures faults { D.faults disk.old ≤ D.faults disk.new }
+    ensures stops { D.stops disk.old ≤ D.stops disk.new }
+    ensures clock { D.clock disk.new ≤ D.clock disk.old + 1 }
+    ensures right { (t : ℕ → Bool) (right : Tells (D.state disk.old) (IsRight (books_of journal.old) t))
+        → OnOk result (Tells (D.state disk.new) (λ s. IsRight (books_of journal.new) (still_touched (books_of journal.old) t) s × AreSame (books_of journal.old) right.0 (books_of journal.new) s)) }
+    ensures still_right { (t : ℕ → Bool) (right : Tells (D.state disk.old) (IsRight (books_of journal.old) t))
+        → OnErr result (Tells (D.state disk.new) (λ s. IsRight (books_of journal.new) t s × AreSame (books_of journal.old) right.0 (books_of journal.new) s)) }
+    ensures moments { (t : ℕ → Bool) → Tells (D.state disk.old) (IsRight (books_of journal.old) t)
+        → Passed (D.clock disk.old) (D.clock disk.new) (D.since disk.old) (D.since disk.new) (λ c. Tells (D.state disk.old) (λ s. RecoversOne (books_of journal.old) t s c)) }
+{
+    if let Some(stop) = journal.stop {
+        return Err(stopped(stop));
+    }
+    if journal.groups.is_empty() {
+        return Ok(Progress::Idle);
+    }
+    let before = disk.faults();
+    match act(disk, journal) {
+        Ok(()) => Ok(advance(journal)),
+        Err(_) => Err(halt(journal, before, disk.faults())),
     }
 }

@@ -1,0 +1,168 @@
+// A device: a disk, and the groups that go into its log and from there home.
+ghost use Rattle.std.specs.Prelude.{◌≡◌, ◌⊎◌, ◌≤◌, ◌<◌, ◌+◌, ◌-◌, ◌*◌, ◌/◌, ◌^◌, ◌==◌, ◌||◌, ◌↔◌, ◌++◌, ◌∷◌, max, ℕ, List, [], length, Bool, IsTrue, OnOk, OnErr, IfOk, IfErr, IfSome, Option, Some, None};
+ghost use Rattle.bfs_base.specs.Counts.{HasCause, Rose};
+ghost use Rattle.bfs_base.specs.Moments.{Elapses, Passed};
+ghost use Rattle.bfs_disk.specs.State.{State, Tells, Holds};
+ghost use Rattle.bfs_disk.specs.Disk.{MayLeave, told_written};
+ghost use Rattle.bfs_super.specs.Conditions.{IsValid};
+ghost use Rattle.bfs_log.specs.Replay.{super_of};
+ghost use Rattle.bfs_device.specs.Layouts.{IsData, layout_of, ring_count};
+ghost use Rattle.bfs_device.specs.Phases.{none};
+ghost use Rattle.bfs_device.specs.Books.{IsNext, IsOnDisk, IsRight, IsVersion, RecoversOne, AreSame, Books, View, durable_of, sealed_of, version};
+ghost use Rattle.bfs_device.specs.Steps.{told_front, still_touched, stepped, progress_to, calls_left, IsStepFault, IsUnmoved};
+ghost use Rattle.bfs_device.specs.Seals.{adopted, with_room, sealed_with, last_used, calls_of_group};
+
+use crate::journal::{DeviceFault, Journal, Mark, Phase, Progress};
+use crate::step::step_of;
+use crate::turn::{durable_number, first};
+use bfs_disk::Disk;
+use bfs_super::Super;
+use bfs_txn::Group;
+use std::alloc::{AllocError, Global};
+use std::marker::Model;
+
+/// A disk with a journal: sealed groups of changed blocks wait here, go into the log, become durable, and are written home,
+/// one disk call a step. After a write or a barrier that failed it makes no disk call any more.
+pub struct Device<D: Disk> {
+    disk: D,
+    journal: Journal,
+}
+
+impl<D: Disk> Model for Device<D> {
+    ghost use Rattle.bfs_device.specs.Books.{View, Ready, IsOnDisk, books_of};
+
+    ghost Value = { View D };
+
+    ghost view = { λ d. record { disk = d.disk; books = books_of d.journal } };
+
+    ghost invariant = { λ d. Ready d.journal × IsOnDisk (D.size d.disk) d.journal.sup };
+}
+
+impl<D: Disk> Device<D> {
+    /// Takes a disk whose volume has this superblock, with an empty log. Room for 16 groups, a mark and a block is taken here;
+    /// for want of it the disk is handed back.
+    pub fn adopt(alloc: Global, disk: D, sup: Super) -> Result<Device<D>, D>
+        requires valid { IsValid sup }
+        requires empty { sup.log_start ≡ sup.log_end }
+        requires on_disk { IsOnDisk (D.size disk) sup }
+        ensures ok { IfOk result (λ d. (d.disk ≡ disk) × (d.books ≡ adopted sup)) }
+        ensures err { IfErr result (λ d. d ≡ disk) }
+        ensures right { (image : List ℕ) → Tells (D.state disk) (Holds image) → super_of image ≡ sup → IfOk result (λ d. Tells (D.state disk) (IsRight (adopted sup) none)) }
+    {
+        let Ok(groups) = Vec::with_capacity(alloc, 16) else {
+            return Err(disk);
+        };
+        let Ok(marks) = Vec::with_capacity(alloc, 1) else {
+            return Err(disk);
+        };
+        let Ok(buffer) = vec![in alloc; 0u8; sup.block_size as usize] else {
+            return Err(disk);
+        };
+        let journal = Journal {
+            sup,
+            groups,
+            phase: Phase::Pass,
+            left: 0,
+            marks,
+            spare: 1,
+            moment: 0,
+            stop: None,
+            buffer,
+        };
+        Ok(Device { disk, journal })
+    }
+
+    /// Whether one group more may wait.
+    pub fn may_seal(&self) -> bool
+        ensures { IsTrue result ↔ (length self.now.books.groups < 16) }
+    {
+        self.journal.groups.len() < 16
+    }
+
+    /// Makes room for the marks of two groups more.
+    pub fn room(&mut self) -> Result<(), AllocError>
+        ensures disk { self.new.disk ≡ self.old.disk }
+        ensures ok { OnOk result (self.new.books ≡ with_room self.old.books) }
+        ensures err { OnErr result (self.new.books ≡ self.old.books) }
+    {
+        if self.journal.spare >= 2 {
+            return Ok(());
+        }
+        self.journal.marks.reserve(18)?;
+        self.journal.spare = 2;
+        Ok(())
+    }
+
+    /// Takes a group behind the others. Takes no memory.
+    pub fn seal(&mut self, group: Group)
+        requires may { length self.old.books.groups < 16 }
+        requires spare { 1 ≤ self.old.books.spare }
+        requires next { IsNext (layout_of self.old.books.sup) self.old.books.sup.block_size (sealed_of self.old.books) (last_used self.old.books) group }
+        ensures disk { self.new.disk ≡ self.old.disk }
+        ensures books { self.new.books ≡ sealed_with self.old.books group }
+    {
+        if self.journal.groups.is_empty() {
+            self.journal.phase = first(&group);
+        }
+        self.journal.spare -= 1;
+        let _ = self.journal.groups.push(group);
+    }
+
+    /// Makes the next disk call of the first group, and tells what it did. Takes no memory.
+    pub fn step(&mut self) -> Result<Progress, DeviceFault>
+        ensures size { D.size self.new.disk ≡ D.size self.old.disk }
+        ensures ok { IfOk result (λ p. (self.old.books.stop ≡ None) × (p ≡ progress_to self.old.books.groups self.old.books.phase) × (self.new.books ≡ stepped self.old.books)) }
+        ensures call { OnOk result (D.state self.new.disk ≡ told_front self.old.books.sup self.old.books.groups self.old.books.phase (D.state self.old.disk)) }
+        ensures fault { IfErr result (IsStepFault self.old.books self.new.books (D.faults self.old.disk) (D.faults self.new.disk) (D.stops self.old.disk) (D.stops self.new.disk)) }
+        ensures unmoved { IsUnmoved self.old.books → self.new.disk ≡ self.old.disk }
+        ensures faults { D.faults self.old.disk ≤ D.faults self.new.disk }
+        ensures stops { D.stops self.old.disk ≤ D.stops self.new.disk }
+        ensures clock { D.clock self.new.disk ≤ D.clock self.old.disk + 1 }
+        ensures right { (t : ℕ → Bool) (right : Tells (D.state self.old.disk) (IsRight self.old.books t))
+            → OnOk result (Tells (D.state self.new.disk) (λ s. IsRight self.new.books (still_touched self.old.books t) s × AreSame self.old.books right.0 self.new.books s)) }
+        ensures still_right { (t : ℕ → Bool) (right : Tells (D.state self.old.disk) (IsRight self.old.books t))
+            → OnErr result (Tells (D.state self.new.disk) (λ s. IsRight self.new.books t s × AreSame self.old.books right.0 self.new.books s)) }
+        ensures moments { (t : ℕ → Bool) → Tells (D.state self.old.disk) (IsRight self.old.books t)
+            → Passed (D.clock self.old.disk) (D.clock self.new.disk) (D.since self.old.disk) (D.since self.new.disk) (λ c. Tells (D.state self.old.disk) (λ s. RecoversOne self.old.books t s c)) }
+    {
+        step_of(&mut self.disk, &mut self.journal)
+    }
+
+    /// The number of the last entry that is durable. Each image that a crash leaves now recovers to the version of this number,
+    /// or to that of a later group.
+    pub fn durable(&self) -> u64
+        ensures value { result ≡ durable_of self.now.books }
+        ensures recovers { (t : ℕ → Bool) (right : Tells (D.state self.now.disk) (IsRight self.now.books t)) (image : List ℕ) → MayLeave (D.state self.now.disk) image → RecoversOne self.now.books t right.0 image }
+    {
+        durable_number(&self.journal)
+    }
+
+    /// The number of the last group that has left the log.
+    pub fn left(&self) -> u64
+        ensures { result ≡ self.now.books.left }
+    {
+        self.journal.left
+    }
+
+    /// The disk's count of faults.
+    pub fn faults(&self) -> u64
+        ensures { result ≡ D.faults self.now.disk }
+    {
+        self.disk.faults()
+    }
+
+    /// The marks, the oldest first.
+    pub fn marks(&self) -> &[Mark]
+        ensures { result.now ≡ self.now.books.marks }
+    {
+        self.journal.marks.as_slice()
+    }
+
+    /// The disk.
+    pub fn into_disk(self) -> D
+        ensures { result ≡ self.disk }
+    {
+        let Device { disk, journal: _ } = self;
+        disk
+    }
+}

@@ -8,3 +8,5 @@ pub mod Phasing
 pub mod Right
 pub mod Failing
 pub mod Stepping
+pub mod Telling
+pub mod Sealing

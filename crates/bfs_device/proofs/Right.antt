@@ -27,14 +27,14 @@ use Rattle.bfs_device.proofs.Fronts.{front_waiting}
 
 -- ---- the groups up to a number
 
-upto_low : (l : Layout) (size left used n : ℕ) (gs : List Group) → Follow l size left used gs → n ≤ left → upto n gs ≡ []
+pub upto_low : (l : Layout) (size left used n : ℕ) (gs : List Group) → Follow l size left used gs → n ≤ left → upto n gs ≡ []
 upto_low l size left used n [] follow le = refl
 upto_low l size left used n (g ∷ gs) follow le =
     let lt : n < g.last = omega (arith, le, follow.0.follows, follow.0.sealed.order) in
     ap (λ (hs : List Home). hs ++ upto n gs) (cond-false (nat_le g.last n) (homes_in g.blocks) [] (lt-leb g.last n lt))
     ∙ upto_low l size g.last g.used n gs follow.1 (omega (arith, lt))
 
-used_low : (l : Layout) (size left used n u : ℕ) (gs : List Group) → Follow l size left used gs → n ≤ left → used_upto n gs u ≡ u
+pub used_low : (l : Layout) (size left used n u : ℕ) (gs : List Group) → Follow l size left used gs → n ≤ left → used_upto n gs u ≡ u
 used_low l size left used n u [] follow le = refl
 used_low l size left used n u (g ∷ gs) follow le =
     let lt : n < g.last = omega (arith, le, follow.0.follows, follow.0.sealed.order) in
@@ -80,7 +80,7 @@ front_stands v t st s left (x ∷ xs) goes ok none_left known = by_blocks x.bloc
     by_blocks [] = known
     by_blocks (p ∷ ps) = going.begun s x v t ok goes.0.sealed none_left st known
 
-front_not_durable : (left : ℕ) (xs : List Group) → durable_in left xs (front_phase xs) ≡ left
+pub front_not_durable : (left : ℕ) (xs : List Group) → durable_in left xs (front_phase xs) ≡ left
 front_not_durable left [] = refl
 front_not_durable left (x ∷ xs) = by_blocks x.blocks
   where

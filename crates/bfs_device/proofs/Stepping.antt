@@ -13,7 +13,7 @@ use Rattle.bfs_txn.specs.declared.group.Group.{Group}
 use Rattle.bfs_device.specs.declared.journal.Phase.{Phase}
 use Rattle.bfs_device.specs.declared.journal.Phase.TheVariants.{Log, LogSafe, Open, OpenSafe, Home as GoHome, HomeSafe, Tail, TailSafe, Pass}
 use Rattle.bfs_device.specs.declared.journal.Stop.{Stop}
-use Rattle.bfs_device.specs.Layouts.{IsData, layout_of}
+use Rattle.bfs_device.specs.Layouts.{Layout, IsData, layout_of}
 use Rattle.bfs_device.specs.Calls.{Call, Write, Barrier, told_after, state_after, IsFailed, LeftDuring}
 use Rattle.bfs_device.specs.Phases.{none, Rests}
 use Rattle.bfs_device.specs.declared.journal.Journal.{Journal}
@@ -39,6 +39,11 @@ on_state s (Some n) (Some x) st law on is =
     let e : x ≡ st = cc in
     let m : n ≡ x.size = cc in
     omega (arith, on, m, ap (λ (y : State). y.size) e)
+
+-- a superblock of the same volume
+pub on_layout : (size : Option ℕ) (s u : Super) → layout_of u ≡ layout_of s → IsOnDisk size s → IsOnDisk size u
+on_layout None s u same on = on
+on_layout (Some n) s u same on = subst (λ (l : Layout). l.sectors * l.blocks ≤ n) (sym same) on
 
 pub filled_state : (told : Option State) (st : State) → IfSome told Filled → told ≡ Some st → Filled st
 filled_state None st law is = absurd (cc)

@@ -5,3 +5,4 @@ pub mod Phases
 pub mod Books
 pub mod Steps
 pub mod Seals
+pub mod Told

@@ -5,16 +5,17 @@ ghost use Rattle.bfs_base.specs.Moments.{Elapses, Passed};
 ghost use Rattle.bfs_disk.specs.State.{State, Tells, Holds};
 ghost use Rattle.bfs_disk.specs.Disk.{MayLeave, told_written};
 ghost use Rattle.bfs_super.specs.Conditions.{IsValid};
-ghost use Rattle.bfs_log.specs.Replay.{super_of};
-ghost use Rattle.bfs_device.specs.Layouts.{IsData, layout_of, ring_count};
+ghost use Rattle.bfs_log.specs.Replay.{super_of, over};
+ghost use Rattle.bfs_device.specs.Layouts.{IsData, layout_of, homes_in};
 ghost use Rattle.bfs_device.specs.Phases.{none};
 ghost use Rattle.bfs_device.specs.Books.{IsNext, IsOnDisk, IsRight, IsVersion, RecoversOne, AreSame, Books, View, durable_of, sealed_of, version};
 ghost use Rattle.bfs_device.specs.Steps.{told_front, still_touched, stepped, progress_to, calls_left, IsStepFault, IsUnmoved};
+ghost use Rattle.bfs_device.specs.Told.{HasCalled, HasMarked, HasCounted};
 ghost use Rattle.bfs_device.specs.Seals.{adopted, with_room, sealed_with, last_used, calls_of_group};
 
 use crate::journal::{DeviceFault, Journal, Mark, Phase, Progress};
 use crate::step::step_of;
-use crate::turn::{durable_number, first};
+use crate::turn::{durable_number, take};
 use bfs_disk::Disk;
 use bfs_super::Super;
 use bfs_txn::Group;
@@ -100,12 +101,14 @@ impl<D: Disk> Device<D> {
         requires next { IsNext (layout_of self.old.books.sup) self.old.books.sup.block_size (sealed_of self.old.books) (last_used self.old.books) group }
         ensures disk { self.new.disk ≡ self.old.disk }
         ensures books { self.new.books ≡ sealed_with self.old.books group }
+        ensures right { (t : ℕ → Bool) (s : State) → IsRight self.old.books t s → IsRight self.new.books t s }
+        // The versions stay, and the newest has the group's blocks over the one before it.
+        ensures numbers { (n : ℕ) → IsVersion self.old.books n → IsVersion self.new.books n × (n < group.last) }
+        ensures older { (s : State) (n k : ℕ) → IsVersion self.old.books n → version self.new.books s n k ≡ version self.old.books s n k }
+        ensures newest { (s : State) (k : ℕ) → version self.new.books s group.last k ≡ over (homes_in group.blocks) (version self.old.books s (sealed_of self.old.books)) k }
+        ensures calls { calls_left self.new.books ≤ calls_left self.old.books + calls_of_group (length group.blocks) }
     {
-        if self.journal.groups.is_empty() {
-            self.journal.phase = first(&group);
-        }
-        self.journal.spare -= 1;
-        let _ = self.journal.groups.push(group);
+        take(&mut self.journal, group);
     }
 
     /// Makes the next disk call of the first group, and tells what it did. Takes no memory.
@@ -113,6 +116,10 @@ impl<D: Disk> Device<D> {
         ensures size { D.size self.new.disk ≡ D.size self.old.disk }
         ensures ok { IfOk result (λ p. (self.old.books.stop ≡ None) × (p ≡ progress_to self.old.books.groups self.old.books.phase) × (self.new.books ≡ stepped self.old.books)) }
         ensures call { OnOk result (D.state self.new.disk ≡ told_front self.old.books.sup self.old.books.groups self.old.books.phase (D.state self.old.disk)) }
+        // The answer tells the disk call, the mark that is stored and the call that is no longer left; Idle comes where no group is.
+        ensures called { IfOk result (HasCalled (layout_of self.old.books.sup) (D.state self.old.disk) (D.state self.new.disk)) }
+        ensures marked { IfOk result (HasMarked self.old.books self.new.books) }
+        ensures counted { IfOk result (HasCounted (calls_left self.old.books) (calls_left self.new.books)) }
         ensures fault { IfErr result (IsStepFault self.old.books self.new.books (D.faults self.old.disk) (D.faults self.new.disk) (D.stops self.old.disk) (D.stops self.new.disk)) }
         ensures unmoved { IsUnmoved self.old.books → self.new.disk ≡ self.old.disk }
         ensures faults { D.faults self.old.disk ≤ D.faults self.new.disk }

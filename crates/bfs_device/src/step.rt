@@ -6,7 +6,8 @@ ghost use Rattle.bfs_disk.specs.State.{State, Tells};
 ghost use Rattle.bfs_disk.specs.Disk.{MayLeave};
 ghost use Rattle.bfs_device.specs.Layouts.{IsData, layout_of};
 ghost use Rattle.bfs_device.specs.Books.{Ready, IsOnDisk, IsRight, IsVersion, RecoversOne, AreSame, Books, books_of, durable_of, version};
-ghost use Rattle.bfs_device.specs.Steps.{told_front, FailedFront, LeftFront, ReadFront, still_touched, halted, stepped, progress_to, IsStepFault, IsUnmoved};
+ghost use Rattle.bfs_device.specs.Steps.{told_front, FailedFront, LeftFront, ReadFront, still_touched, halted, stepped, progress_to, IsStepFault, IsUnmoved, calls_left};
+ghost use Rattle.bfs_device.specs.Told.{HasCalled, HasMarked, HasCounted};
 
 use crate::calls::perform;
 use crate::journal::{DeviceFault, Journal, Progress, Stop};
@@ -70,6 +71,10 @@ pub fn step_of<D: Disk>(disk: &mut D, journal: &mut Journal) -> Result<Progress,
     ensures size { D.size disk.new ≡ D.size disk.old }
     ensures ok { IfOk result (λ p. (journal.old.stop ≡ None) × (p ≡ progress_to journal.old.groups.items journal.old.phase) × (books_of journal.new ≡ stepped (books_of journal.old))) }
     ensures call { OnOk result (D.state disk.new ≡ told_front journal.old.sup journal.old.groups.items journal.old.phase (D.state disk.old)) }
+    ensures layout { layout_of journal.new.sup ≡ layout_of journal.old.sup }
+    ensures called { IfOk result (HasCalled (layout_of journal.old.sup) (D.state disk.old) (D.state disk.new)) }
+    ensures marked { IfOk result (HasMarked (books_of journal.old) (books_of journal.new)) }
+    ensures counted { IfOk result (HasCounted (calls_left (books_of journal.old)) (calls_left (books_of journal.new))) }
     ensures fault { IfErr result (IsStepFault (books_of journal.old) (books_of journal.new) (D.faults disk.old) (D.faults disk.new) (D.stops disk.old) (D.stops disk.new)) }
     ensures unmoved { IsUnmoved (books_of journal.old) → disk.new ≡ disk.old }
     ensures faults { D.faults disk.old ≤ D.faults disk.new }

@@ -3,7 +3,8 @@ ghost use Rattle.std.specs.Prelude.{◌≡◌, ◌≤◌, ◌<◌, ◌+◌, ◌-
 ghost use Rattle.std.specs.Vec.{vec_capacity};
 ghost use Rattle.bfs_super.specs.Conditions.{IsValid};
 ghost use Rattle.bfs_device.specs.Layouts.{layout_of};
-ghost use Rattle.bfs_device.specs.Books.{IsPhaseOf, IsSealed, Ready, books_of, durable_of};
+ghost use Rattle.bfs_device.specs.Books.{IsNext, IsPhaseOf, IsSealed, Ready, books_of, durable_of, sealed_of};
+ghost use Rattle.bfs_device.specs.Seals.{last_used, phase_with, sealed_with};
 ghost use Rattle.bfs_device.specs.Steps.{progress_in, next_phase, first_phase, front_phase, stepped, progress_to, calls_left};
 
 use crate::calls::{closed, log_blocks};
@@ -60,7 +61,7 @@ fn next(group: &Group, phase: Phase) -> Phase
 }
 
 // The phase of a group at first.
-pub fn first(group: &Group) -> Phase
+fn first(group: &Group) -> Phase
     ensures { result ≡ first_phase group.now.blocks }
 {
     if group.blocks.is_empty() {
@@ -68,6 +69,32 @@ pub fn first(group: &Group) -> Phase
     } else {
         Phase::Log(0)
     }
+}
+
+// The phase once a group is behind the others.
+fn phase_behind(journal: &Journal, group: &Group) -> Phase
+    ensures { result ≡ phase_with group.now journal.now.groups.items journal.now.phase }
+{
+    if journal.groups.is_empty() {
+        first(group)
+    } else {
+        journal.phase
+    }
+}
+
+/// Takes a group behind the others.
+pub fn take(journal: &mut Journal, group: Group)
+    requires ready { Ready journal.old }
+    requires may { length journal.old.groups.items < 16 }
+    requires spare { 1 ≤ journal.old.spare }
+    requires next { IsNext (layout_of journal.old.sup) journal.old.sup.block_size (sealed_of (books_of journal.old)) (last_used (books_of journal.old)) group }
+    ensures ready { Ready journal.new }
+    ensures books { books_of journal.new ≡ sealed_with (books_of journal.old) group }
+{
+    journal.phase = phase_behind(journal, &group);
+    journal.spare -= 1;
+    // There is room: it was made when the disk was adopted.
+    let _ = journal.groups.push(group);
 }
 
 // The phase of the first group.

@@ -10,3 +10,4 @@ pub mod Failing
 pub mod Stepping
 pub mod Telling
 pub mod Sealing
+pub mod Reading

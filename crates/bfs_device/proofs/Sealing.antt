@@ -79,7 +79,7 @@ sealed_ready j new g ready may some next sup items phase left room marks spare b
 
 -- ---- versions
 
-last_behind : (l : Layout) (size left used : ℕ) (gs : List Group) → Follow l size left used gs → left ≤ last_in left gs
+pub last_behind : (l : Layout) (size left used : ℕ) (gs : List Group) → Follow l size left used gs → left ≤ last_in left gs
 last_behind l size left used [] follow = omega arith
 last_behind l size left used (g ∷ gs) follow = let le = last_behind l size g.last g.used gs follow.1 in omega (arith, le, follow.0.follows, follow.0.sealed.order)
 
@@ -99,7 +99,7 @@ used_earlier n u [] g lt = cond-false (nat_le g.last n) g.used u (lt-leb g.last 
 used_earlier n u (x ∷ gs) g lt = used_earlier n (cond (nat_le x.last n) x.used u) gs g lt
 
 -- all groups, at any number from the last on
-upto_all : (l : Layout) (size left used m n : ℕ) (gs : List Group) → Follow l size left used gs → last_in left gs ≤ m → last_in left gs ≤ n → upto m gs ≡ upto n gs
+pub upto_all : (l : Layout) (size left used m n : ℕ) (gs : List Group) → Follow l size left used gs → last_in left gs ≤ m → last_in left gs ≤ n → upto m gs ≡ upto n gs
 upto_all l size left used m n [] follow le_m le_n = refl
 upto_all l size left used m n (g ∷ gs) follow le_m le_n =
     let low = last_behind l size g.last g.used gs follow.1 in

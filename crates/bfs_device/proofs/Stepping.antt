@@ -65,7 +65,7 @@ told_is (Write at bytes) st = refl
 told_is Barrier st = refl
 
 -- a right device that hasn't stopped stands in its phase
-standing_of : (b : Books) (t : ℕ → Bool) (st : State) → b.stop ≡ None → IsRight b t st → IsRightAs None b t st
+pub standing_of : (b : Books) (t : ℕ → Bool) (st : State) → b.stop ≡ None → IsRight b t st → IsRightAs None b t st
 standing_of b t st none_yet right = subst (λ (o : Option Stop). IsRightAs o b t st) none_yet right
 
 -- ---- at Ok
@@ -151,7 +151,7 @@ now_front : (b : Books) (groups : List Group) → (let c : Books = record b { gr
 now_front b [] know t st sized right image is = rest_one b know.valid know.empty t st sized right image is
 now_front b (g ∷ gs) know t st sized right image is = standing_one b g gs know.valid know.empty know.follow t st b.phase know.phase sized right image is
 
-now_as : (o : Option Stop) (b : Books) → Known b → (t : ℕ → Bool) (st : State) → (layout_of b.sup).sectors * (layout_of b.sup).blocks ≤ st.size → IsRightAs o b t st → (image : List ℕ) → IsImage st image → RecoversOne b t st image
+pub now_as : (o : Option Stop) (b : Books) → Known b → (t : ℕ → Bool) (st : State) → (layout_of b.sup).sectors * (layout_of b.sup).blocks ≤ st.size → IsRightAs o b t st → (image : List ℕ) → IsImage st image → RecoversOne b t st image
 now_as None b know t st sized right image is = now_front b b.groups know t st sized right image is
 now_as (Some stop) b know t st sized right image is = right image is
 

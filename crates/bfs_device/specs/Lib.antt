@@ -6,3 +6,4 @@ pub mod Books
 pub mod Steps
 pub mod Seals
 pub mod Told
+pub mod Data

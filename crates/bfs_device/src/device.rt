@@ -1,5 +1,5 @@
 // A device: a disk, and the groups that go into its log and from there home.
-ghost use Rattle.std.specs.Prelude.{◌≡◌, ◌⊎◌, ◌≤◌, ◌<◌, ◌+◌, ◌-◌, ◌*◌, ◌/◌, ◌^◌, ◌==◌, ◌||◌, ◌↔◌, ◌++◌, ◌∷◌, max, ℕ, List, [], length, Bool, IsTrue, OnOk, OnErr, IfOk, IfErr, IfSome, Option, Some, None};
+ghost use Rattle.std.specs.Prelude.{◌≡◌, ◌⊎◌, ◌≤◌, ◌<◌, ◌+◌, ◌-◌, ◌*◌, ◌/◌, ◌^◌, ◌==◌, ◌||◌, ◌↔◌, ◌++◌, ◌∷◌, max, ℕ, List, [], length, Bool, IsTrue, OnOk, OnErr, IfOk, IfErr, IfSome, IsSome, Option, Some, None};
 ghost use Rattle.bfs_base.specs.Counts.{HasCause, Rose};
 ghost use Rattle.bfs_base.specs.Moments.{Elapses, Passed};
 ghost use Rattle.bfs_disk.specs.State.{State, Tells, Holds};
@@ -11,8 +11,10 @@ ghost use Rattle.bfs_device.specs.Phases.{none};
 ghost use Rattle.bfs_device.specs.Books.{IsNext, IsOnDisk, IsRight, IsVersion, RecoversOne, AreSame, Books, View, durable_of, sealed_of, version};
 ghost use Rattle.bfs_device.specs.Steps.{told_front, still_touched, stepped, progress_to, calls_left, IsStepFault, IsUnmoved};
 ghost use Rattle.bfs_device.specs.Told.{HasCalled, HasMarked, HasCounted};
+ghost use Rattle.bfs_device.specs.Data.{newest_in, moved_on, AreRead, IsReadFault, touching, AreSameBut};
 ghost use Rattle.bfs_device.specs.Seals.{adopted, with_room, sealed_with, last_used, calls_of_group};
 
+use crate::data::{read_data, read_newest, write_data};
 use crate::journal::{DeviceFault, Journal, Mark, Phase, Progress};
 use crate::step::step_of;
 use crate::turn::{durable_number, take};
@@ -133,6 +135,71 @@ impl<D: Disk> Device<D> {
             → Passed (D.clock self.old.disk) (D.clock self.new.disk) (D.since self.old.disk) (D.since self.new.disk) (λ c. Tells (D.state self.old.disk) (λ s. RecoversOne self.old.books t s c)) }
     {
         step_of(&mut self.disk, &mut self.journal)
+    }
+
+    /// Reads a block with its newest bytes: those of the newest sealed group that has it, which takes no disk call, else the
+    /// disk's. The slice has a block's length. A read that fails leaves the device usable.
+    pub fn block(&mut self, block: u64, into: &mut [u8]) -> Result<(), DeviceFault>
+        requires below { block < (layout_of self.old.books.sup).blocks }
+        requires long { length into.old ≡ self.old.books.sup.block_size }
+        ensures size { D.size self.new.disk ≡ D.size self.old.disk }
+        ensures ok { OnOk result ((self.old.books.stop ≡ None) × ((self.new.books ≡ self.old.books) ⊎ (self.new.books ≡ moved_on self.old.books))) }
+        ensures sealed { OnOk result (IfSome (newest_in self.old.books.groups block) (λ bytes. (into.new ≡ bytes) × (self.new.disk ≡ self.old.disk))) }
+        ensures bytes { OnOk result (IfSome (D.state self.old.disk) (λ s. into.new ≡ version self.old.books s (sealed_of self.old.books) block)) }
+        ensures fault { IfErr result (IsReadFault self.old.books self.new.books (D.faults self.old.disk) (D.faults self.new.disk)) }
+        ensures unmoved { IsSome self.old.books.stop → self.new.disk ≡ self.old.disk }
+        ensures state { D.state self.new.disk ≡ D.state self.old.disk }
+        ensures faults { D.faults self.old.disk ≤ D.faults self.new.disk }
+        ensures stops { D.stops self.new.disk ≡ D.stops self.old.disk }
+        ensures clock { D.clock self.new.disk ≤ D.clock self.old.disk + 1 }
+        ensures right { (t : ℕ → Bool) (s : State) → IsRight self.old.books t s → IsRight self.new.books t s }
+        ensures moments { (t : ℕ → Bool) → Tells (D.state self.old.disk) (IsRight self.old.books t)
+            → Passed (D.clock self.old.disk) (D.clock self.new.disk) (D.since self.old.disk) (D.since self.new.disk) (λ c. Tells (D.state self.old.disk) (λ s. RecoversOne self.old.books t s c)) }
+    {
+        read_newest(&mut self.disk, &mut self.journal, block, into)
+    }
+
+    /// Reads a block as the disk has it, in one disk call. The slice has a block's length. Takes no memory.
+    pub fn data_read(&mut self, block: u64, into: &mut [u8]) -> Result<(), DeviceFault>
+        requires below { block < (layout_of self.old.books.sup).blocks }
+        requires long { length into.old ≡ self.old.books.sup.block_size }
+        ensures size { D.size self.new.disk ≡ D.size self.old.disk }
+        ensures ok { OnOk result ((self.old.books.stop ≡ None) × (self.new.books ≡ moved_on self.old.books)) }
+        ensures bytes { OnOk result (AreRead (D.state self.old.disk) (layout_of self.old.books.sup).sectors block into.new) }
+        ensures fault { IfErr result (IsReadFault self.old.books self.new.books (D.faults self.old.disk) (D.faults self.new.disk)) }
+        ensures unmoved { IsSome self.old.books.stop → self.new.disk ≡ self.old.disk }
+        ensures state { D.state self.new.disk ≡ D.state self.old.disk }
+        ensures faults { D.faults self.old.disk ≤ D.faults self.new.disk }
+        ensures stops { D.stops self.new.disk ≡ D.stops self.old.disk }
+        ensures clock { D.clock self.new.disk ≤ D.clock self.old.disk + 1 }
+        ensures right { (t : ℕ → Bool) (s : State) → IsRight self.old.books t s → IsRight self.new.books t s }
+        ensures moments { (t : ℕ → Bool) → Tells (D.state self.old.disk) (IsRight self.old.books t)
+            → Passed (D.clock self.old.disk) (D.clock self.new.disk) (D.since self.old.disk) (D.since self.new.disk) (λ c. Tells (D.state self.old.disk) (λ s. RecoversOne self.old.books t s c)) }
+    {
+        read_data(&mut self.disk, &mut self.journal, block, into)
+    }
+
+    /// Writes one block that no waiting group has, in one disk call. Takes no memory.
+    pub fn data_write(&mut self, block: u64, from: &[u8]) -> Result<(), DeviceFault>
+        requires place { IsData (layout_of self.old.books.sup) block }
+        requires apart { newest_in self.old.books.groups block ≡ None }
+        requires long { length from.now ≡ self.old.books.sup.block_size }
+        ensures size { D.size self.new.disk ≡ D.size self.old.disk }
+        ensures ok { OnOk result ((self.old.books.stop ≡ None) × (self.new.books ≡ moved_on self.old.books)) }
+        ensures call { OnOk result (D.state self.new.disk ≡ told_written (D.state self.old.disk) ((layout_of self.old.books.sup).sectors * block) from.now) }
+        ensures fault { IfErr result (IsStepFault self.old.books self.new.books (D.faults self.old.disk) (D.faults self.new.disk) (D.stops self.old.disk) (D.stops self.new.disk)) }
+        ensures unmoved { IsSome self.old.books.stop → self.new.disk ≡ self.old.disk }
+        ensures faults { D.faults self.old.disk ≤ D.faults self.new.disk }
+        ensures stops { D.stops self.old.disk ≤ D.stops self.new.disk }
+        ensures clock { D.clock self.new.disk ≤ D.clock self.old.disk + 1 }
+        ensures right { (t : ℕ → Bool) (right : Tells (D.state self.old.disk) (IsRight self.old.books t))
+            → OnOk result (Tells (D.state self.new.disk) (λ s. IsRight self.new.books (touching block t) s × AreSameBut block self.old.books right.0 self.new.books s)) }
+        ensures still_right { (t : ℕ → Bool) (right : Tells (D.state self.old.disk) (IsRight self.old.books t))
+            → OnErr result (Tells (D.state self.new.disk) (λ s. IsRight self.new.books (touching block t) s × AreSameBut block self.old.books right.0 self.new.books s)) }
+        ensures moments { (t : ℕ → Bool) → Tells (D.state self.old.disk) (IsRight self.old.books t)
+            → Passed (D.clock self.old.disk) (D.clock self.new.disk) (D.since self.old.disk) (D.since self.new.disk) (λ c. Tells (D.state self.old.disk) (λ s. RecoversOne self.old.books (touching block t) s c)) }
+    {
+        write_data(&mut self.disk, &mut self.journal, block, from)
     }
 
     /// The number of the last entry that is durable. Each image that a crash leaves now recovers to the version of this number,

@@ -2,6 +2,7 @@
 #![tactic(auto)]
 
 mod calls;
+mod data;
 mod device;
 mod journal;
 mod step;

@@ -10,7 +10,7 @@ use Rattle.bfs_device.specs.declared.journal.Phase.{Phase}
 use Rattle.bfs_device.specs.declared.journal.Phase.TheVariants.{Log, LogSafe, Open, OpenSafe, Home as GoHome, HomeSafe, Tail, TailSafe, Pass}
 use Rattle.bfs_device.specs.Layouts.{Layout, layout_of, slot, ring_count}
 use Rattle.bfs_device.specs.Books.{Books, Follow, IsPhaseOf, IsPhaseFor, durable_of, is_durable}
-use Rattle.bfs_device.specs.Steps.{call_of, AreRead, ReadFront, told_front, stepped, after_phase, next_phase, front_phase, first_phase, progress_to, progress_in, calls_left, calls_in, calls_from, calls_of}
+use Rattle.bfs_device.specs.Steps.{call_of, AreRead, ReadFront, told_front, stepped, after_phase, next_phase, front_phase, first_phase, progress_to, progress_in, calls_left, calls_in, calls_from, calls_of, counted as counted_to}
 use Rattle.bfs_device.specs.Told.{HasCalled, HasMarked, HasCounted}
 use Rattle.bfs_device.proofs.Sizes.{from_low}
 use Rattle.bfs_device.proofs.Going.{slot_inside}
@@ -92,7 +92,25 @@ module _ (b : Books) (g : Group) (gs : List Group) (know : (let c : Books = reco
   same_layout_in TailSafe = refl
   same_layout_in Pass = refl
 
+  moment_in : (p : Phase) → (after_phase g gs (at p) p).moment ≡ counted_to b.moment
+  moment_in (Log i) = refl
+  moment_in LogSafe = refl
+  moment_in Open = refl
+  moment_in OpenSafe = refl
+  moment_in (GoHome i) = refl
+  moment_in HomeSafe = refl
+  moment_in Tail = refl
+  moment_in TailSafe = refl
+  moment_in Pass = refl
+
 -- for any groups
+moment_of : (b : Books) (groups : List Group) → (let c : Books = record b { groups = groups } in Known c) → 0 < length groups → (let c : Books = record b { groups = groups } in (stepped c).moment ≡ counted_to b.moment)
+moment_of b [] know some = absurd (omega arith)
+moment_of b (g ∷ gs) know some = moment_in b g gs know b.phase
+
+pub step_moment : (b : Books) → Known b → 0 < length b.groups → (stepped b).moment ≡ counted_to b.moment
+step_moment b know some = moment_of b b.groups know some
+
 called : (b : Books) (groups : List Group) → (let c : Books = record b { groups = groups } in Known c) → ReadFront b.sup groups b.phase → (old new : Option State) → new ≡ told_front b.sup groups b.phase old → HasCalled (layout_of b.sup) old new (progress_to groups b.phase)
 called b [] know read old new is = is
 called b (g ∷ gs) know read old new is = called_in b g gs know b.phase know.phase read old new is

@@ -84,6 +84,10 @@ next_phase g Pass = Pass
 abbrev pub counted : ℕ → ℕ
 counted moment = min (moment + 1) (2 ^ 64 - 1)
 
+-- a call counts one moment, and the disk's clock moves by one at most; or neither has moved
+abbrev pub HasMoved : ℕ → ℕ → ℕ → ℕ → Type 0
+HasMoved clock moment new_clock new_moment = ((new_clock ≡ clock) × (new_moment ≡ moment)) ⊎ ((new_clock ≤ clock + 1) × (new_moment ≡ counted moment))
+
 -- what a device keeps once the call of its phase has succeeded
 module _ (g : Group) (gs : List Group) (b : Books) where
   abbrev pub goes_on : Books

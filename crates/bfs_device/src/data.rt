@@ -7,7 +7,7 @@ ghost use Rattle.bfs_disk.specs.Disk.{MayLeave, told_written};
 ghost use Rattle.bfs_super.specs.Conditions.{IsValid};
 ghost use Rattle.bfs_device.specs.Layouts.{IsData, layout_of};
 ghost use Rattle.bfs_device.specs.Books.{Ready, IsOnDisk, IsRight, RecoversOne, Books, books_of, version, sealed_of};
-ghost use Rattle.bfs_device.specs.Steps.{IsStepFault};
+ghost use Rattle.bfs_device.specs.Steps.{IsStepFault, HasMoved};
 ghost use Rattle.bfs_device.specs.Data.{newest_in, moved_on, AllAscend, AreRead, IsReadFault, touching, AreSameBut};
 
 use crate::calls::write_block;
@@ -74,7 +74,7 @@ pub fn read_data<D: Disk>(
     ensures state { D.state disk.new ≡ D.state disk.old }
     ensures faults { D.faults disk.old ≤ D.faults disk.new }
     ensures stops { D.stops disk.new ≡ D.stops disk.old }
-    ensures clock { D.clock disk.new ≤ D.clock disk.old + 1 }
+    ensures moved { HasMoved (D.clock disk.old) journal.old.moment (D.clock disk.new) journal.new.moment }
     ensures right { (t : ℕ → Bool) (s : State) → IsRight (books_of journal.old) t s → IsRight (books_of journal.new) t s }
     ensures moments { (t : ℕ → Bool) → Tells (D.state disk.old) (IsRight (books_of journal.old) t)
         → Passed (D.clock disk.old) (D.clock disk.new) (D.since disk.old) (D.since disk.new) (λ c. Tells (D.state disk.old) (λ s. RecoversOne (books_of journal.old) t s c)) }
@@ -115,7 +115,7 @@ pub fn write_data<D: Disk>(
     ensures unmoved { IsSome journal.old.stop → disk.new ≡ disk.old }
     ensures faults { D.faults disk.old ≤ D.faults disk.new }
     ensures stops { D.stops disk.old ≤ D.stops disk.new }
-    ensures clock { D.clock disk.new ≤ D.clock disk.old + 1 }
+    ensures moved { HasMoved (D.clock disk.old) journal.old.moment (D.clock disk.new) journal.new.moment }
     ensures right { (t : ℕ → Bool) (right : Tells (D.state disk.old) (IsRight (books_of journal.old) t))
         → OnOk result (Tells (D.state disk.new) (λ s. IsRight (books_of journal.new) (touching block t) s × AreSameBut block (books_of journal.old) right.0 (books_of journal.new) s)) }
     ensures still_right { (t : ℕ → Bool) (right : Tells (D.state disk.old) (IsRight (books_of journal.old) t))
@@ -158,7 +158,7 @@ pub fn read_newest<D: Disk>(
     ensures state { D.state disk.new ≡ D.state disk.old }
     ensures faults { D.faults disk.old ≤ D.faults disk.new }
     ensures stops { D.stops disk.new ≡ D.stops disk.old }
-    ensures clock { D.clock disk.new ≤ D.clock disk.old + 1 }
+    ensures moved { HasMoved (D.clock disk.old) journal.old.moment (D.clock disk.new) journal.new.moment }
     ensures right { (t : ℕ → Bool) (s : State) → IsRight (books_of journal.old) t s → IsRight (books_of journal.new) t s }
     ensures moments { (t : ℕ → Bool) → Tells (D.state disk.old) (IsRight (books_of journal.old) t)
         → Passed (D.clock disk.old) (D.clock disk.new) (D.since disk.old) (D.since disk.new) (λ c. Tells (D.state disk.old) (λ s. RecoversOne (books_of journal.old) t s c)) }

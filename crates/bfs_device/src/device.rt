@@ -9,7 +9,7 @@ ghost use Rattle.bfs_log.specs.Replay.{super_of, over};
 ghost use Rattle.bfs_device.specs.Layouts.{IsData, layout_of, homes_in};
 ghost use Rattle.bfs_device.specs.Phases.{none};
 ghost use Rattle.bfs_device.specs.Books.{IsNext, IsOnDisk, IsRight, IsVersion, RecoversOne, AreSame, Books, View, durable_of, sealed_of, version};
-ghost use Rattle.bfs_device.specs.Steps.{told_front, still_touched, stepped, progress_to, calls_left, IsStepFault, IsUnmoved};
+ghost use Rattle.bfs_device.specs.Steps.{told_front, still_touched, stepped, progress_to, calls_left, IsStepFault, IsUnmoved, HasMoved};
 ghost use Rattle.bfs_device.specs.Told.{HasCalled, HasMarked, HasCounted};
 ghost use Rattle.bfs_device.specs.Data.{newest_in, moved_on, AreRead, IsReadFault, touching, AreSameBut};
 ghost use Rattle.bfs_device.specs.Seals.{adopted, with_room, sealed_with, last_used, calls_of_group};
@@ -126,7 +126,7 @@ impl<D: Disk> Device<D> {
         ensures unmoved { IsUnmoved self.old.books → self.new.disk ≡ self.old.disk }
         ensures faults { D.faults self.old.disk ≤ D.faults self.new.disk }
         ensures stops { D.stops self.old.disk ≤ D.stops self.new.disk }
-        ensures clock { D.clock self.new.disk ≤ D.clock self.old.disk + 1 }
+        ensures moved { HasMoved (D.clock self.old.disk) self.old.books.moment (D.clock self.new.disk) self.new.books.moment }
         ensures right { (t : ℕ → Bool) (right : Tells (D.state self.old.disk) (IsRight self.old.books t))
             → OnOk result (Tells (D.state self.new.disk) (λ s. IsRight self.new.books (still_touched self.old.books t) s × AreSame self.old.books right.0 self.new.books s)) }
         ensures still_right { (t : ℕ → Bool) (right : Tells (D.state self.old.disk) (IsRight self.old.books t))
@@ -151,7 +151,7 @@ impl<D: Disk> Device<D> {
         ensures state { D.state self.new.disk ≡ D.state self.old.disk }
         ensures faults { D.faults self.old.disk ≤ D.faults self.new.disk }
         ensures stops { D.stops self.new.disk ≡ D.stops self.old.disk }
-        ensures clock { D.clock self.new.disk ≤ D.clock self.old.disk + 1 }
+        ensures moved { HasMoved (D.clock self.old.disk) self.old.books.moment (D.clock self.new.disk) self.new.books.moment }
         ensures right { (t : ℕ → Bool) (s : State) → IsRight self.old.books t s → IsRight self.new.books t s }
         ensures moments { (t : ℕ → Bool) → Tells (D.state self.old.disk) (IsRight self.old.books t)
             → Passed (D.clock self.old.disk) (D.clock self.new.disk) (D.since self.old.disk) (D.since self.new.disk) (λ c. Tells (D.state self.old.disk) (λ s. RecoversOne self.old.books t s c)) }
@@ -171,7 +171,7 @@ impl<D: Disk> Device<D> {
         ensures state { D.state self.new.disk ≡ D.state self.old.disk }
         ensures faults { D.faults self.old.disk ≤ D.faults self.new.disk }
         ensures stops { D.stops self.new.disk ≡ D.stops self.old.disk }
-        ensures clock { D.clock self.new.disk ≤ D.clock self.old.disk + 1 }
+        ensures moved { HasMoved (D.clock self.old.disk) self.old.books.moment (D.clock self.new.disk) self.new.books.moment }
         ensures right { (t : ℕ → Bool) (s : State) → IsRight self.old.books t s → IsRight self.new.books t s }
         ensures moments { (t : ℕ → Bool) → Tells (D.state self.old.disk) (IsRight self.old.books t)
             → Passed (D.clock self.old.disk) (D.clock self.new.disk) (D.since self.old.disk) (D.since self.new.disk) (λ c. Tells (D.state self.old.disk) (λ s. RecoversOne self.old.books t s c)) }
@@ -191,7 +191,7 @@ impl<D: Disk> Device<D> {
         ensures unmoved { IsSome self.old.books.stop → self.new.disk ≡ self.old.disk }
         ensures faults { D.faults self.old.disk ≤ D.faults self.new.disk }
         ensures stops { D.stops self.old.disk ≤ D.stops self.new.disk }
-        ensures clock { D.clock self.new.disk ≤ D.clock self.old.disk + 1 }
+        ensures moved { HasMoved (D.clock self.old.disk) self.old.books.moment (D.clock self.new.disk) self.new.books.moment }
         ensures right { (t : ℕ → Bool) (right : Tells (D.state self.old.disk) (IsRight self.old.books t))
             → OnOk result (Tells (D.state self.new.disk) (λ s. IsRight self.new.books (touching block t) s × AreSameBut block self.old.books right.0 self.new.books s)) }
         ensures still_right { (t : ℕ → Bool) (right : Tells (D.state self.old.disk) (IsRight self.old.books t))

@@ -6,7 +6,7 @@ ghost use Rattle.bfs_disk.specs.State.{State, Tells};
 ghost use Rattle.bfs_disk.specs.Disk.{MayLeave};
 ghost use Rattle.bfs_device.specs.Layouts.{IsData, layout_of};
 ghost use Rattle.bfs_device.specs.Books.{Ready, IsOnDisk, IsRight, IsVersion, RecoversOne, AreSame, Books, books_of, durable_of, version};
-ghost use Rattle.bfs_device.specs.Steps.{told_front, FailedFront, LeftFront, ReadFront, still_touched, halted, stepped, progress_to, IsStepFault, IsUnmoved, calls_left};
+ghost use Rattle.bfs_device.specs.Steps.{told_front, FailedFront, LeftFront, ReadFront, still_touched, halted, stepped, progress_to, IsStepFault, IsUnmoved, HasMoved, calls_left};
 ghost use Rattle.bfs_device.specs.Told.{HasCalled, HasMarked, HasCounted};
 
 use crate::calls::perform;
@@ -79,7 +79,7 @@ pub fn step_of<D: Disk>(disk: &mut D, journal: &mut Journal) -> Result<Progress,
     ensures unmoved { IsUnmoved (books_of journal.old) → disk.new ≡ disk.old }
     ensures faults { D.faults disk.old ≤ D.faults disk.new }
     ensures stops { D.stops disk.old ≤ D.stops disk.new }
-    ensures clock { D.clock disk.new ≤ D.clock disk.old + 1 }
+    ensures moved { HasMoved (D.clock disk.old) journal.old.moment (D.clock disk.new) journal.new.moment }
     ensures right { (t : ℕ → Bool) (right : Tells (D.state disk.old) (IsRight (books_of journal.old) t))
         → OnOk result (Tells (D.state disk.new) (λ s. IsRight (books_of journal.new) (still_touched (books_of journal.old) t) s × AreSame (books_of journal.old) right.0 (books_of journal.new) s)) }
     ensures still_right { (t : ℕ → Bool) (right : Tells (D.state disk.old) (IsRight (books_of journal.old) t))

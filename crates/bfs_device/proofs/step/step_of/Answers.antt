@@ -1,4 +1,4 @@
-use Rattle.std.proofs.Common.{◌≡◌, ◌<◌, ℕ, List, length, sym, ap, subst, ◌∙◌, Bool, None, arith, rules}
+use Rattle.std.proofs.Common.{◌≡◌, ◌<◌, inr, ℕ, List, length, sym, ap, subst, ◌∙◌, Bool, None, arith, rules}
 use Rattle.std.proofs.lemmas.Grind.{common_steps}
 use Rattle.bfs_disk.specs.State.{State, Tells}
 use Rattle.bfs_device.specs.Books.{Books, books_of, IsRight, AreSame}
@@ -6,7 +6,7 @@ use Rattle.bfs_device.specs.declared.journal.Progress.{Progress}
 use Rattle.bfs_device.specs.Layouts.{layout_of}
 use Rattle.bfs_device.specs.Steps.{stepped, halted, still_touched, progress_to, calls_left}
 use Rattle.bfs_device.specs.Told.{HasCalled, HasMarked, HasCounted}
-use Rattle.bfs_device.proofs.Telling.{step_called, step_marked, step_counted, step_layout}
+use Rattle.bfs_device.proofs.Telling.{step_called, step_marked, step_counted, step_layout, step_moment}
 use Rattle.bfs_device.proofs.step.step_of.Given.{Over}
 use Rattle.bfs_device.proofs.Stepping.{known_of, ok_right, err_right, step_moments}
 use Rattle.bfs_device.proofs.step.step_of.Goals as goal
@@ -70,3 +70,9 @@ returns-in-Ok-clause-counted g c =
     let j = c.args.journal.now in
     subst (λ (b : Books). HasCounted (calls_left (books_of j)) (calls_left b) c.advance.result) (sym (new_books g c))
     (subst (HasCounted (calls_left (books_of j)) (calls_left (stepped (books_of j)))) (sym (told g c)) (step_counted (books_of j) (known_of j c.requires.ready)))
+
+pub returns-in-Ok-clause-moved : goal.returns-in-Ok-clause-moved
+returns-in-Ok-clause-moved g c =
+    let j = c.args.journal.now in
+    let some : 0 < length j.groups.items = grind (arith, common_steps, c.is_empty.ensures, c.if-is_empty.false) in
+    inr (c.act.ensures.time.at_most_one, ap (λ (b : Books). b.moment) (new_books g c) ∙ step_moment (books_of j) (known_of j c.requires.ready) some)

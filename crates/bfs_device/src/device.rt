@@ -26,6 +26,7 @@ use std::marker::Model;
 
 /// A disk with a journal: sealed groups of changed blocks wait here, go into the log, become durable, and are written home,
 /// one disk call a step. After a write or a barrier that failed it makes no disk call any more.
+#[derive(Drop)]
 pub struct Device<D: Disk> {
     disk: D,
     journal: Journal,

@@ -10,3 +10,6 @@ mod turn;
 
 pub use device::Device;
 pub use journal::{DeviceFault, Mark, Progress};
+
+#[cfg(test)]
+mod tests;

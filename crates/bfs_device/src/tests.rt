@@ -1,0 +1,339 @@
+// Devices over disks in memory. Each volume is made here by hand, and what a crash leaves is replayed by hand.
+ghost use Rattle.std.specs.Prelude.{◌≡◌, ◌≤◌, ◌<◌, ◌+◌, ◌*◌, ◌/◌, ◌%◌, [], ℕ, length, IsTrue, IfOk, IfSome, OnOk, Some, None};
+ghost use Rattle.bfs_disk.specs.State.{state_of};
+ghost use Rattle.bfs_super.specs.Conditions.{natural, IsValid};
+ghost use Rattle.bfs_txn.specs.Changed.{Ascends, AreOfSize, number_at};
+ghost use Rattle.bfs_device.specs.Layouts.{IsData, layout_of, ring_count};
+ghost use Rattle.bfs_device.specs.Books.{IsNext, IsOnDisk};
+ghost use Rattle.bfs_device.specs.Seals.{adopted};
+
+use crate::calls::log_blocks;
+use crate::{Device, DeviceFault, Mark, Progress};
+use bfs_disk::{Disk, MemDisk};
+use bfs_super::Super;
+use bfs_txn::{Changed, Edits, Group, MemBlocks, Overlay};
+use std::alloc::{AllocError, Global};
+use std::test::Fail;
+
+// Sets some blocks to the same bytes.
+fn set_all<E: Edits>(edits: &mut E, blocks: &[u64], from: &[u8]) -> Result<(), AllocError>
+    requires { length from.now ≡ E.size edits.old }
+    ensures size { E.size edits.new ≡ E.size edits.old }
+    ensures frame { E.frame edits.new ≡ E.frame edits.old }
+{
+    for block in blocks {
+        edits.set(*block, from)?;
+    }
+    Ok(())
+}
+
+// Puts some blocks with the same bytes into an open group.
+fn put_all(
+    open: &mut Changed,
+    under: &mut MemBlocks,
+    blocks: &[u64],
+    from: &[u8],
+) -> Result<(), AllocError>
+    requires ascends { Ascends «open».old }
+    requires sized { AreOfSize (length from.now) «open».old }
+    requires size { under.old.block_size ≡ length from.now }
+    ensures ascends { Ascends «open».new }
+    ensures sized { AreOfSize (length from.now) «open».new }
+{
+    let mut call = Overlay::begin(open, under);
+    let done = set_all(&mut call, blocks, from);
+    call.keep();
+    done
+}
+
+// A group of blocks with the same bytes.
+fn group_of(
+    alloc: Global,
+    numbers: [u64; 3],
+    blocks: &[u64],
+    from: &[u8],
+) -> Result<Group, AllocError>
+    requires { length from.now ≤ 8192 }
+    ensures ascends { IfOk result (λ g. Ascends g.blocks) }
+    ensures sized { IfOk result (λ g. AreOfSize (length from.now) g.blocks) }
+{
+    let mut open = Changed::new(alloc);
+    let mut under = MemBlocks::new(Vec::new(alloc), from.len() as u32);
+    put_all(&mut open, &mut under, blocks, from)?;
+    let [first, last, used] = numbers;
+    Ok(Group {
+        first,
+        last,
+        used,
+        blocks: open,
+    })
+}
+
+// Is this a block behind block 0 and outside the log?
+fn is_data(sup: &Super, block: u64) -> bool
+    requires { IsValid sup.now }
+    ensures { IsTrue result → IsData (layout_of sup.now) block }
+{
+    let geometry = sup.geometry();
+    let log = sup.block_of(sup.log_blocks);
+    0 < block
+        && block < geometry.blocks
+        && (block < log || log + u64::from(sup.log_blocks.len) <= block)
+}
+
+fn are_data(sup: &Super, blocks: &Changed) -> bool
+    requires { IsValid sup.now }
+    ensures { IsTrue result → (i : ℕ) → i < length blocks.now → IsData (layout_of sup.now) (number_at blocks.now i) }
+{
+    for i in 0..blocks.len() {
+        if !is_data(sup, blocks.block(i)) {
+            return false;
+        }
+    }
+    true
+}
+
+// May this group be sealed behind the entry of this number?
+fn is_next(sup: &Super, left: u64, used: u64, group: &Group) -> bool
+    requires valid { IsValid sup.now }
+    requires ascends { Ascends group.now.blocks }
+    requires sized { AreOfSize sup.now.block_size group.now.blocks }
+    ensures { IsTrue result → IsNext (layout_of sup.now) sup.now.block_size left used group.now }
+{
+    if group.first == 0 || group.first - 1 != left || group.last < group.first {
+        return false;
+    }
+    if group.used > sup.geometry().blocks || group.blocks.len() >= 65536 {
+        return false;
+    }
+    if log_blocks(&group.blocks) >= usize::from(sup.log_blocks.len) {
+        return false;
+    }
+    if group.blocks.is_empty() && group.used != used {
+        return false;
+    }
+    are_data(sup, &group.blocks)
+}
+
+// The fields of a volume with an empty log at a place. The log is behind the bitmap, and has the root and the indices behind it.
+fn fields(shift: u32, blocks: i64, log_blocks: u16, place: i64) -> Super
+    requires { shift ≤ 13 }
+{
+    let run = |start, len| bfs_bytes::Run {
+        group: 0,
+        start,
+        len,
+    };
+    let size = 1u32 << shift;
+    Super {
+        name: [0; 32],
+        magic1: 0x42465331,
+        fs_byte_order: 0x42494745,
+        block_size: size,
+        block_shift: shift,
+        num_blocks: blocks,
+        used_blocks: 20,
+        inode_size: size as i32,
+        magic2: -586018767,
+        blocks_per_ag: 1,
+        ag_shift: shift as i32 + 3,
+        num_ags: 1,
+        flags: 0x434c454e,
+        log_blocks: run(2, log_blocks),
+        log_start: place,
+        log_end: place,
+        magic3: 0x15b6830e,
+        root_dir: run(log_blocks.wrapping_add(2), 1),
+        indices: run(log_blocks.wrapping_add(3), 1),
+        rest: [0; 380],
+    }
+}
+
+// A volume of zeros with this superblock.
+fn volume(alloc: Global, sup: &Super, length: usize) -> Result<Vec<u8>, AllocError> {
+    let mut bytes = vec![in alloc; 0u8; length]?;
+    let sector = sup.print();
+    if bytes.len() >= 1024 {
+        bytes[512..1024].copy_from_slice(&sector);
+    }
+    Ok(bytes)
+}
+
+// The superblock that a volume has.
+fn found(bytes: &[u8]) -> Option<Super>
+    ensures { IfSome result IsValid }
+{
+    if bytes.len() < 1024 {
+        return None;
+    }
+    let mut sector = [0u8; 512];
+    sector.copy_from_slice(&bytes[512..1024]);
+    match Super::parse(&sector) {
+        Ok(sup) => Some(sup),
+        Err(_) => None,
+    }
+}
+
+// A device over this disk with three groups sealed.
+fn loaded<D: Disk + Drop>(
+    alloc: Global,
+    mut disk: D,
+    sup: Super,
+    one: Group,
+    two: Group,
+    three: Group,
+) -> Option<Device<D>>
+    requires valid { IsValid sup }
+    requires ascends { Ascends one.blocks × Ascends two.blocks × Ascends three.blocks }
+    requires sized { AreOfSize sup.block_size one.blocks × AreOfSize sup.block_size two.blocks × AreOfSize sup.block_size three.blocks }
+{
+    let geometry = sup.geometry();
+    let Ok(sectors) = disk.sectors() else {
+        return None;
+    };
+    if sectors < u64::from(geometry.block_size / 512) * geometry.blocks
+        || sup.log_start != sup.log_end
+        || !is_next(&sup, 0, geometry.used, &one)
+        || !is_next(&sup, one.last, one.used, &two)
+        || !is_next(&sup, two.last, two.used, &three)
+    {
+        return None;
+    }
+    let Ok(mut device) = Device::adopt(alloc, disk, sup) else {
+        return None;
+    };
+    device.seal(one);
+    if device.room().is_err() {
+        return None;
+    }
+    device.seal(two);
+    device.seal(three);
+    Some(device)
+}
+
+// The three groups of the tests: blocks 16 and 17 with ones, none, and blocks 17 and 18 with threes, on a log of 12 blocks that
+// begins at its block 10. So the array block of the first stands in block 12 of the volume, and its bytes in 13 and 2.
+fn three<D: Disk + Drop>(alloc: Global, disk: D, shift: u32) -> Option<Device<D>>
+    requires { shift ≤ 13 }
+{
+    let ones = [1u8; 8192];
+    let threes = [3u8; 8192];
+    let sup = fields(shift, 32, 12, 10);
+    let size = sup.block_size as usize;
+    let Ok(one) = group_of(alloc, [1, 2, 22], &[16, 17], &ones[..size]) else {
+        return None;
+    };
+    let Ok(two) = group_of(alloc, [3, 3, 22], &[], &ones[..size]) else {
+        return None;
+    };
+    let Ok(three) = group_of(alloc, [4, 6, 23], &[18, 17], &threes[..size]) else {
+        return None;
+    };
+    match Super::parse(&sup.print()) {
+        Ok(sup) => loaded(alloc, disk, sup, one, two, three),
+        Err(_) => None,
+    }
+}
+
+// A number of two bytes.
+fn word(image: &[u8], at: usize) -> usize {
+    let low = image.get(at).copied().unwrap_or(0);
+    let high = image.get(at.wrapping_add(1)).copied().unwrap_or(0);
+    usize::from(low) + 256 * usize::from(high)
+}
+
+// The first byte of a block once the log of 12 blocks behind block 2 is replayed.
+fn replayed(image: &[u8], size: usize, block: usize) -> u8 {
+    let mut value = image.get(block.wrapping_mul(size)).copied().unwrap_or(0);
+    let mut at = word(image, 608) % 12;
+    let end = word(image, 616) % 12;
+    for _ in 0..12 {
+        if at == end {
+            break;
+        }
+        let array = (2 + at).wrapping_mul(size);
+        let count = word(image, array);
+        for i in 0..count {
+            at = (at + 1) % 12;
+            if word(image, array.wrapping_add(i.wrapping_mul(8)).wrapping_add(12)) == block {
+                value = image.get((2 + at).wrapping_mul(size)).copied().unwrap_or(0);
+            }
+        }
+        at = (at + 1) % 12;
+    }
+    value
+}
+
+// What replay gives of blocks 16, 17, 18 and of the used blocks.
+fn seen(image: &[u8], size: usize) -> [usize; 4] {
+    [
+        usize::from(replayed(image, size, 16)),
+        usize::from(replayed(image, size, 17)),
+        usize::from(replayed(image, size, 18)),
+        word(image, 568),
+    ]
+}
+
+// Makes so many steps. Tells whether each was made.
+fn step_on<D: Disk>(device: &mut Device<D>, steps: usize) -> bool {
+    for _ in 0..steps {
+        if device.step().is_err() {
+            return false;
+        }
+    }
+    true
+}
+
+// The image that a crash leaves after so many steps, each sector old or new by the pick.
+fn crashed(alloc: Global, shift: u32, steps: usize, pick: u64) -> Result<Vec<u8>, AllocError>
+    requires { shift ≤ 13 }
+{
+    let sup = fields(shift, 32, 12, 10);
+    let bytes = volume(alloc, &sup, 32 << shift)?;
+    if bytes.len() != 512 * (bytes.len() / 512) {
+        return Err(AllocError);
+    }
+    let Some(mut device) = three(alloc, MemDisk::new(alloc, bytes), shift) else {
+        return Err(AllocError);
+    };
+    if !step_on(&mut device, steps) {
+        return Err(AllocError);
+    }
+    device.into_disk().crash(pick)
+}
+
+// What stands after so many steps: the first group from its gate on, the third from its own. While a gate is written and not
+// yet safe, the superblock's sector decides.
+fn expected(steps: usize, newest: bool) -> [usize; 4] {
+    if steps < 5 || (steps == 5 && !newest) {
+        [0, 0, 0, 20]
+    } else if steps < 17 || (steps == 17 && !newest) {
+        [1, 1, 0, 22]
+    } else {
+        [1, 3, 3, 23]
+    }
+}
+
+#[test]
+fn a_crash_after_each_step_leaves_the_durable_groups(rt: HostRuntime) -> Result<(), Fail> {
+    let alloc = rt.alloc();
+    for steps in 0..24usize {
+        for pick in [0, u64::MAX, 0x5555_5555_5555_5555, 0xaaaa_aaaa_aaaa_aaaa] {
+            let image = crashed(alloc, 10, steps, pick)?;
+            assert_eq!(rt; seen(&image, 1024), expected(steps, pick & 2 == 2));
+        }
+    }
+    Ok(())
+}
+
+#[test]
+fn blocks_of_sixteen_sectors_go_the_same_way(rt: HostRuntime) -> Result<(), Fail> {
+    let alloc = rt.alloc();
+    for steps in [4usize, 5, 6, 8, 11, 17, 18, 23] {
+        for pick in [0, u64::MAX] {
+            let image = crashed(alloc, 13, steps, pick)?;
+            assert_eq!(rt; seen(&image, 8192), expected(steps, pick == u64::MAX));
+        }
+    }
+    Ok(())
+}

@@ -64,9 +64,10 @@ get_past (suc n) i (p ∷ ps) d = get_past n i ps d ∙ ap (λ (k : ℕ). get_or
 pub number_in : (m n k : ℕ) (ps : Pairs) (d : ℕ) → k < length (map (λ p. p.0) (take n (drop m ps))) → (get_or (map (λ p. p.0) (take n (drop m ps))) k d ≡ number_at ps (m + k)) × (m + k < length ps)
 number_in m n k ps d lt =
     let short : k < length (take n (drop m ps)) = omega (arith, lt, length-map (take n (drop m ps)) (λ p. p.0)) in
-    let within = length-cut n (drop m ps) in
-    (get_or-map (λ p. p.0) (take n (drop m ps)) k (0, []) d short ∙ ap (λ p. p.0) (get_cut n k (drop m ps) (0, []) (omega (arith, short, within)) ∙ get_past m k ps (0, [])),
-    omega (arith, short, within, length-drop m ps))
+    let within = length-cut n (drop m ps) in (
+      get_or-map (λ p. p.0) (take n (drop m ps)) k (0, []) d short ∙ ap (λ p. p.0) (get_cut n k (drop m ps) (0, []) (omega (arith, short, within)) ∙ get_past m k ps (0, [])),
+      omega (arith, short, within, length-drop m ps),
+    )
 
 pub length-part_low : (ps : Pairs) (e : ℕ) → length (named_in ps e) ≤ 126
 length-part_low ps e = omega (arith, length-map (take 126 (drop (126 * e) ps)) (λ p. p.0), length-cut 126 (drop (126 * e) ps))
@@ -185,10 +186,11 @@ module _ (s : Super) (valid : IsValid s) (f : ℕ → List ℕ) (ps : Pairs) (st
 
   one_left : (e : ℕ) → 126 * e < length ps → length ps < 126 * e + 126 → IsRead e
   one_left e more few =
-      let all : homes_in (part e) ≡ homes_in (drop (126 * e) ps) = ap homes_in (take_all 126 (drop (126 * e) ps) (omega (arith, length-drop (126 * e) ps, few))) in
-      (homes_in (part e) ∷ [],
-      (entry e more, found e more, onward e more ∙ ap (λ (k : ℕ). next_place start k len) (let q : 127 * e + 1 + length (named_in ps e) ≡ ring_count ps = omega (arith, count e more, few, more) in q)),
-      append-nil (homes_in (part e)) ∙ all)
+      let all : homes_in (part e) ≡ homes_in (drop (126 * e) ps) = ap homes_in (take_all 126 (drop (126 * e) ps) (omega (arith, length-drop (126 * e) ps, few))) in (
+        homes_in (part e) ∷ [],
+        (entry e more, found e more, onward e more ∙ ap (λ (k : ℕ). next_place start k len) (let q : 127 * e + 1 + length (named_in ps e) ≡ ring_count ps = omega (arith, count e more, few, more) in q)),
+        append-nil (homes_in (part e)) ∙ all,
+      )
 
   more_left : (e : ℕ) → 126 * e + 126 ≤ length ps → IsRead (suc e) → IsRead e
   more_left e fits later =
@@ -197,10 +199,11 @@ module _ (s : Super) (valid : IsValid s) (f : ℕ → List ℕ) (ps : Pairs) (st
       let joined : homes_in (part e) ++ homes_in (drop (126 * suc e) ps) ≡ homes_in (drop (126 * e) ps) =
       ap (λ (xs : Pairs). homes_in (part e) ++ homes_in xs) (ap (λ (k : ℕ). drop k ps) (let q : 126 * suc e ≡ 126 * e + 126 = omega arith in q) ∙ sym (drop-drop 126 (126 * e) ps))
       ∙ sym (homes_append (part e) (drop 126 (drop (126 * e) ps)))
-      ∙ ap homes_in (take-append-drop 126 (drop (126 * e) ps)) in
-      (homes_in (part e) ∷ later.0,
-      (entry e more, found e more, subst (λ (k : ℕ). Logs g f k end later.0) (sym (onward e more ∙ next)) later.1),
-      ap (λ (hs : List Home). homes_in (part e) ++ hs) later.2 ∙ joined)
+      ∙ ap homes_in (take-append-drop 126 (drop (126 * e) ps)) in (
+        homes_in (part e) ∷ later.0,
+        (entry e more, found e more, subst (λ (k : ℕ). Logs g f k end later.0) (sym (onward e more ∙ next)) later.1),
+        ap (λ (hs : List Home). homes_in (part e) ++ hs) later.2 ∙ joined,
+      )
 
   -- the entries from one on
   read_from : (n e : ℕ) → length ps ≤ 126 * e + 126 * n → 126 * e ≤ length ps → IsRead e

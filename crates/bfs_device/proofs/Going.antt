@@ -158,16 +158,38 @@ module _ (s : Super) (g : Group) (v : ℕ → List ℕ) (t : ℕ → Bool) (vali
   -- the superblocks of the gate and behind it
   pub opened_valid : IsValid (opened_of s g)
   opened_valid = let inside = next_inside (log_from s) n s.log_blocks.len (from_low s valid) (omega (arith, sealed.room)) in record {
-    magic1 = valid.magic1; magic2 = valid.magic2; magic3 = valid.magic3; order = valid.order; block_size = valid.block_size; inode_size = valid.inode_size;
-    length = valid.length; groups = valid.groups; log = valid.log; log_start = valid.log_start; log_end = (pos_low 0 (behind s g.blocks) (omega arith), pos_below (behind s g.blocks) s.log_blocks.len inside); root = valid.root; indices = valid.indices;
+    magic1 = valid.magic1;
+    magic2 = valid.magic2;
+    magic3 = valid.magic3;
+    order = valid.order;
+    block_size = valid.block_size;
+    inode_size = valid.inode_size;
+    length = valid.length;
+    groups = valid.groups;
+    log = valid.log;
+    log_start = valid.log_start;
+    log_end = (pos_low 0 (behind s g.blocks) (omega arith), pos_below (behind s g.blocks) s.log_blocks.len inside);
+    root = valid.root;
+    indices = valid.indices;
   }
 
   pub closed_valid : IsValid (closed_of s g)
   closed_valid = let inside = next_inside (log_from s) n s.log_blocks.len (from_low s valid) (omega (arith, sealed.room)) in
       let place : (pos 0 ≤ℤ pos (behind s g.blocks)) × (pos (behind s g.blocks) <ℤ pos s.log_blocks.len) = (pos_low 0 (behind s g.blocks) (omega arith), pos_below (behind s g.blocks) s.log_blocks.len inside) in record {
-    magic1 = valid.magic1; magic2 = valid.magic2; magic3 = valid.magic3; order = valid.order; block_size = valid.block_size; inode_size = valid.inode_size;
-    length = valid.length; groups = valid.groups; log = valid.log; log_start = place; log_end = place; root = valid.root; indices = valid.indices;
-  }
+        magic1 = valid.magic1;
+        magic2 = valid.magic2;
+        magic3 = valid.magic3;
+        order = valid.order;
+        block_size = valid.block_size;
+        inode_size = valid.inode_size;
+        length = valid.length;
+        groups = valid.groups;
+        log = valid.log;
+        log_start = place;
+        log_end = place;
+        root = valid.root;
+        indices = valid.indices;
+      }
 
   opened_full : 0 < n → log_from (opened_of s g) ≢ log_to (opened_of s g)
   opened_full some same = ⊎_elim (λ lt. let e = next_low (log_from s) n s.log_blocks.len lt in omega (arith, same, e, some)) (λ ge. let e = next_high (log_from s) n s.log_blocks.len ge in omega (arith, same, e, some, sealed.room, ge, from_low s valid)) (cases_lt (log_from s + n) s.log_blocks.len)

@@ -97,4 +97,3 @@ module _ (s u : Super) (used : ℕ) (image : List ℕ) (same : IsOfVolume s used
           (λ rest. ⊎_elim (λ dirty. absurd (true≢false (sym dirty ∙ clear))) (λ kept. over_same homes (blocks_of image) v b (read_block b ∙ kept)) rest)
           (held b is_data);
     }
-

@@ -122,8 +122,8 @@ pub written_here : (st : State) (r b : ℕ) (bytes : List ℕ) → length bytes 
 written_here st r b bytes long =
     let f : ℕ → List ℕ = λ j. newest_sector (written st (r * b) bytes) (r * b + j) in
     let here : (j : ℕ) → j < r → f j ≡ sector j bytes = λ j lt.
-        ap (λ cs. get_or cs 0 []) (cond-true (names (r * b) bytes (r * b + j)) (sector (r * b + j - r * b) bytes ∷ st.contents (r * b + j)) (st.contents (r * b + j)) (names_inside (r * b) (r * b + j) bytes (omega arith) (omega (arith, long, lt))))
-        ∙ ap (λ (i : ℕ). sector i bytes) (let e : r * b + j - r * b ≡ j = omega arith in e) in
+    ap (λ cs. get_or cs 0 []) (cond-true (names (r * b) bytes (r * b + j)) (sector (r * b + j - r * b) bytes ∷ st.contents (r * b + j)) (st.contents (r * b + j)) (names_inside (r * b) (r * b + j) bytes (omega arith) (omega (arith, long, lt))))
+    ∙ ap (λ (i : ℕ). sector i bytes) (let e : r * b + j - r * b ≡ j = omega arith in e) in
     let each : (j : ℕ) → j < r → length (f j) ≡ 512 = λ j lt. ap length (here j lt) ∙ length-take-le 512 (drop (512 * j) bytes) (omega (arith, lt, long, length-drop (512 * j) bytes)) in
     same_sectors r (joined r f) bytes (length-joined r f each ∙ sym long) (omega (arith, length-joined r f each)) (λ j lt. sector-joined r f j each lt ∙ here j lt)
 
@@ -143,7 +143,7 @@ module _ (s : Super) (valid : IsValid s) (st : State) (b : ℕ) (bytes : List �
       → Seen after r S T (Keeps (layout_of s) (log_from s) B loose (touching b t) w' m) (Keeps (layout_of s) (log_from s) B loose' none w' m')
   held_written B loose loose' w w' m m' low low' same here known =
       let no_slot : (j : ℕ) → j < s.log_blocks.len → b ≡ slot (layout_of s) (log_from s) j → ⊥ = λ j lt e.
-          let inside = slot_inside (layout_of s) (log_from s) j (from_low s valid) lt in log_not_data (layout_of s) b (omega (arith, e, inside.0)) (omega (arith, e, inside.1)) data_block in
+      let inside = slot_inside (layout_of s) (log_from s) j (from_low s valid) lt in log_not_data (layout_of s) b (omega (arith, e, inside.0)) (omega (arith, e, inside.1)) data_block in
       known_block_written _ _ b bytes (good s valid).two data_block.0 long known
       (λ k c other kept. record { held = λ d. ⊎_elim (λ home. inl home) (λ rest. inr (⊎_elim (λ dirty. inl (touched_else b t k dirty)) (λ e. inr (e ∙ same k other)) rest)) (kept.held d); ring = kept.ring })
       (λ k c other kept. record { held = λ d. ⊎_elim (λ home. inl home) (λ rest. inr (⊎_elim (λ dirty. inl dirty) (λ e. inr (e ∙ same k other)) rest)) (kept.held d); ring = kept.ring })
@@ -218,16 +218,19 @@ module _ (b : Books) (know : Known b) (none_yet : b.stop ≡ None) (t : ℕ → 
   data_during image is = read_one b (touching k t) new st image (λ i d clear. other_blocks i (clear_other k t i clear)) (now_as None b know (touching k t) new sized right_now image is)
 
   pub data_after : (m : ℕ) → (let c : Books = record b { moment = m } in IsRight c (touching k t) new × AreSameBut k b st c new)
-  data_after m = (subst (λ (o : Option Stop). let c : Books = record b { moment = m } in IsRightAs o c (touching k t) new) (sym none_yet) right_now,
-      λ n is i d other. over_same (upto n b.groups) (contents_of new (layout_of b.sup).sectors) (contents_of st (layout_of b.sup).sectors) i (other_blocks i other))
+  data_after m = (
+    subst (λ (o : Option Stop). let c : Books = record b { moment = m } in IsRightAs o c (touching k t) new) (sym none_yet) right_now,
+    λ n is i d other. over_same (upto n b.groups) (contents_of new (layout_of b.sup).sectors) (contents_of st (layout_of b.sup).sectors) i (other_blocks i other),
+  )
 
   pub data_failed : (half : State) (count : ℕ) → IsHalfWritten st ((layout_of b.sup).sectors * k) bytes half → IsRight (halted b count) (touching k t) half × AreSameBut k b st (halted b count) half
   data_failed half count halves =
-      let kept : (i : ℕ) → i ≢ k → contents_of half (layout_of b.sup).sectors i ≡ contents_of st (layout_of b.sup).sectors i = λ i other. half_others st half ((layout_of b.sup).sectors * k) (layout_of b.sup).sectors i bytes halves (λ j lt. block_others (layout_of b.sup).sectors k i j bytes long other lt) in
-      (λ image is. again_one b _ _ (touching k t) half image
-      (read_one b (touching k t) new half image (λ i d clear. other_blocks i (clear_other k t i clear) ∙ sym (kept i (clear_other k t i clear)))
-      (now_as None b know (touching k t) new sized right_now image (half_image st half ((layout_of b.sup).sectors * k) bytes image halves is))),
-      λ n is i d other. over_same (upto n b.groups) (contents_of half (layout_of b.sup).sectors) (contents_of st (layout_of b.sup).sectors) i (kept i other))
+      let kept : (i : ℕ) → i ≢ k → contents_of half (layout_of b.sup).sectors i ≡ contents_of st (layout_of b.sup).sectors i = λ i other. half_others st half ((layout_of b.sup).sectors * k) (layout_of b.sup).sectors i bytes halves (λ j lt. block_others (layout_of b.sup).sectors k i j bytes long other lt) in (
+        λ image is. again_one b _ _ (touching k t) half image
+            (read_one b (touching k t) new half image (λ i d clear. other_blocks i (clear_other k t i clear) ∙ sym (kept i (clear_other k t i clear)))
+            (now_as None b know (touching k t) new sized right_now image (half_image st half ((layout_of b.sup).sectors * k) bytes image halves is))),
+        λ n is i d other. over_same (upto n b.groups) (contents_of half (layout_of b.sup).sectors) (contents_of st (layout_of b.sup).sectors) i (kept i other),
+      )
 
 -- ---- the same of a disk that tells, or not
 
@@ -247,8 +250,11 @@ module _ (b : Books) (know : Known b) (none_yet : b.stop ≡ None) (size : Optio
   long_here = long ∙ (sizes b.sup know.valid).0
 
   pub write_right : (m : ℕ) (told : Option State) → told ≡ told_written old ((layout_of b.sup).sectors * k) bytes → (let c : Books = record b { moment = m } in Tells told (λ s. IsRight c (touching k t) s × AreSameBut k b right.0 c s))
-  write_right m told is = (written right.0 ((layout_of b.sup).sectors * k) bytes, is ∙ ap (λ (o : Option State). told_written o ((layout_of b.sup).sectors * k) bytes) right.1,
-      data_after b know none_yet t right.0 full sized_here right.2 k bytes is_data long_here apart m)
+  write_right m told is = (
+    written right.0 ((layout_of b.sup).sectors * k) bytes,
+    is ∙ ap (λ (o : Option State). told_written o ((layout_of b.sup).sectors * k) bytes) right.1,
+    data_after b know none_yet t right.0 full sized_here right.2 k bytes is_data long_here apart m,
+  )
 
   pub write_failed : (count : ℕ) (told : Option State) → HalfWritten old ((layout_of b.sup).sectors * k) bytes told → Tells told (λ s. IsRight (halted b count) (touching k t) s × AreSameBut k b right.0 (halted b count) s)
   write_failed count told half =

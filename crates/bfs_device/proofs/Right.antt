@@ -167,7 +167,6 @@ module _ (b : Books) (g : Group) (gs : List Group) (valid : IsValid b.sup) (empt
       → (image : List ℕ) → LeftDuring (call_of b.sup g p) (Some st) image → RecoversOne (at p) t st image
   during_one t st p fits read sized known image is = one_of (reading st) t st image p (same_reading t st (is_durable p)) (during_image b.sup g valid follow.0.sealed empty (reading st) t st sized image p fits read known is)
 
-
   -- ---- after the call has succeeded
 
   module _ (t : ℕ → Bool) (st : State) (sized : (layout_of b.sup).sectors * (layout_of b.sup).blocks ≤ st.size) where
@@ -243,6 +242,7 @@ module _ (b : Books) (g : Group) (gs : List Group) (valid : IsValid b.sup) (empt
         over_same (upto n gs) (reading st') (over (homes_in g.blocks) (reading st)) k (reads_plain s st' filled ok sized (over (homes_in g.blocks) (reading st)) rests k is_data)
         ∙ sym (over_joined (homes_in g.blocks) (upto n gs) (reading st) k)
         ∙ ap (λ (hs : List Home). over hs (reading st) k) (sym (upto_with (layout_of b.sup) b.sup.block_size b.left (natural b.sup.used_blocks) n g gs follow later))
+
     either_none : (d : Bool) → cond {A = List Home} d [] [] ≡ []
     either_none true = refl
     either_none false = refl

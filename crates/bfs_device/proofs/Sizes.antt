@@ -58,6 +58,9 @@ module _ (s : Super) (valid : IsValid s) where
   pub place_small : (b : ℕ) → b < (layout_of s).blocks → (layout_of s).sectors * b ≤ 67108864
   place_small b lt = let le : b * (layout_of s).sectors ≤ b * 16 = mul-le-mul_left b sectors_low in omega (arith, le, lt, blocks_low)
 
+  pub volume_small : (layout_of s).sectors * (layout_of s).blocks ≤ 67108864
+  volume_small = let le : (layout_of s).blocks * (layout_of s).sectors ≤ (layout_of s).blocks * 16 = mul-le-mul_left (layout_of s).blocks sectors_low in omega (arith, le, blocks_low)
+
   pub ring_low : s.log_blocks.len ≤ 65536
   ring_low = let p = power_low (natural s.ag_shift) (natural_up_to s.ag_shift 16 valid.groups.0.2) in omega (arith, valid.log.1, p)
 

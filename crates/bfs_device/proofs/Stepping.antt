@@ -80,11 +80,15 @@ ok_front b (g ∷ gs) know some read none_yet t st new filled sized is right =
     let st' : State = state_after (call_of b.sup g p) st in
     let told : new ≡ Some st' = is ∙ told_is (call_of b.sup g p) st in
     let full : Filled st' = filled_state new st' filled told in
-    let stands = standing_of (record b { groups = g ∷ gs }) t st none_yet right in
-    (st', told,
-    (subst (λ (o : Option Stop). IsRightAs o (stepped (record b { groups = g ∷ gs })) (still_touched (record b { groups = g ∷ gs }) t) st') (sym (stop_after g gs (record b { groups = g ∷ gs }) p ∙ none_yet))
-    (right_after b g gs know.valid know.empty know.follow t st sized p know.phase read full stands),
-    versions_after b g gs know.valid know.empty know.follow t st sized p know.phase read full stands))
+    let stands = standing_of (record b { groups = g ∷ gs }) t st none_yet right in (
+      st',
+      told,
+      (
+        subst (λ (o : Option Stop). IsRightAs o (stepped (record b { groups = g ∷ gs })) (still_touched (record b { groups = g ∷ gs }) t) st') (sym (stop_after g gs (record b { groups = g ∷ gs }) p ∙ none_yet))
+            (right_after b g gs know.valid know.empty know.follow t st sized p know.phase read full stands),
+        versions_after b g gs know.valid know.empty know.follow t st sized p know.phase read full stands,
+      ),
+    )
 
 pub ok_right : (b : Books) → Known b → 0 < length b.groups → ReadFront b.sup b.groups b.phase → b.stop ≡ None → (size : Option ℕ) → IsOnDisk size b.sup
     → (t : ℕ → Bool) (old new : Option State) → IfSome old (λ x. size ≡ Some x.size) → IfSome new Filled → new ≡ told_front b.sup b.groups b.phase old
@@ -114,12 +118,16 @@ err_front b [] after know read none_yet t st new sized failed right = absurd fai
 err_front b (g ∷ gs) after know read none_yet t st new sized failed right =
     let p : Phase = b.phase in
     let half = failed_told (call_of b.sup g p) st new failed in
-    let stands = standing_of (record b { groups = g ∷ gs }) t st none_yet right in
-    (half.0, half.1,
-    (λ image is. again_one (record b { groups = g ∷ gs }) _ _ t half.0 image (failed_one b g gs know.valid know.empty know.follow t st half.0 p know.phase read sized stands half.2 image is),
-    λ n version_of k is_data. kept_by b g gs know.valid know.empty know.follow t st sized (is_durable p) n half.0 k
-    (agrees_of b g gs know.valid know.empty know.follow st half.0 (is_durable p) (failed_reading b g gs know.valid know.empty know.follow none st half.0 p know.phase read half.2) k is_data)
-    (later_one b g gs know.valid know.empty know.follow t st sized n p version_of)))
+    let stands = standing_of (record b { groups = g ∷ gs }) t st none_yet right in (
+      half.0,
+      half.1,
+      (
+        λ image is. again_one (record b { groups = g ∷ gs }) _ _ t half.0 image (failed_one b g gs know.valid know.empty know.follow t st half.0 p know.phase read sized stands half.2 image is),
+        λ n version_of k is_data. kept_by b g gs know.valid know.empty know.follow t st sized (is_durable p) n half.0 k
+            (agrees_of b g gs know.valid know.empty know.follow st half.0 (is_durable p) (failed_reading b g gs know.valid know.empty know.follow none st half.0 p know.phase read half.2) k is_data)
+            (later_one b g gs know.valid know.empty know.follow t st sized n p version_of),
+      ),
+    )
 
 pub err_right : (b : Books) (after : ℕ) → Known b → ReadFront b.sup b.groups b.phase → b.stop ≡ None → (size : Option ℕ) → IsOnDisk size b.sup
     → (t : ℕ → Bool) (old new : Option State) → IfSome old (λ x. size ≡ Some x.size) → FailedFront b.sup b.groups b.phase old new
@@ -141,8 +149,12 @@ pub step_moments : {T E : Type 0} (b : Books) → Known b → 0 < length b.group
     → Elapses told result before now past since (LeftFront b.sup b.groups b.phase told) → Tells told (IsRight b t)
     → Passed before now past since (λ c. Tells told (λ s. RecoversOne b t s c))
 step_moments b know some read none_yet size on t told law result before now past since time right =
-    passed_one _ time (λ c left. (right.0, right.1, during_front b b.groups know some read none_yet t right.0 (on_state b.sup size told right.0 law on right.1) right.2 c
-    (subst (λ (o : Option State). LeftFront b.sup b.groups b.phase o c) right.1 left)))
+    passed_one _ time (λ c left. (
+      right.0,
+      right.1,
+      during_front b b.groups know some read none_yet t right.0 (on_state b.sup size told right.0 law on right.1) right.2 c
+          (subst (λ (o : Option State). LeftFront b.sup b.groups b.phase o c) right.1 left),
+    ))
 
 -- ---- what a right device's disk leaves now
 

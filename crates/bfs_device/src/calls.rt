@@ -188,7 +188,12 @@ fn write_log<D: Disk>(
         make_array(sup, &group.blocks, entry, buffer);
         write_block(disk, sup, place, buffer)
     } else {
-        write_block(disk, sup, place, group.blocks.bytes(126 * entry + (inside - 1)))
+        write_block(
+            disk,
+            sup,
+            place,
+            group.blocks.bytes(126 * entry + (inside - 1)),
+        )
     }
 }
 

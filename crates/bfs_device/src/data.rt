@@ -18,12 +18,7 @@ use bfs_super::Super;
 use bfs_txn::Group;
 
 // Reads a block of the disk.
-fn read_block<D: Disk>(
-    disk: &mut D,
-    sup: &Super,
-    place: u64,
-    into: &mut [u8],
-) -> Result<(), Failed>
+fn read_block<D: Disk>(disk: &mut D, sup: &Super, place: u64, into: &mut [u8]) -> Result<(), Failed>
     requires valid { IsValid sup.now }
     requires on_disk { IsOnDisk (D.size disk.old) sup.now }
     requires place { place < (layout_of sup.now).blocks }

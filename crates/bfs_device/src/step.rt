@@ -31,7 +31,13 @@ fn act<D: Disk>(disk: &mut D, journal: &mut Journal) -> Result<(), Failed>
 {
     let phase = journal.phase;
     let group = &journal.groups[0];
-    perform(disk, &journal.sup, group, phase, journal.buffer.as_mut_slice())
+    perform(
+        disk,
+        &journal.sup,
+        group,
+        phase,
+        journal.buffer.as_mut_slice(),
+    )
 }
 
 // Stops for good.

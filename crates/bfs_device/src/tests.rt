@@ -46,20 +46,22 @@ fn put_all(
     done
 }
 
-// A group of blocks with the same bytes.
+// A group of blocks that are filled with one byte.
 fn group_of(
     alloc: Global,
     numbers: [u64; 3],
     blocks: &[u64],
-    from: &[u8],
+    size: usize,
+    fill: u8,
 ) -> Result<Group, AllocError>
-    requires { length from.now ≤ 8192 }
+    requires { size ≤ 8192 }
     ensures ascends { IfOk result (λ g. Ascends g.blocks) }
-    ensures sized { IfOk result (λ g. AreOfSize (length from.now) g.blocks) }
+    ensures sized { IfOk result (λ g. AreOfSize size g.blocks) }
 {
+    let from = vec![in alloc; fill; size]?;
     let mut open = Changed::new(alloc);
-    let mut under = MemBlocks::new(Vec::new(alloc), from.len() as u32);
-    put_all(&mut open, &mut under, blocks, from)?;
+    let mut under = MemBlocks::new(Vec::new(alloc), size as u32);
+    put_all(&mut open, &mut under, blocks, &from)?;
     let [first, last, used] = numbers;
     Ok(Group {
         first,
@@ -191,21 +193,23 @@ fn loaded<D: Disk + Drop>(
     let Ok(sectors) = disk.sectors() else {
         return None;
     };
-    if sectors < u64::from(geometry.block_size / 512) * geometry.blocks
-        || sup.log_start != sup.log_end
-        || !is_next(&sup, 0, geometry.used, &one)
-        || !is_next(&sup, one.last, one.used, &two)
-        || !is_next(&sup, two.last, two.used, &three)
-    {
+    let needed = u64::from(geometry.block_size / 512) * geometry.blocks;
+    if sectors < needed || sup.log_start != sup.log_end {
+        return None;
+    }
+    let first = is_next(&sup, 0, geometry.used, &one);
+    let second = is_next(&sup, one.last, one.used, &two);
+    let third = is_next(&sup, two.last, two.used, &three);
+    if !first || !second || !third {
         return None;
     }
     let Ok(mut device) = Device::adopt(alloc, disk, sup) else {
         return None;
     };
     device.seal(one);
-    if device.room().is_err() {
+    let Ok(()) = device.room() else {
         return None;
-    }
+    };
     device.seal(two);
     device.seal(three);
     Some(device)
@@ -216,23 +220,23 @@ fn loaded<D: Disk + Drop>(
 fn three<D: Disk + Drop>(alloc: Global, disk: D, shift: u32) -> Option<Device<D>>
     requires { shift ≤ 13 }
 {
-    let ones = [1u8; 8192];
-    let threes = [3u8; 8192];
-    let sup = fields(shift, 32, 12, 10);
+    let Ok(sup) = Super::parse(&fields(shift, 32, 12, 10).print()) else {
+        return None;
+    };
     let size = sup.block_size as usize;
-    let Ok(one) = group_of(alloc, [1, 2, 22], &[16, 17], &ones[..size]) else {
+    if size > 8192 {
         return None;
-    };
-    let Ok(two) = group_of(alloc, [3, 3, 22], &[], &ones[..size]) else {
-        return None;
-    };
-    let Ok(three) = group_of(alloc, [4, 6, 23], &[18, 17], &threes[..size]) else {
-        return None;
-    };
-    match Super::parse(&sup.print()) {
-        Ok(sup) => loaded(alloc, disk, sup, one, two, three),
-        Err(_) => None,
     }
+    let Ok(one) = group_of(alloc, [1, 2, 22], &[16, 17], size, 1) else {
+        return None;
+    };
+    let Ok(two) = group_of(alloc, [3, 3, 22], &[], size, 1) else {
+        return None;
+    };
+    let Ok(three) = group_of(alloc, [4, 6, 23], &[18, 17], size, 3) else {
+        return None;
+    };
+    loaded(alloc, disk, sup, one, two, three)
 }
 
 // A number of two bytes.
@@ -251,15 +255,22 @@ fn replayed(image: &[u8], size: usize, block: usize) -> u8 {
         if at == end {
             break;
         }
-        let array = (2 + at).wrapping_mul(size);
+        let array = at.wrapping_add(2).wrapping_mul(size);
         let count = word(image, array);
         for i in 0..count {
-            at = (at + 1) % 12;
-            if word(image, array.wrapping_add(i.wrapping_mul(8)).wrapping_add(12)) == block {
-                value = image.get((2 + at).wrapping_mul(size)).copied().unwrap_or(0);
+            at = at.wrapping_add(1) % 12;
+            if word(
+                image,
+                array.wrapping_add(i.wrapping_mul(8)).wrapping_add(12),
+            ) == block
+            {
+                value = image
+                    .get(at.wrapping_add(2).wrapping_mul(size))
+                    .copied()
+                    .unwrap_or(0);
             }
         }
-        at = (at + 1) % 12;
+        at = at.wrapping_add(1) % 12;
     }
     value
 }
@@ -334,6 +345,99 @@ fn blocks_of_sixteen_sectors_go_the_same_way(rt: HostRuntime) -> Result<(), Fail
             let image = crashed(alloc, 13, steps, pick)?;
             assert_eq!(rt; seen(&image, 8192), expected(steps, pick == u64::MAX));
         }
+    }
+    Ok(())
+}
+
+// A disk in memory with the volume of the tests, which fails at one of its calls, or at none.
+fn failing(alloc: Global, call: u64) -> Result<MemDisk, AllocError> {
+    let bytes = volume(alloc, &fields(10, 32, 12, 10), 32_768)?;
+    if bytes.len() != 512 * (bytes.len() / 512) {
+        return Err(AllocError);
+    }
+    Ok(MemDisk::failing(alloc, bytes, Vec::from_slice(alloc, &[call])?))
+}
+
+#[test]
+fn each_step_tells_its_call_and_stores_its_mark(rt: HostRuntime) -> Result<(), Fail> {
+    let alloc = rt.alloc();
+    let mut device = three(alloc, failing(alloc, 0)?, 10).ok_or("no device")?;
+    let told = [
+        Progress::Logged,
+        Progress::Logged,
+        Progress::Logged,
+        Progress::LogSafe,
+        Progress::Opened,
+        Progress::Durable(2),
+        Progress::Home(16),
+        Progress::Home(17),
+        Progress::HomeSafe,
+        Progress::TailMoved,
+        Progress::TailSafe,
+        Progress::Durable(3),
+        Progress::Logged,
+        Progress::Logged,
+        Progress::Logged,
+        Progress::LogSafe,
+        Progress::Opened,
+        Progress::Durable(6),
+        Progress::Home(17),
+        Progress::Home(18),
+        Progress::HomeSafe,
+        Progress::TailMoved,
+        Progress::TailSafe,
+        Progress::Idle,
+    ];
+    for progress in told {
+        assert_eq!(rt; device.step(), Ok(progress));
+    }
+    let marks = [(6, 2), (12, 3), (18, 6)].map(|(moment, number)| Mark { moment, number });
+    assert_eq!(rt; device.marks(), marks.as_slice());
+    assert_eq!(rt;
+        (device.durable(), device.left(), device.faults()),
+        (6, 6, 0)
+    );
+    Ok(())
+}
+
+// The last entry that is durable after so many steps.
+fn durable_after(steps: u64) -> u64 {
+    if steps < 6 {
+        0
+    } else if steps < 12 {
+        2
+    } else if steps < 18 {
+        3
+    } else {
+        6
+    }
+}
+
+#[test]
+fn a_stop_at_each_disk_call_is_for_good(rt: HostRuntime) -> Result<(), Fail> {
+    let alloc = rt.alloc();
+    for step in 1..24u64 {
+        // The first disk call asks for the sectors.
+        let mut device = three(alloc, failing(alloc, step + 1)?, 10).ok_or("no device")?;
+        for _ in 1..step {
+            assert!(rt; device.step().is_ok());
+        }
+        let failed = DeviceFault::Disk {
+            before: 0,
+            after: 1,
+            stops: true,
+        };
+        let stopped = DeviceFault::Stopped {
+            durable: durable_after(step - 1),
+            faults: 1,
+        };
+        assert_eq!(rt; device.step(), Err(failed));
+        assert_eq!(rt; device.step(), Err(stopped));
+        assert_eq!(rt; device.durable(), durable_after(step - 1));
+        let image = device.into_disk().crash(u64::MAX)?;
+        let found = seen(&image, 1024);
+        let before = expected(step as usize - 1, false);
+        assert!(rt; found == before || found == expected(step as usize, true));
     }
     Ok(())
 }

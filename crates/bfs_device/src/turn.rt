@@ -116,7 +116,8 @@ pub fn durable_number(journal: &Journal) -> u64
     }
     match journal.phase {
         Phase::Home(_) | Phase::HomeSafe | Phase::Tail | Phase::TailSafe => journal.groups[0].last,
-        Phase::Log(_) | Phase::LogSafe | Phase::Open | Phase::OpenSafe | Phase::Pass => journal.left,
+        Phase::Log(_) | Phase::LogSafe | Phase::Open | Phase::OpenSafe | Phase::Pass =>
+            journal.left,
     }
 }
 
@@ -161,7 +162,12 @@ pub fn advance(journal: &mut Journal) -> Progress
             journal.left = number;
             journal.phase = front(&journal.groups);
         }
-        Phase::Log(_) | Phase::LogSafe | Phase::Open | Phase::Home(_) | Phase::HomeSafe | Phase::Tail => journal.phase = next,
+        Phase::Log(_)
+        | Phase::LogSafe
+        | Phase::Open
+        | Phase::Home(_)
+        | Phase::HomeSafe
+        | Phase::Tail => journal.phase = next,
     }
     done
 }

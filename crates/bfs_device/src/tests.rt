@@ -246,31 +246,33 @@ fn word(image: &[u8], at: usize) -> usize {
     usize::from(low) + 256 * usize::from(high)
 }
 
-// The first byte of a block once the log of 12 blocks behind block 2 is replayed.
+// The first byte of a block once the log behind block 2 is replayed.
 fn replayed(image: &[u8], size: usize, block: usize) -> u8 {
     let mut value = image.get(block.wrapping_mul(size)).copied().unwrap_or(0);
-    let mut at = word(image, 608) % 12;
-    let end = word(image, 616) % 12;
-    for _ in 0..12 {
+    let ring = word(image, 606);
+    if ring == 0 {
+        return value;
+    }
+    let mut at = word(image, 608) % ring;
+    let end = word(image, 616) % ring;
+    for _ in 0..ring {
         if at == end {
             break;
         }
         let array = at.wrapping_add(2).wrapping_mul(size);
         let count = word(image, array);
         for i in 0..count {
-            at = at.wrapping_add(1) % 12;
+            at = at.wrapping_add(1) % ring;
             if word(
                 image,
                 array.wrapping_add(i.wrapping_mul(8)).wrapping_add(12),
             ) == block
             {
-                value = image
-                    .get(at.wrapping_add(2).wrapping_mul(size))
-                    .copied()
-                    .unwrap_or(0);
+                let place = at.wrapping_add(2).wrapping_mul(size);
+                value = image.get(place).copied().unwrap_or(0);
             }
         }
-        at = at.wrapping_add(1) % 12;
+        at = at.wrapping_add(1) % ring;
     }
     value
 }
@@ -439,5 +441,99 @@ fn a_stop_at_each_disk_call_is_for_good(rt: HostRuntime) -> Result<(), Fail> {
         let before = expected(step as usize - 1, false);
         assert!(rt; found == before || found == expected(step as usize, true));
     }
+    Ok(())
+}
+
+// The image that a crash leaves after so many steps of a group of 130 blocks, on a log of 140 that it wraps round.
+fn wide(alloc: Global, steps: usize, pick: u64) -> Result<Vec<u8>, AllocError> {
+    let mut blocks = [0u64; 130];
+    let mut block = 144u64;
+    for place in &mut blocks {
+        *place = block;
+        block = block.wrapping_add(1);
+    }
+    let bytes = volume(alloc, &fields(10, 280, 140, 100), 286_720)?;
+    if bytes.len() != 512 * (bytes.len() / 512) {
+        return Err(AllocError);
+    }
+    let Ok(sup) = Super::parse(&fields(10, 280, 140, 100).print()) else {
+        return Err(AllocError);
+    };
+    let size = sup.block_size as usize;
+    if size > 8192 {
+        return Err(AllocError);
+    }
+    let one = group_of(alloc, [1, 2, 150], &blocks, size, 5)?;
+    let two = group_of(alloc, [3, 3, 150], &[], size, 0)?;
+    let three = group_of(alloc, [4, 4, 150], &[], size, 0)?;
+    let Some(mut device) = loaded(alloc, MemDisk::new(alloc, bytes), sup, one, two, three) else {
+        return Err(AllocError);
+    };
+    if !step_on(&mut device, steps) {
+        return Err(AllocError);
+    }
+    device.into_disk().crash(pick)
+}
+
+#[test]
+fn a_group_of_130_blocks_takes_two_array_blocks(rt: HostRuntime) -> Result<(), Fail> {
+    let alloc = rt.alloc();
+    // 132 blocks of the log, the barrier behind them, the gate and its barrier; then 130 blocks, and three calls more.
+    for (steps, pick, byte, start, end) in [
+        (134, 0, 0, 100, 100),
+        (134, u64::MAX, 5, 100, 92),
+        (135, 0, 5, 100, 92),
+        (200, 0, 5, 100, 92),
+        (268, 0, 5, 92, 92),
+    ] {
+        let image = wide(alloc, steps, pick)?;
+        for block in [144, 269, 270, 273] {
+            assert_eq!(rt; replayed(&image, 1024, block), byte);
+        }
+        assert_eq!(rt; (word(&image, 608), word(&image, 616)), (start, end));
+    }
+    Ok(())
+}
+
+// Writes a block beside the groups, and reads it in both ways: its first bytes, and whether a group may be sealed.
+fn data_of<D: Disk + Drop>(alloc: Global, mut disk: D) -> Option<(u8, u8, bool)> {
+    let Ok(sup) = Super::parse(&fields(10, 32, 12, 10).print()) else {
+        return None;
+    };
+    let needed = u64::from(sup.block_size / 512).checked_mul(sup.geometry().blocks)?;
+    let Ok(sectors) = disk.sectors() else {
+        return None;
+    };
+    let data = is_data(&sup, 20);
+    if sectors < needed || sup.log_start != sup.log_end || !data {
+        return None;
+    }
+    let Ok(from) = vec![in alloc; 7u8; sup.block_size as usize] else {
+        return None;
+    };
+    let Ok(mut into) = vec![in alloc; 0u8; sup.block_size as usize] else {
+        return None;
+    };
+    let Ok(mut device) = Device::adopt(alloc, disk, sup) else {
+        return None;
+    };
+    let Ok(()) = device.data_write(20, &from) else {
+        return None;
+    };
+    let Ok(()) = device.data_read(20, into.as_mut_slice()) else {
+        return None;
+    };
+    let read = into.first().copied()?;
+    let Ok(()) = device.block(20, into.as_mut_slice()) else {
+        return None;
+    };
+    Some((read, into.first().copied()?, device.may_seal()))
+}
+
+#[test]
+fn a_block_that_was_written_is_read(rt: HostRuntime) -> Result<(), Fail> {
+    let alloc = rt.alloc();
+    assert_eq!(rt; data_of(alloc, failing(alloc, 0)?), Some((7, 7, true)));
+    assert_eq!(rt; data_of(alloc, failing(alloc, 2)?), None);
     Ok(())
 }

@@ -1,15 +1,14 @@
 -- A group that stands in the log is read there as its entries.
-use Rattle.std.proofs.Common.{◌≡◌, ◌⊎◌, inl, inr, ⊎_elim, ℕ, zero, suc, ◌+◌, ◌-◌, ◌*◌, ◌/◌, ◌%◌, ◌<◌, ◌≤◌, ◌==◌, List, [], ◌∷◌, ◌++◌, length, map, take, drop, get_or, refl, sym, ◌∙◌, ap, subst, arith, length-drop, min}
+use Rattle.std.proofs.Common.{◌≡◌, ⊎_elim, ℕ, zero, suc, ◌+◌, ◌-◌, ◌*◌, ◌/◌, ◌%◌, ◌<◌, ◌≤◌, List, [], ◌∷◌, ◌++◌, length, map, take, drop, get_or, refl, sym, ◌∙◌, ap, subst, arith, length-drop, min}
 use Rattle.std.specs.Prelude.{All}
-use Rattle.std.specs.List.{flat_map}
 use Rattle.std.proofs.lemmas.Bool.{cases_lt, cond-true, cond-false, eq-eqb, ne_eqb}
 use Rattle.std.proofs.lemmas.List.{length-map, get_or-map, take-append-drop, drop-drop, drop_all, take_all, append-nil}
 use Rattle.bfs_super.specs.declared.sup.Super.{Super}
 use Rattle.bfs_super.specs.declared.geometry.Geometry.{Geometry}
-use Rattle.bfs_super.specs.Conditions.{natural, IsValid}
+use Rattle.bfs_super.specs.Conditions.{IsValid}
 use Rattle.bfs_super.specs.Geometry.{geometry_of}
 use Rattle.bfs_log.specs.Ring.{next_place, in_use}
-use Rattle.bfs_log.specs.Entry.{IsOfSuper, IsEntry, IsHome, log_first, entry_bytes, blocks_in, runs_of}
+use Rattle.bfs_log.specs.Entry.{IsOfSuper, IsEntry, IsHome, entry_bytes, blocks_in, runs_of}
 use Rattle.bfs_log.specs.Replay.{Home, Logs, logged, homes_from, homes_at, homes_of, place_in}
 use Rattle.bfs_log.specs.Walk.{homes_with}
 use Rattle.bfs_log.proofs.Printed.{entry_again, runs_again, blocks_again}

@@ -1,28 +1,25 @@
 -- After a call that failed: what a read gives elsewhere, and what a crash leaves.
-use Rattle.std.proofs.Common.{◌≡◌, ◌≢◌, ◌⊎◌, inl, inr, ⊎_elim, ℕ, zero, suc, ◌+◌, ◌-◌, ◌*◌, ◌<◌, ◌≤◌, List, [], ◌∷◌, ◌++◌, length, refl, sym, ◌∙◌, ap, subst, arith, Bool, true, false, cond, Option, Some, None, get_or, IsTrue}
-use Rattle.std.proofs.lemmas.Bool.{cases_lt, cases_eq, cond-true, cond-false, true≢false}
+use Rattle.std.proofs.Common.{◌≡◌, ◌≢◌, ⊎_elim, ℕ, zero, suc, ◌+◌, ◌*◌, ◌<◌, ◌≤◌, List, [], ◌∷◌, ◌++◌, length, refl, sym, ◌∙◌, ap, subst, arith, Bool, true, false, Some, get_or}
+use Rattle.std.proofs.lemmas.Bool.{cases_lt, cases_eq, cond-false, true≢false}
 use Rattle.std.proofs.Math.Nat.{mul-le-mul_left}
 use Rattle.bfs_base.specs.Images.{joined}
-use Rattle.bfs_disk.specs.State.{State, IsImage, IsHalfWritten, Filled, newest, written, settled, names}
-use Rattle.bfs_disk.specs.Disk.{MayLeave, HalfWritten}
+use Rattle.bfs_disk.specs.State.{State, IsImage, IsHalfWritten, newest, written, names}
 use Rattle.bfs_disk.specs.Blocks.{contents_of}
 use Rattle.bfs_disk.proofs.Names.{names_before, names_after}
 use Rattle.bfs_disk.proofs.Calls.{half_image}
-use Rattle.bfs_super.specs.declared.sup.Super.{Super}
 use Rattle.bfs_super.specs.Conditions.{natural, IsValid}
-use Rattle.bfs_super.specs.Layout.{sector_of}
-use Rattle.bfs_log.specs.Replay.{Home, over, log_from, log_to}
+use Rattle.bfs_log.specs.Replay.{Home, log_from, log_to}
 use Rattle.bfs_txn.specs.Changed.{number_at, bytes_at}
 use Rattle.bfs_txn.specs.declared.group.Group.{Group}
 use Rattle.bfs_device.specs.declared.journal.Phase.{Phase}
 use Rattle.bfs_device.specs.declared.journal.Phase.TheVariants.{Log, LogSafe, Open, OpenSafe, Home as GoHome, HomeSafe, Tail, TailSafe, Pass}
 use Rattle.bfs_device.specs.Layouts.{Layout, IsData, layout_of, slot, homes_in, ring_count, log_block}
-use Rattle.bfs_device.specs.Calls.{Call, Write, Barrier, state_after, IsFailed, LeftDuring}
+use Rattle.bfs_device.specs.Calls.{Call, Write, Barrier, IsFailed, LeftDuring}
 use Rattle.bfs_device.specs.Phases.{IsHomeOf, Stands}
-use Rattle.bfs_device.specs.Books.{Books, IsSealed, Follow, IsPhaseOf, RecoversOne, is_durable}
-use Rattle.bfs_device.specs.Steps.{call_of, AreRead}
-use Rattle.bfs_device.proofs.Homes.{over_in, over_same, home_or, is_home, home_at, home_of, length-homes}
-use Rattle.bfs_device.proofs.Sizes.{good, sizes, from_low}
+use Rattle.bfs_device.specs.Books.{Books, Follow, IsPhaseOf, RecoversOne, is_durable}
+use Rattle.bfs_device.specs.Steps.{call_of, PrintsBack}
+use Rattle.bfs_device.proofs.Homes.{over_in, over_same, is_home, home_at, length-homes}
+use Rattle.bfs_device.proofs.Sizes.{good, from_low}
 use Rattle.bfs_device.proofs.Going.{slot_inside, log_not_data}
 use Rattle.bfs_device.proofs.Phasing.{during_image, long_block, long_home}
 use Rattle.bfs_device.proofs.Right.{Reading, one_of, at, reading}
@@ -109,7 +106,7 @@ module _ (b : Books) (g : Group) (gs : List Group) (valid : IsValid b.sup) (empt
       }
 
   -- what a read gives after a failed call agrees with the versions
-  pub failed_reading : (p : Phase) → IsPhaseOf g.blocks p → AreRead b.sup g p → IsFailed (call_of b.sup g p) (Some st) (Some new) → Reading b g gs valid empty follow (reading b g gs valid empty follow st) t new (is_durable p)
+  pub failed_reading : (p : Phase) → IsPhaseOf g.blocks p → PrintsBack b.sup g p → IsFailed (call_of b.sup g p) (Some st) (Some new) → Reading b g gs valid empty follow (reading b g gs valid empty follow st) t new (is_durable p)
   failed_reading (Log i) fits read failed = by_log i fits failed
   failed_reading LogSafe fits read failed = by_barrier false failed
   failed_reading Open fits read failed = by_super false _ read.2 failed
@@ -121,7 +118,7 @@ module _ (b : Books) (g : Group) (gs : List Group) (valid : IsValid b.sup) (empt
   failed_reading Pass fits read failed = by_barrier false failed
 
   -- so each image still recovers to one of them
-  pub failed_one : (p : Phase) → IsPhaseOf g.blocks p → AreRead b.sup g p → (layout_of b.sup).sectors * (layout_of b.sup).blocks ≤ st.size → Stands b.sup g (reading b g gs valid empty follow st) t st p
+  pub failed_one : (p : Phase) → IsPhaseOf g.blocks p → PrintsBack b.sup g p → (layout_of b.sup).sectors * (layout_of b.sup).blocks ≤ st.size → Stands b.sup g (reading b g gs valid empty follow st) t st p
       → IsFailed (call_of b.sup g p) (Some st) (Some new) → (image : List ℕ) → IsImage new image → RecoversOne (at b g gs valid empty follow p) t new image
   failed_one p fits read sized known failed image is =
       one_of b g gs valid empty follow (reading b g gs valid empty follow st) t new image p (failed_reading p fits read failed)

@@ -1,17 +1,16 @@
 -- The first of a device's groups.
-use Rattle.std.proofs.Common.{◌≡◌, ◌⊎◌, inl, inr, ⊎_elim, ◌<◌, ◌≤◌, ◌+◌, ℕ, zero, suc, pos, List, [], ◌∷◌, ◌++◌, length, drop, get_or, arith, sym, ◌∙◌, refl, ap, subst, true, false, cond, nat_le, Bool}
+use Rattle.std.proofs.Common.{◌≡◌, ◌<◌, ℕ, List, [], ◌∷◌, length, drop, get_or, arith, sym, ◌∙◌, refl, ap, subst, false, cond, Bool}
 use Rattle.std.specs.Vec.{vec_capacity}
 use Rattle.bfs_super.specs.declared.sup.Super.{Super}
 use Rattle.bfs_super.specs.Conditions.{natural, IsValid}
 use Rattle.bfs_txn.specs.declared.group.Group.{Group}
 use Rattle.bfs_device.specs.declared.journal.Journal.{Journal}
 use Rattle.bfs_device.specs.declared.journal.Phase.{Phase}
-use Rattle.bfs_device.specs.declared.journal.Phase.TheVariants.{Log, LogSafe, Open, OpenSafe, Home as GoHome, HomeSafe, Tail, TailSafe, Pass}
+use Rattle.bfs_device.specs.declared.journal.Phase.TheVariants.{TailSafe}
 use Rattle.bfs_device.specs.Layouts.{Layout, layout_of, closed_of}
 use Rattle.bfs_device.specs.Phases.{none}
 use Rattle.bfs_device.specs.Books.{IsNext, Follow, IsPhaseOf, IsPhaseFor, Ready, waiting, is_durable}
 use Rattle.bfs_device.specs.Steps.{front_phase, first_phase}
-use Rattle.bfs_device.proofs.Sizes.{ring_low}
 use Rattle.bfs_device.proofs.Going.{closed_valid}
 
 pub front_list : (groups : List Group) (g : Group) → 0 < length groups → g ≡ get_or groups 0 g → groups ≡ g ∷ drop 1 groups

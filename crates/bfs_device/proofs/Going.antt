@@ -1,28 +1,25 @@
 -- How a disk goes from phase to phase, and what replay gives of its images.
-use Rattle.std.proofs.Common.{◌≡◌, ◌≢◌, ◌⊎◌, inl, inr, ⊎_elim, ℕ, zero, suc, pos, ◌+◌, ◌-◌, ◌*◌, ◌<◌, ◌≤◌, ◌<ℤ◌, ◌≤ℤ◌, List, [], ◌∷◌, length, take, drop, refl, sym, ◌∙◌, ap, subst, arith, get_or, Bool, true, false}
+use Rattle.std.proofs.Common.{◌≡◌, ◌≢◌, ◌⊎◌, inl, inr, ⊎_elim, ℕ, suc, pos, ◌+◌, ◌-◌, ◌*◌, ◌<◌, ◌≤◌, ◌<ℤ◌, ◌≤ℤ◌, List, [], length, drop, refl, sym, ◌∙◌, ap, subst, arith, get_or, Bool, true}
 use Rattle.std.proofs.lemmas.Bool.{cases_lt, true≢false}
-use Rattle.bfs_base.specs.Images.{sector, block, IsBytes}
-use Rattle.bfs_disk.specs.State.{State, IsImage, Filled, written, settled}
-use Rattle.bfs_disk.specs.Blocks.{Known, contents_of}
-use Rattle.bfs_disk.proofs.Joined.{contents_read}
+use Rattle.bfs_base.specs.Images.{sector, block}
+use Rattle.bfs_disk.specs.State.{State, IsImage, written, settled}
+use Rattle.bfs_disk.specs.Blocks.{Known}
 use Rattle.bfs_disk.proofs.Known.{known_image, known_super, known_settled, known_less, known_super_written, known_block_written}
 use Rattle.bfs_super.specs.declared.sup.Super.{Super}
 use Rattle.bfs_super.specs.Conditions.{natural, IsValid}
-use Rattle.bfs_super.specs.Layout.{super_at}
-use Rattle.bfs_log.specs.Ring.{next_place}
 use Rattle.bfs_log.specs.Replay.{Home, over, log_from, log_to, blocks_of}
 use Rattle.bfs_log.proofs.Logged.{next_inside}
 use Rattle.bfs_log.proofs.Walks.{next_low, next_high}
 use Rattle.bfs_log.proofs.Bounds.{pos_low, pos_below}
 use Rattle.bfs_txn.specs.Changed.{number_at, bytes_at}
 use Rattle.bfs_txn.specs.declared.group.Group.{Group}
-use Rattle.bfs_device.specs.Layouts.{Layout, IsGood, IsData, layout_of, slot, homes_in, ring_count, log_block, behind, opened_of, closed_of}
+use Rattle.bfs_device.specs.Layouts.{Layout, IsData, layout_of, slot, homes_in, ring_count, log_block, behind, opened_of, closed_of}
 use Rattle.bfs_device.specs.Versions.{RecoversTo}
 use Rattle.bfs_device.specs.Phases.{Says, Gate, Either, IsHomeOf, none, Keeps, Plain, Rests, Logging, Logged, Opened, Homing, AtHome, Moved}
 use Rattle.bfs_device.specs.Books.{IsSealed}
-use Rattle.bfs_device.proofs.Homes.{over_in, over_same, over_out, over_again, over_found, home_or, is_home, home_next, no_home, home_drop, home_at, length-homes, data_homes, home_of}
+use Rattle.bfs_device.proofs.Homes.{over_out, over_again, over_found, home_or, is_home, home_next, no_home, home_at, length-homes, data_homes}
 use Rattle.bfs_device.proofs.Entries.{group_logs}
-use Rattle.bfs_device.proofs.Sizes.{good, sizes, from_low, fits_sectors}
+use Rattle.bfs_device.proofs.Sizes.{good, from_low, fits_sectors}
 use Rattle.bfs_device.proofs.Images.{recovers_empty, recovers_full, IsOfVolume}
 
 -- where a block of the log is

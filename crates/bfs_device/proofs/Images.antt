@@ -1,22 +1,19 @@
 -- What replay gives of an image.
-use Rattle.std.proofs.Common.{◌≡◌, ◌≢◌, ◌⊎◌, inl, inr, ⊎_elim, ℕ, pos, ◌+◌, ◌*◌, ◌/◌, ◌<◌, ◌≤◌, List, [], length, refl, sym, ◌∙◌, ap, subst, arith, Bool, true, false, cond, ◌==◌}
+use Rattle.std.proofs.Common.{◌≡◌, ◌≢◌, ◌⊎◌, ⊎_elim, ℕ, ◌*◌, ◌/◌, ◌≤◌, List, length, refl, sym, ◌∙◌, ap, subst, arith, Bool, true, cond, ◌==◌}
 use Rattle.std.proofs.lemmas.Bool.{true≢false}
 use Rattle.bfs_base.specs.Images.{sector, block, overwritten, IsBytes}
 use Rattle.bfs_super.specs.declared.sup.Super.{Super}
 use Rattle.bfs_super.specs.declared.geometry.Geometry.{Geometry}
 use Rattle.bfs_super.specs.Conditions.{natural, IsValid}
 use Rattle.bfs_super.specs.Geometry.{geometry_of}
-use Rattle.bfs_super.specs.Layout.{super_at, sector_of}
+use Rattle.bfs_super.specs.Layout.{sector_of}
 use Rattle.bfs_log.specs.Replay.{Home, Logs, Valid, Replayed, super_of, block_sectors, blocks_of, log_from, log_to, homes_of, with_homes, emptied, over}
 use Rattle.bfs_log.proofs.Replays.{replayed_empty, replayed_blocks}
 use Rattle.bfs_log.proofs.Emptied.{superblock_is}
-use Rattle.bfs_txn.specs.Changed.{number_at}
-use Rattle.bfs_txn.specs.declared.group.Group.{Group}
-use Rattle.bfs_device.specs.Layouts.{Layout, IsGood, IsData, layout_of, slot, homes_in, ring_count, log_block, behind, opened_of}
+use Rattle.bfs_device.specs.Layouts.{IsData, layout_of}
 use Rattle.bfs_device.specs.Versions.{RecoversTo}
-use Rattle.bfs_device.specs.Phases.{IsHomeOf, Says, Gate}
+use Rattle.bfs_device.specs.Phases.{IsHomeOf}
 use Rattle.bfs_device.proofs.Homes.{over_in, over_same}
-use Rattle.bfs_device.proofs.Entries.{group_logs}
 use Rattle.bfs_device.proofs.Sizes.{sizes, good}
 
 -- the superblock is one of this volume, with so many used blocks

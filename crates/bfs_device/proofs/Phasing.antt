@@ -1,10 +1,9 @@
 -- A disk call of each phase: what stands behind it, and what replay gives of each image that it may leave.
-use Rattle.std.proofs.Common.{◌≡◌, ◌≢◌, ◌⊎◌, inl, inr, ⊎_elim, ℕ, zero, suc, pos, ◌+◌, ◌-◌, ◌*◌, ◌/◌, ◌%◌, ◌<◌, ◌≤◌, ◌==◌, List, [], ◌∷◌, ◌++◌, length, map, drop, refl, sym, ◌∙◌, ap, subst, arith, Bool, true, false, cond, nat_lt, Option, Some, replicate, length-append}
+use Rattle.std.proofs.Common.{◌≡◌, ◌⊎◌, inl, inr, ⊎_elim, ℕ, pos, ◌+◌, ◌-◌, ◌*◌, ◌/◌, ◌%◌, ◌<◌, ◌≤◌, List, [], ◌++◌, length, map, drop, refl, sym, ◌∙◌, ap, subst, arith, Bool, true, false, nat_lt, Some, replicate, length-append}
 use Rattle.std.specs.List.{flat_map}
 use Rattle.std.proofs.lemmas.Bool.{cases_lt, cases_eq, true≢false, cond-true, cond-false, lt-ltb, le-ltb, eq-eqb, ne_eqb}
 use Rattle.std.proofs.lemmas.List.{length-map, length-replicate}
-use Rattle.bfs_disk.specs.State.{State, IsImage, Filled, written, settled}
-use Rattle.bfs_disk.specs.Disk.{MayLeave}
+use Rattle.bfs_disk.specs.State.{State, IsImage, Filled}
 use Rattle.bfs_disk.specs.Blocks.{Known, contents_of}
 use Rattle.bfs_disk.proofs.Joined.{contents_read}
 use Rattle.bfs_disk.proofs.Known.{known_less}
@@ -17,19 +16,19 @@ use Rattle.bfs_super.specs.Geometry.{geometry_of}
 use Rattle.bfs_log.specs.Entry.{entry_bytes, run_at_block}
 use Rattle.bfs_log.specs.Replay.{Home, over, log_from, log_to}
 use Rattle.bfs_log.proofs.Printed.{length-runs}
-use Rattle.bfs_txn.specs.Changed.{number_at, bytes_at}
+use Rattle.bfs_txn.specs.Changed.{bytes_at}
 use Rattle.bfs_txn.specs.declared.group.Group.{Group}
 use Rattle.bfs_device.specs.declared.journal.Phase.{Phase}
 use Rattle.bfs_device.specs.declared.journal.Phase.TheVariants.{Log, LogSafe, Open, OpenSafe, Home as GoHome, HomeSafe, Tail, TailSafe, Pass}
-use Rattle.bfs_device.specs.Layouts.{Layout, IsData, layout_of, slot, homes_in, ring_count, named_in, log_block, opened_of, closed_of}
+use Rattle.bfs_device.specs.Layouts.{Layout, IsData, layout_of, homes_in, ring_count, named_in, log_block}
 use Rattle.bfs_device.specs.Versions.{RecoversTo}
-use Rattle.bfs_device.specs.Calls.{Call, Write, Barrier, state_after, touched_after, LeftDuring}
+use Rattle.bfs_device.specs.Calls.{state_after, touched_after, LeftDuring}
 use Rattle.bfs_device.specs.Phases.{IsHomeOf, none, Keeps, Plain, Rests, Stands, Follows, Logging, Homing}
 use Rattle.bfs_device.specs.Books.{IsSealed, IsPhaseOf, is_durable}
-use Rattle.bfs_device.specs.Steps.{call_of, AreRead, next_phase}
+use Rattle.bfs_device.specs.Steps.{call_of, PrintsBack, next_phase}
 use Rattle.bfs_device.proofs.Homes.{over_in, over_same, over_again, home_drop}
 use Rattle.bfs_device.proofs.Entries.{length-part_low}
-use Rattle.bfs_device.proofs.Sizes.{good, sizes, fits_sectors}
+use Rattle.bfs_device.proofs.Sizes.{sizes, fits_sectors}
 use Rattle.bfs_device.proofs.Going as going
 
 -- an array block has a block's length
@@ -71,7 +70,7 @@ module _ (s : Super) (g : Group) (valid : IsValid s) (sealed : IsSealed (layout_
   long_home i lt = sealed.sized i lt ∙ (sizes s valid).0
 
   -- what stands behind the call of a phase
-  pub follows : (v : ℕ → List ℕ) (t : ℕ → Bool) (st : State) (p : Phase) → IsPhaseOf g.blocks p → AreRead s g p → Stands s g v t st p
+  pub follows : (v : ℕ → List ℕ) (t : ℕ → Bool) (st : State) (p : Phase) → IsPhaseOf g.blocks p → PrintsBack s g p → Stands s g v t st p
       → Follows s g v (touched_after (call_of s g p) t) (state_after (call_of s g p) st) p
   follows v t st (Log i) fits read known = going.log_step s g v t valid sealed empty st i (long_block i fits) fits known
   follows v t st LogSafe fits read known = going.log_barrier s g v t valid sealed empty st known
@@ -107,7 +106,7 @@ module _ (s : Super) (g : Group) (valid : IsValid s) (sealed : IsSealed (layout_
     stands_image TailSafe fits known is = going.moved_image s g v t valid sealed empty st sized image is (some_ring fits) known
     stands_image Pass fits known is = going.rest_image s g v t valid sealed empty st sized image is known
 
-    pub during_image : (p : Phase) → IsPhaseOf g.blocks p → AreRead s g p → Stands s g v t st p → LeftDuring (call_of s g p) (Some st) image → MayRecover v t image p
+    pub during_image : (p : Phase) → IsPhaseOf g.blocks p → PrintsBack s g p → Stands s g v t st p → LeftDuring (call_of s g p) (Some st) image → MayRecover v t image p
     during_image (Log i) fits read known is = going.logging_image s g v t valid sealed empty (state_after (call_of s g (Log i)) st) sized image is (i + 1) (follows v t st (Log i) fits read known)
     during_image LogSafe fits read known is = stands_image LogSafe fits known is
     during_image Open fits read known is = going.opened_image s g v t valid sealed empty (state_after (call_of s g Open) st) sized image is (some_ring fits) (follows v t st Open fits read known)

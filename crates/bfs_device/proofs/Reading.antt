@@ -1,6 +1,6 @@
 -- Blocks that are read, and one that is written.
-use Rattle.std.proofs.Common.{◌≡◌, ◌≢◌, ◌⊎◌, inl, inr, ⊎_elim, ℕ, zero, suc, ◌+◌, ◌-◌, ◌*◌, ◌/◌, ◌<◌, ◌≤◌, ◌==◌, ◌||◌, List, [], ◌∷◌, ◌++◌, length, drop, get_or, refl, sym, ◌∙◌, ap, subst, arith, Bool, true, false, cond, nat_le, Option, Some, None, IfSome, Result, OnOk, OnErr, drop-cons, length-drop}
-use Rattle.std.proofs.lemmas.Bool.{cases_eq, cond-true, cond-false, eq-eqb, ne_eqb, le-leb, true≢false}
+use Rattle.std.proofs.Common.{◌≡◌, ◌≢◌, inl, inr, ⊎_elim, ℕ, ◌+◌, ◌-◌, ◌*◌, ◌/◌, ◌<◌, ◌≤◌, ◌==◌, ◌||◌, List, [], ◌∷◌, ◌++◌, length, drop, get_or, refl, sym, ◌∙◌, ap, subst, arith, Bool, true, false, cond, nat_le, Option, Some, None, IfSome, Result, length-drop}
+use Rattle.std.proofs.lemmas.Bool.{cond-true, eq-eqb, le-leb, true≢false}
 use Rattle.std.proofs.lemmas.List.{length-take-le}
 use Rattle.bfs_base.specs.Images.{sector, joined}
 use Rattle.bfs_base.specs.Moments.{Elapses, Passed}
@@ -13,10 +13,9 @@ use Rattle.bfs_disk.proofs.Names.{names_inside}
 use Rattle.bfs_disk.proofs.Joined.{contents_read, read_once}
 use Rattle.bfs_disk.proofs.Known.{known_block_written}
 use Rattle.bfs_disk.proofs.Calls.{half_image}
-use Rattle.bfs_disk.specs.StateLaws.{filled_written}
 use Rattle.bfs_super.specs.declared.sup.Super.{Super}
 use Rattle.bfs_super.specs.Conditions.{natural, IsValid}
-use Rattle.bfs_log.specs.Replay.{Home, over, put, log_from, log_to}
+use Rattle.bfs_log.specs.Replay.{Home, over, put, log_from}
 use Rattle.bfs_txn.specs.Changed.{or_else, newest}
 use Rattle.bfs_txn.specs.Laws.{newest_sized}
 use Rattle.bfs_txn.specs.declared.group.Group.{Group}
@@ -25,16 +24,16 @@ use Rattle.bfs_device.specs.declared.journal.Phase.TheVariants.{Log, LogSafe, Op
 use Rattle.bfs_device.specs.declared.journal.Stop.{Stop}
 use Rattle.bfs_device.specs.Layouts.{Layout, IsData, layout_of, homes_in, ring_count, log_block, slot}
 use Rattle.bfs_device.specs.Versions.{upto}
-use Rattle.bfs_device.specs.Phases.{IsHomeOf, none, Keeps, Plain, Rests, Stands, Either, Gate, Says}
-use Rattle.bfs_device.specs.Books.{Books, Follow, IsPhaseOf, IsSealed, IsOnDisk, IsRight, IsRightAs, RecoversOne, IsVersion, version, sealed_of, last_in}
+use Rattle.bfs_device.specs.Phases.{IsHomeOf, none, Keeps, Plain, Rests, Stands}
+use Rattle.bfs_device.specs.Books.{Books, Follow, IsPhaseOf, IsSealed, IsOnDisk, IsRight, IsRightAs, RecoversOne, version, sealed_of, last_in}
 use Rattle.bfs_device.specs.Data.{newest_in, AreRead, touching, AreSameBut, AllAscend}
 use Rattle.bfs_device.specs.Steps.{halted}
-use Rattle.bfs_device.proofs.Homes.{over_same, over_out, over_joined, put_here, put_other, home_of}
+use Rattle.bfs_device.proofs.Homes.{over_same, over_out, over_joined, home_of}
 use Rattle.bfs_device.proofs.Sizes.{good, sizes, fits_sectors, from_low}
 use Rattle.bfs_device.proofs.Going.{slot_inside, log_not_data}
 use Rattle.bfs_device.proofs.Failing.{block_others, half_others, written_others}
 use Rattle.bfs_device.proofs.Right.{to_version}
-use Rattle.bfs_device.proofs.Sealing.{upto_all, last_behind}
+use Rattle.bfs_device.proofs.Sealing.{last_behind}
 use Rattle.bfs_device.proofs.Stepping.{Known, on_state, filled_state, standing_of, now_as, now_right, again_one}
 
 -- what was read is what the disk reads

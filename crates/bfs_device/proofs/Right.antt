@@ -1,10 +1,9 @@
 -- A device stays right over its calls.
-use Rattle.std.proofs.Common.{◌≡◌, ◌≢◌, ◌⊎◌, inl, inr, ⊎_elim, ℕ, zero, suc, ◌+◌, ◌*◌, ◌<◌, ◌≤◌, List, [], ◌∷◌, ◌++◌, length, refl, sym, ◌∙◌, ap, subst, arith, Bool, true, false, cond, nat_le, Option, Some, None}
-use Rattle.std.proofs.lemmas.Bool.{cond-true, cond-false, le-leb, lt-leb, true≢false}
+use Rattle.std.proofs.Common.{◌≡◌, ◌⊎◌, inl, inr, ⊎_elim, ℕ, ◌*◌, ◌<◌, ◌≤◌, List, [], ◌∷◌, ◌++◌, refl, sym, ◌∙◌, ap, subst, arith, Bool, true, false, cond, nat_le, Some}
+use Rattle.std.proofs.lemmas.Bool.{cond-true, cond-false, le-leb, lt-leb}
 use Rattle.std.proofs.lemmas.List.{append-nil}
-use Rattle.bfs_disk.specs.State.{State, IsImage, Filled, Tells}
+use Rattle.bfs_disk.specs.State.{State, IsImage, Filled}
 use Rattle.bfs_disk.specs.Blocks.{contents_of}
-use Rattle.bfs_disk.specs.Disk.{MayLeave}
 use Rattle.bfs_super.specs.declared.sup.Super.{Super}
 use Rattle.bfs_super.specs.declared.geometry.Geometry.{Geometry}
 use Rattle.bfs_super.specs.Conditions.{natural, IsValid}
@@ -13,13 +12,12 @@ use Rattle.bfs_log.specs.Replay.{Home, over, log_from, log_to}
 use Rattle.bfs_txn.specs.declared.group.Group.{Group}
 use Rattle.bfs_device.specs.declared.journal.Phase.{Phase}
 use Rattle.bfs_device.specs.declared.journal.Phase.TheVariants.{Log, LogSafe, Open, OpenSafe, Home as GoHome, HomeSafe, Tail, TailSafe, Pass}
-use Rattle.bfs_device.specs.declared.journal.Stop.{Stop}
-use Rattle.bfs_device.specs.Layouts.{Layout, IsData, layout_of, homes_in, ring_count, closed_of}
+use Rattle.bfs_device.specs.Layouts.{Layout, IsData, layout_of, homes_in, closed_of}
 use Rattle.bfs_device.specs.Versions.{RecoversTo, upto, used_upto}
 use Rattle.bfs_device.specs.Calls.{Call, Write, Barrier, state_after, touched_after, LeftDuring}
-use Rattle.bfs_device.specs.Phases.{Rests, Stands, Follows}
-use Rattle.bfs_device.specs.Books.{Books, IsSealed, IsNext, Follow, IsPhaseOf, IsPhaseFor, IsLastOf, IsVersion, RecoversOne, Standing, waiting, is_durable, durable_in, version, used_of}
-use Rattle.bfs_device.specs.Steps.{call_of, AreRead, next_phase, front_phase, first_phase, after_phase}
+use Rattle.bfs_device.specs.Phases.{Rests, Stands}
+use Rattle.bfs_device.specs.Books.{Books, Follow, IsPhaseOf, IsLastOf, IsVersion, RecoversOne, Standing, is_durable, durable_in, version, used_of}
+use Rattle.bfs_device.specs.Steps.{call_of, PrintsBack, next_phase, front_phase, first_phase, after_phase}
 use Rattle.bfs_device.proofs.Homes.{over_same, over_joined}
 use Rattle.bfs_device.proofs.Going as going
 use Rattle.bfs_device.proofs.Phasing.{follows, MayRecover, stands_image, during_image, next_stands, stands_agrees, stands_read, rests_read, reads_plain, Agrees}
@@ -163,14 +161,14 @@ module _ (b : Books) (g : Group) (gs : List Group) (valid : IsValid b.sup) (empt
   standing_one t st p fits sized known image is = one_of (reading st) t st image p (same_reading t st (is_durable p)) (stands_image b.sup g valid follow.0.sealed empty (reading st) t st sized image p fits known is)
 
   -- and its call
-  pub during_one : (t : ℕ → Bool) (st : State) (p : Phase) → IsPhaseOf g.blocks p → AreRead b.sup g p → (layout_of b.sup).sectors * (layout_of b.sup).blocks ≤ st.size → Stands b.sup g (reading st) t st p
+  pub during_one : (t : ℕ → Bool) (st : State) (p : Phase) → IsPhaseOf g.blocks p → PrintsBack b.sup g p → (layout_of b.sup).sectors * (layout_of b.sup).blocks ≤ st.size → Stands b.sup g (reading st) t st p
       → (image : List ℕ) → LeftDuring (call_of b.sup g p) (Some st) image → RecoversOne (at p) t st image
   during_one t st p fits read sized known image is = one_of (reading st) t st image p (same_reading t st (is_durable p)) (during_image b.sup g valid follow.0.sealed empty (reading st) t st sized image p fits read known is)
 
   -- ---- after the call has succeeded
 
   module _ (t : ℕ → Bool) (st : State) (sized : (layout_of b.sup).sectors * (layout_of b.sup).blocks ≤ st.size) where
-    goes : (p : Phase) → (p ≡ TailSafe → ⊥) → (p ≡ Pass → ⊥) → IsPhaseOf g.blocks p → AreRead b.sup g p → Filled (state_after (call_of b.sup g p) st) → Stands b.sup g (reading st) t st p
+    goes : (p : Phase) → (p ≡ TailSafe → ⊥) → (p ≡ Pass → ⊥) → IsPhaseOf g.blocks p → PrintsBack b.sup g p → Filled (state_after (call_of b.sup g p) st) → Stands b.sup g (reading st) t st p
         → Stands b.sup g (reading (state_after (call_of b.sup g p) st)) (touched_after (call_of b.sup g p) t) (state_after (call_of b.sup g p) st) (next_phase g p)
     goes p not_tail not_pass fits read filled known =
         stands_read b.sup (state_after (call_of b.sup g p) st) filled valid (omega (arith, size_after (call_of b.sup g p) st, sized)) g (reading st) (touched_after (call_of b.sup g p) t) (next_phase g p)
@@ -181,7 +179,7 @@ module _ (b : Books) (g : Group) (gs : List Group) (valid : IsValid b.sup) (empt
     IsRightAfter p = Standing (after_phase g gs (at p) p).sup (after_phase g gs (at p) p).groups (after_phase g gs (at p) p).phase
         (contents_of (state_after (call_of b.sup g p) st) (layout_of (after_phase g gs (at p) p).sup).sectors) (touched_after (call_of b.sup g p) t) (state_after (call_of b.sup g p) st)
 
-    pub right_after : (p : Phase) → IsPhaseOf g.blocks p → AreRead b.sup g p → Filled (state_after (call_of b.sup g p) st) → Stands b.sup g (reading st) t st p → IsRightAfter p
+    pub right_after : (p : Phase) → IsPhaseOf g.blocks p → PrintsBack b.sup g p → Filled (state_after (call_of b.sup g p) st) → Stands b.sup g (reading st) t st p → IsRightAfter p
     right_after (Log i) fits read filled known = goes (Log i) (λ e. absurd (cc)) (λ e. absurd (cc)) fits read filled known
     right_after LogSafe fits read filled known = goes LogSafe (λ e. absurd (cc)) (λ e. absurd (cc)) fits read filled known
     right_after Open fits read filled known = goes Open (λ e. absurd (cc)) (λ e. absurd (cc)) fits read filled known
@@ -216,7 +214,7 @@ module _ (b : Books) (g : Group) (gs : List Group) (valid : IsValid b.sup) (empt
         (λ one. let lt = last_above (layout_of b.sup) b.sup.block_size g.last g.used n gs follow.1 (subst (IsLastOf n) (cond-true (is_durable p) gs (g ∷ gs) durable) one) in omega (arith, lt))
         is
 
-    goes_kept : (p : Phase) → (p ≡ TailSafe → ⊥) → (p ≡ Pass → ⊥) → IsPhaseOf g.blocks p → AreRead b.sup g p → Filled (state_after (call_of b.sup g p) st) → Stands b.sup g (reading st) t st p
+    goes_kept : (p : Phase) → (p ≡ TailSafe → ⊥) → (p ≡ Pass → ⊥) → IsPhaseOf g.blocks p → PrintsBack b.sup g p → Filled (state_after (call_of b.sup g p) st) → Stands b.sup g (reading st) t st p
         → (n : ℕ) → IsVersion (at (next_phase g p)) n → (k : ℕ) → IsData (layout_of b.sup) k
         → over (upto n (g ∷ gs)) (reading (state_after (call_of b.sup g p) st)) k ≡ over (upto n (g ∷ gs)) (reading st) k
     goes_kept p not_tail not_pass fits read filled known n is k is_data =
@@ -230,7 +228,7 @@ module _ (b : Books) (g : Group) (gs : List Group) (valid : IsValid b.sup) (empt
     AreKept p = (n : ℕ) → IsVersion (after_phase g gs (at p) p) n → (k : ℕ) → IsData (layout_of b.sup) k
         → version (after_phase g gs (at p) p) (state_after (call_of b.sup g p) st) n k ≡ version (at p) st n k
 
-    tail_kept : IsPhaseOf g.blocks TailSafe → AreRead b.sup g TailSafe → Filled (state_after (call_of b.sup g TailSafe) st) → Stands b.sup g (reading st) t st TailSafe → AreKept TailSafe
+    tail_kept : IsPhaseOf g.blocks TailSafe → PrintsBack b.sup g TailSafe → Filled (state_after (call_of b.sup g TailSafe) st) → Stands b.sup g (reading st) t st TailSafe → AreKept TailSafe
     tail_kept fits read filled known n is k is_data =
         let s : Super = closed_of b.sup g in
         let st' : State = state_after (call_of b.sup g TailSafe) st in
@@ -247,7 +245,7 @@ module _ (b : Books) (g : Group) (gs : List Group) (valid : IsValid b.sup) (empt
     either_none true = refl
     either_none false = refl
 
-    pass_kept : IsPhaseOf g.blocks Pass → AreRead b.sup g Pass → Filled (state_after (call_of b.sup g Pass) st) → Stands b.sup g (reading st) t st Pass → AreKept Pass
+    pass_kept : IsPhaseOf g.blocks Pass → PrintsBack b.sup g Pass → Filled (state_after (call_of b.sup g Pass) st) → Stands b.sup g (reading st) t st Pass → AreKept Pass
     pass_kept fits read filled known n is k is_data =
         let st' : State = state_after (call_of b.sup g Pass) st in
         let rests = follows b.sup g valid follow.0.sealed empty (reading st) t st Pass fits read known in
@@ -255,7 +253,7 @@ module _ (b : Books) (g : Group) (gs : List Group) (valid : IsValid b.sup) (empt
         over_same (upto n gs) (reading st') (reading st) k (reads_plain b.sup st' filled valid sized (reading st) rests k is_data)
         ∙ ap (λ (hs : List Home). over hs (reading st) k) same
 
-    pub versions_after : (p : Phase) → IsPhaseOf g.blocks p → AreRead b.sup g p → Filled (state_after (call_of b.sup g p) st) → Stands b.sup g (reading st) t st p → AreKept p
+    pub versions_after : (p : Phase) → IsPhaseOf g.blocks p → PrintsBack b.sup g p → Filled (state_after (call_of b.sup g p) st) → Stands b.sup g (reading st) t st p → AreKept p
     versions_after (Log i) fits read filled known = goes_kept (Log i) (λ e. absurd (cc)) (λ e. absurd (cc)) fits read filled known
     versions_after LogSafe fits read filled known = goes_kept LogSafe (λ e. absurd (cc)) (λ e. absurd (cc)) fits read filled known
     versions_after Open fits read filled known = goes_kept Open (λ e. absurd (cc)) (λ e. absurd (cc)) fits read filled known

@@ -1,23 +1,22 @@
 -- A group behind the others.
-use Rattle.std.proofs.Common.{◌≡◌, ◌⊎◌, inl, inr, ⊎_elim, ℕ, zero, suc, ◌+◌, ◌-◌, ◌*◌, ◌<◌, ◌≤◌, List, [], ◌∷◌, ◌++◌, length, refl, sym, ◌∙◌, ap, subst, arith, Bool, true, false, cond, nat_le, Option, Some, None, append_assoc, length-append}
+use Rattle.std.proofs.Common.{◌≡◌, inl, inr, ⊎_elim, ℕ, ◌+◌, ◌-◌, ◌*◌, ◌<◌, ◌≤◌, List, [], ◌∷◌, ◌++◌, length, refl, sym, ◌∙◌, ap, subst, arith, Bool, true, false, cond, nat_le, Option, Some, None, append_assoc, length-append}
 use Rattle.std.specs.Vec.{vec_capacity}
 use Rattle.std.proofs.lemmas.Bool.{cond-true, cond-false, le-leb, lt-leb}
 use Rattle.std.proofs.lemmas.List.{append-nil}
-use Rattle.bfs_disk.specs.State.{State, IsImage, Filled, Holds}
-use Rattle.bfs_disk.specs.Blocks.{Known as Seen, contents_of}
+use Rattle.bfs_disk.specs.State.{State, Filled, Holds}
+use Rattle.bfs_disk.specs.Blocks.{contents_of}
 use Rattle.bfs_disk.proofs.Joined.{known_quiet, contents_read}
 use Rattle.bfs_disk.proofs.Known.{known_less}
-use Rattle.bfs_base.specs.Images.{sector, block}
+use Rattle.bfs_base.specs.Images.{block}
 use Rattle.bfs_super.specs.declared.sup.Super.{Super}
 use Rattle.bfs_super.specs.Conditions.{natural, IsValid}
 use Rattle.bfs_super.specs.Layout.{super_at}
-use Rattle.bfs_log.specs.Replay.{Home, over, log_from, log_to, super_of}
+use Rattle.bfs_log.specs.Replay.{Home, over, super_of}
 use Rattle.bfs_txn.specs.declared.group.Group.{Group}
 use Rattle.bfs_device.specs.declared.journal.Journal.{Journal}
 use Rattle.bfs_device.specs.declared.journal.Phase.{Phase}
-use Rattle.bfs_device.specs.declared.journal.Phase.TheVariants.{Log, Pass}
 use Rattle.bfs_device.specs.declared.journal.Stop.{Stop}
-use Rattle.bfs_device.specs.Layouts.{Layout, IsData, layout_of, homes_in, ring_count}
+use Rattle.bfs_device.specs.Layouts.{Layout, IsData, layout_of, homes_in}
 use Rattle.bfs_device.specs.Versions.{upto, used_upto}
 use Rattle.bfs_device.specs.Phases.{none, Plain, Rests, Stands}
 use Rattle.bfs_device.specs.Books.{Books, Ready, Follow, IsNext, IsPhaseOf, IsPhaseFor, IsLastOf, IsVersion, IsRight, IsRightAs, RecoversOne, waiting, is_durable, durable_in, last_in, sealed_of, version, used_of}
@@ -26,7 +25,7 @@ use Rattle.bfs_device.specs.Seals.{used_behind, last_used, phase_with, sealed_wi
 use Rattle.bfs_device.proofs.Homes.{over_joined}
 use Rattle.bfs_device.proofs.Sizes.{good, fits_sectors}
 use Rattle.bfs_device.proofs.Going as going
-use Rattle.bfs_device.proofs.Right.{upto_low, used_low, to_version}
+use Rattle.bfs_device.proofs.Right.{to_version}
 use Rattle.bfs_device.proofs.Stepping.{Known}
 
 first_fits : (ps : List (ℕ × List ℕ)) → IsPhaseOf ps (first_phase ps)

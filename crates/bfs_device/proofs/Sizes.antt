@@ -1,14 +1,14 @@
 -- The sizes of a volume that is valid.
-use Rattle.std.proofs.Common.{◌≡◌, ⊎_elim, ℕ, ℤ, pos, negsuc, ◌+◌, ◌-◌, ◌*◌, ◌/◌, ◌^◌, ◌<◌, ◌≤◌, ◌<ℤ◌, ◌≤ℤ◌, List, length, Option, Some, None, refl, sym, ◌∙◌, ap, subst, arith}
+use Rattle.std.proofs.Common.{◌≡◌, ⊎_elim, ℕ, ℤ, pos, negsuc, ◌+◌, ◌*◌, ◌/◌, ◌^◌, ◌<◌, ◌≤◌, ◌<ℤ◌, ◌≤ℤ◌, List, length, Option, Some, None, refl, sym, ◌∙◌, ap, subst, arith}
 use Rattle.std.proofs.lemmas.Int.{ints}
 use Rattle.std.proofs.lemmas.Bool.{cases_eq}
 use Rattle.std.proofs.Math.Nat.{mul-le-mul_left}
 use Rattle.bfs_super.specs.declared.sup.Super.{Super}
-use Rattle.bfs_super.specs.Conditions.{natural, IsValid, InLog}
+use Rattle.bfs_super.specs.Conditions.{natural, IsValid}
 use Rattle.bfs_log.specs.Replay.{log_from, log_to}
 use Rattle.bfs_log.proofs.Bounds.{power_low}
 use Rattle.bfs_disk.specs.Disk.{InRange}
-use Rattle.bfs_device.specs.Layouts.{Layout, IsGood, layout_of}
+use Rattle.bfs_device.specs.Layouts.{IsGood, layout_of}
 use Rattle.bfs_device.specs.Calls.{HasTwo}
 use Rattle.bfs_device.specs.Books.{IsOnDisk}
 

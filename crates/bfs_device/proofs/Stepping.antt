@@ -1,11 +1,9 @@
 -- A step keeps a device right, at Ok and after a fault.
-use Rattle.std.proofs.Common.{◌≡◌, ◌⊎◌, inl, inr, ⊎_elim, ℕ, zero, suc, ◌+◌, ◌*◌, ◌<◌, ◌≤◌, List, [], ◌∷◌, length, refl, sym, ◌∙◌, ap, subst, arith, Bool, true, false, Option, Some, None, IfSome, Result}
-use Rattle.std.specs.Option.{option_map}
+use Rattle.std.proofs.Common.{◌≡◌, ℕ, ◌*◌, ◌<◌, ◌≤◌, List, [], ◌∷◌, length, refl, sym, ◌∙◌, ap, subst, arith, Bool, true, false, Option, Some, None, IfSome, Result}
 use Rattle.bfs_base.specs.Moments.{Elapses, Passed}
-use Rattle.bfs_base.proofs.Moments.{passed_one, passed_none}
-use Rattle.bfs_disk.specs.State.{State, IsImage, Filled, Tells, written, settled}
-use Rattle.bfs_disk.specs.Disk.{MayLeave, told_written}
-use Rattle.bfs_disk.specs.Blocks.{contents_of}
+use Rattle.bfs_base.proofs.Moments.{passed_one}
+use Rattle.bfs_disk.specs.State.{State, IsImage, Filled, Tells}
+use Rattle.bfs_disk.specs.Disk.{MayLeave}
 use Rattle.bfs_super.specs.declared.sup.Super.{Super}
 use Rattle.bfs_super.specs.Conditions.{natural, IsValid}
 use Rattle.bfs_log.specs.Replay.{log_from, log_to}
@@ -14,14 +12,13 @@ use Rattle.bfs_device.specs.declared.journal.Phase.{Phase}
 use Rattle.bfs_device.specs.declared.journal.Phase.TheVariants.{Log, LogSafe, Open, OpenSafe, Home as GoHome, HomeSafe, Tail, TailSafe, Pass}
 use Rattle.bfs_device.specs.declared.journal.Stop.{Stop}
 use Rattle.bfs_device.specs.Layouts.{Layout, IsData, layout_of}
-use Rattle.bfs_device.specs.Calls.{Call, Write, Barrier, told_after, state_after, IsFailed, LeftDuring}
-use Rattle.bfs_device.specs.Phases.{none, Rests}
+use Rattle.bfs_device.specs.Calls.{Call, Write, Barrier, told_after, state_after, IsFailed}
+use Rattle.bfs_device.specs.Phases.{none}
 use Rattle.bfs_device.specs.declared.journal.Journal.{Journal}
-use Rattle.bfs_device.specs.Books.{Books, Ready, books_of, Follow, IsPhaseFor, IsOnDisk, IsRight, IsRightAs, RecoversOne, AreSame, IsVersion, is_durable, version}
+use Rattle.bfs_device.specs.Books.{Books, Ready, books_of, Follow, IsPhaseFor, IsOnDisk, IsRight, IsRightAs, RecoversOne, AreSame, is_durable}
 use Rattle.bfs_device.specs.Steps.{call_of, after_phase, told_front, FailedFront, LeftFront, ReadFront, still_touched, halted, stepped}
 use Rattle.bfs_device.proofs.Phasing.{Agrees}
-use Rattle.bfs_device.proofs.Going as going
-use Rattle.bfs_device.proofs.Right.{at, reading, right_after, versions_after, during_one, standing_one, kept_by, later_one, Reading, size_after, to_version, rest_one}
+use Rattle.bfs_device.proofs.Right.{at, reading, right_after, versions_after, during_one, standing_one, kept_by, later_one, Reading, rest_one}
 use Rattle.bfs_device.proofs.Failing.{failed_reading, failed_one}
 
 -- what a device knows of its books

@@ -1,16 +1,14 @@
 -- What a step tells of its call, its marks and the calls left.
-use Rattle.std.proofs.Common.{◌≡◌, ◌⊎◌, inl, inr, ⊎_elim, ℕ, zero, suc, ◌+◌, ◌-◌, ◌*◌, ◌<◌, ◌≤◌, List, [], ◌∷◌, ◌++◌, length, refl, sym, ◌∙◌, ap, subst, arith, Bool, true, false, cond, nat_lt, Option, Some, None}
+use Rattle.std.proofs.Common.{◌≡◌, ⊎_elim, ℕ, ◌+◌, ◌<◌, List, [], ◌∷◌, length, refl, ap, arith, Bool, true, false, cond, nat_lt, Option}
 use Rattle.std.proofs.lemmas.Bool.{cases_lt, cond-true, cond-false, lt-ltb, le-ltb}
 use Rattle.bfs_disk.specs.State.{State}
-use Rattle.bfs_super.specs.declared.sup.Super.{Super}
-use Rattle.bfs_super.specs.Conditions.{natural, IsValid}
-use Rattle.bfs_log.specs.Replay.{log_from, log_to}
+use Rattle.bfs_log.specs.Replay.{log_from}
 use Rattle.bfs_txn.specs.declared.group.Group.{Group}
 use Rattle.bfs_device.specs.declared.journal.Phase.{Phase}
 use Rattle.bfs_device.specs.declared.journal.Phase.TheVariants.{Log, LogSafe, Open, OpenSafe, Home as GoHome, HomeSafe, Tail, TailSafe, Pass}
-use Rattle.bfs_device.specs.Layouts.{Layout, layout_of, slot, ring_count}
-use Rattle.bfs_device.specs.Books.{Books, Follow, IsPhaseOf, IsPhaseFor, durable_of, is_durable}
-use Rattle.bfs_device.specs.Steps.{call_of, AreRead, ReadFront, told_front, stepped, after_phase, next_phase, front_phase, first_phase, progress_to, progress_in, calls_left, calls_in, calls_from, calls_of, counted as counted_to}
+use Rattle.bfs_device.specs.Layouts.{layout_of, slot, ring_count}
+use Rattle.bfs_device.specs.Books.{Books, IsPhaseOf, is_durable}
+use Rattle.bfs_device.specs.Steps.{PrintsBack, ReadFront, told_front, stepped, after_phase, next_phase, front_phase, progress_to, progress_in, calls_left, calls_in, calls_from, calls_of, counted as counted_to}
 use Rattle.bfs_device.specs.Told.{HasCalled, HasMarked, HasCounted}
 use Rattle.bfs_device.proofs.Sizes.{from_low}
 use Rattle.bfs_device.proofs.Going.{slot_inside}
@@ -19,7 +17,7 @@ use Rattle.bfs_device.proofs.Right.{front_not_durable}
 use Rattle.bfs_device.proofs.Stepping.{Known}
 
 module _ (b : Books) (g : Group) (gs : List Group) (know : (let c : Books = record b { groups = g ∷ gs } in Known c)) where
-  called_in : (p : Phase) → IsPhaseOf g.blocks p → AreRead b.sup g p → (old new : Option State) → new ≡ told_front b.sup (g ∷ gs) p old → HasCalled (layout_of b.sup) old new (progress_in g p)
+  called_in : (p : Phase) → IsPhaseOf g.blocks p → PrintsBack b.sup g p → (old new : Option State) → new ≡ told_front b.sup (g ∷ gs) p old → HasCalled (layout_of b.sup) old new (progress_in g p)
   called_in (Log i) fits read old new is =
       let inside = slot_inside (layout_of b.sup) (log_from b.sup) i (from_low b.sup know.valid) (omega (arith, fits, know.follow.0.sealed.room)) in
       (slot (layout_of b.sup) (log_from b.sup) i, _, inside.0, inside.1, long_block b.sup g know.valid know.follow.0.sealed know.empty i fits, is)

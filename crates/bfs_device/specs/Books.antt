@@ -1,5 +1,5 @@
 -- What a device keeps beside its disk, and what is true of it.
-use Rattle.std.specs.Prelude.{◌≡◌, ◌⊎◌, ◌<◌, ◌≤◌, ℕ, ◌+◌, ◌-◌, ◌*◌, List, [], ◌∷◌, length, Bool, true, false, Option, Some, None, nat_le, if◌then◌else◌, Vec}
+use Rattle.std.specs.Prelude.{◌≡◌, ◌⊎◌, ◌<◌, ◌≤◌, ℕ, ◌+◌, ◌*◌, List, [], ◌∷◌, length, Bool, true, false, Option, Some, None, if◌then◌else◌}
 use Rattle.std.specs.Vec.{vec_capacity}
 use Rattle.bfs_disk.specs.State.{State, IsImage}
 use Rattle.bfs_disk.specs.Blocks.{contents_of}

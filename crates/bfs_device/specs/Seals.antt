@@ -1,5 +1,5 @@
 -- The books of a device that was adopted, made room, or took a group.
-use Rattle.std.specs.Prelude.{◌≡◌, ℕ, ◌+◌, ◌-◌, ◌*◌, max, List, [], ◌∷◌, ◌++◌, length, None}
+use Rattle.std.specs.Prelude.{ℕ, ◌+◌, ◌-◌, ◌*◌, max, List, [], ◌∷◌, ◌++◌, None}
 use Rattle.bfs_super.specs.declared.sup.Super.{Super}
 use Rattle.bfs_super.specs.Conditions.{natural, ceil}
 use Rattle.bfs_txn.specs.declared.group.Group.{Group}

@@ -1,5 +1,5 @@
 -- What a step of a device does.
-use Rattle.std.specs.Prelude.{◌≡◌, ◌⊎◌, IsSome, ◌<◌, ◌≤◌, ℕ, ◌+◌, ◌-◌, ◌*◌, ◌^◌, min, List, [], ◌∷◌, ◌++◌, length, Bool, true, false, Option, Some, None, nat_lt, if◌then◌else◌}
+use Rattle.std.specs.Prelude.{◌≡◌, ◌⊎◌, IsSome, ◌≤◌, ℕ, ◌+◌, ◌-◌, ◌*◌, ◌^◌, min, List, [], ◌∷◌, ◌++◌, length, Bool, true, Option, Some, None, nat_lt, if◌then◌else◌}
 use Rattle.bfs_base.specs.Counts.{Rose}
 use Rattle.bfs_base.specs.Images.{IsBytes}
 use Rattle.bfs_super.specs.declared.sup.Super.{Super}
@@ -32,22 +32,23 @@ call_of s g Tail = Write 1 (sector_of (closed_of s g))
 call_of s g TailSafe = Barrier
 call_of s g Pass = Barrier
 
--- the superblock that a phase writes reads as it was meant, and its sector is bytes
+-- a superblock's sector reads as that superblock again, and has 512 bytes
 abbrev pub ReadsBack : Super → Type 0
 ReadsBack s = (super_at (sector_of s) ≡ s) × IsBytes (sector_of s) × (length (sector_of s) ≡ 512)
 
-abbrev pub AreRead : Super → Group → Phase → Type 0
-AreRead s g (Log at) = Unit {0}
-AreRead s g LogSafe = Unit {0}
-AreRead s g Open = ReadsBack (opened_of s g)
-AreRead s g OpenSafe = Unit {0}
-AreRead s g (GoHome at) = Unit {0}
-AreRead s g HomeSafe = Unit {0}
-AreRead s g Tail = ReadsBack (closed_of s g)
-AreRead s g TailSafe = Unit {0}
-AreRead s g Pass = Unit {0}
+-- and so does the one that the call of this phase writes, where it writes one
+abbrev pub PrintsBack : Super → Group → Phase → Type 0
+PrintsBack s g (Log at) = Unit {0}
+PrintsBack s g LogSafe = Unit {0}
+PrintsBack s g Open = ReadsBack (opened_of s g)
+PrintsBack s g OpenSafe = Unit {0}
+PrintsBack s g (GoHome at) = Unit {0}
+PrintsBack s g HomeSafe = Unit {0}
+PrintsBack s g Tail = ReadsBack (closed_of s g)
+PrintsBack s g TailSafe = Unit {0}
+PrintsBack s g Pass = Unit {0}
 
--- and what it is told as
+-- what the call of a phase is told as
 abbrev pub progress_in : Group → Phase → Progress
 progress_in g (Log at) = made.Logged
 progress_in g LogSafe = made.LogSafe
@@ -142,7 +143,7 @@ LeftFront s (g ∷ gs) phase told image = LeftDuring (call_of s g phase) told im
 
 abbrev pub ReadFront : Super → List Group → Phase → Type 0
 ReadFront s [] phase = Unit {0}
-ReadFront s (g ∷ gs) phase = AreRead s g phase
+ReadFront s (g ∷ gs) phase = PrintsBack s g phase
 
 abbrev pub touched_front : Super → List Group → Phase → (ℕ → Bool) → ℕ → Bool
 touched_front s [] phase touched = touched

@@ -2,7 +2,7 @@
 use Rattle.std.specs.Prelude.{◌≡◌, ℕ, List, [], ◌∷◌, ◌++◌, Bool, false, nat_le, if◌then◌else◌}
 use Rattle.bfs_super.specs.declared.sup.Super.{Super}
 use Rattle.bfs_super.specs.Geometry.{geometry_of}
-use Rattle.bfs_log.specs.Replay.{Home, Replayed, super_of, blocks_of, over}
+use Rattle.bfs_log.specs.Replay.{Home, Replayed, super_of, blocks_of}
 use Rattle.bfs_txn.specs.declared.group.Group.{Group}
 use Rattle.bfs_device.specs.Layouts.{IsData, layout_of, homes_in}
 

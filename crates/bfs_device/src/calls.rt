@@ -14,7 +14,7 @@ ghost use Rattle.bfs_txn.specs.Changed.{bytes_at, number_at};
 ghost use Rattle.bfs_device.specs.Layouts.{IsGood, IsData, layout_of, slot, ring_count, named_in, log_block, behind, opened_of, closed_of};
 ghost use Rattle.bfs_device.specs.Calls.{Call, Write, Barrier, told_after, IsFailed, LeftDuring, HasTwo};
 ghost use Rattle.bfs_device.specs.Books.{IsOnDisk, IsSealed, IsPhaseOf};
-ghost use Rattle.bfs_device.specs.Steps.{call_of, ReadsBack, AreRead};
+ghost use Rattle.bfs_device.specs.Steps.{call_of, ReadsBack, PrintsBack};
 
 use crate::journal::Phase;
 use bfs_disk::{Disk, Failed};
@@ -216,7 +216,7 @@ pub fn perform<D: Disk>(
     ensures time { Elapses (D.state disk.old) result (D.clock disk.old) (D.clock disk.new) (D.since disk.old) (D.since disk.new) (LeftDuring (call_of sup.now group.now phase) (D.state disk.old)) }
     ensures cause { HasCause (D.faults disk.old) (D.faults disk.new) result }
     ensures stops { HasCause (D.stops disk.old) (D.stops disk.new) result }
-    ensures read { AreRead sup.now group.now phase }
+    ensures read { PrintsBack sup.now group.now phase }
 {
     match phase {
         Phase::Log(at) => write_log(disk, sup, group, at, buffer),

@@ -2,7 +2,6 @@ use Rattle.std.proofs.Common.{◌≡◌, ◌∙◌, ◌+◌, ◌-◌, ◌*◌, �
 use Rattle.bfs_super.specs.declared.geometry.Geometry.{Geometry}
 use Rattle.bfs_super.specs.Geometry.{geometry_of}
 use Rattle.bfs_log.specs.Entry.{entry_bytes}
-use Rattle.bfs_txn.specs.Changed.{number_at}
 use Rattle.bfs_device.specs.Layouts.{named_in}
 use Rattle.bfs_device.proofs.Entries.{number_in, cut_min}
 use Rattle.bfs_device.proofs.Sizes.{sizes}

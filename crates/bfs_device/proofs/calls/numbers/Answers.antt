@@ -1,6 +1,5 @@
-use Rattle.std.proofs.Common.{◌≡◌, ◌∙◌, ◌+◌, ◌++◌, [], ◌∷◌, ℕ, List, map, take, drop, get_or, sym, ap, arith, length-drop, length, rules}
+use Rattle.std.proofs.Common.{◌≡◌, ◌∙◌, ◌++◌, [], ◌∷◌, ℕ, List, map, take, drop, get_or, sym, ap, arith, length-drop, rules}
 use Rattle.std.proofs.lemmas.List.{take_more_set, map_more, length-set}
-use Rattle.bfs_txn.specs.Changed.{number_at}
 use Rattle.bfs_device.proofs.Entries.{get_past}
 use Rattle.bfs_device.proofs.calls.numbers.Goals as goal
 

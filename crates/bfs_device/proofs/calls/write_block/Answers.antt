@@ -1,4 +1,4 @@
-use Rattle.std.proofs.Common.{◌≡◌, ◌∙◌, ◌*◌, ◌/◌, ◌≤◌, ℕ, List, sym, ap, subst, arith, length}
+use Rattle.std.proofs.Common.{◌≡◌, ◌*◌, ◌/◌, ◌≤◌, ℕ, sym, ap, subst, arith}
 use Rattle.bfs_disk.specs.Disk.{InRange}
 use Rattle.bfs_device.specs.Layouts.{layout_of}
 use Rattle.bfs_device.proofs.Sizes.{sizes, place_small, in_range}

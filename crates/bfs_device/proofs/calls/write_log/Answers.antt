@@ -1,9 +1,8 @@
-use Rattle.std.proofs.Common.{◌≡◌, ◌∙◌, ◌+◌, ◌-◌, ◌*◌, ◌/◌, ◌%◌, ◌<◌, ℕ, List, sym, ap, subst, arith, length}
+use Rattle.std.proofs.Common.{◌≡◌, ◌∙◌, ◌*◌, ◌%◌, ℕ, List, sym, subst, arith}
 use Rattle.std.proofs.lemmas.Bool.{cond-false, ne_eqb}
 use Rattle.bfs_base.specs.Moments.{Elapses}
 use Rattle.bfs_disk.specs.Disk.{MayLeave, told_written}
 use Rattle.bfs_log.specs.Replay.{log_from}
-use Rattle.bfs_txn.specs.Changed.{bytes_at}
 use Rattle.bfs_device.specs.Layouts.{layout_of, log_block, slot}
 use Rattle.bfs_device.proofs.Sizes.{ring_low}
 use Rattle.bfs_device.proofs.calls.write_log.Goals as goal

@@ -1,6 +1,5 @@
-use Rattle.std.proofs.Common.{◌≡◌, ◌∙◌, ◌*◌, ℕ, List, Bool, None, Some, Option, sym, subst, rules}
-use Rattle.bfs_disk.specs.State.{State, Tells}
-use Rattle.bfs_base.proofs.Moments.{passed_none}
+use Rattle.std.proofs.Common.{◌≡◌, None, sym, subst, rules}
+use Rattle.bfs_disk.specs.State.{Tells}
 use Rattle.bfs_device.specs.Books.{Books, books_of, IsRight}
 use Rattle.bfs_device.specs.Data.{touching, AreSameBut}
 use Rattle.bfs_device.proofs.Stepping.{known_of}

@@ -1,8 +1,7 @@
-use Rattle.std.proofs.Common.{◌≡◌, ◌<◌, inr, ℕ, List, length, sym, ap, subst, ◌∙◌, Bool, None, arith, rules}
+use Rattle.std.proofs.Common.{◌≡◌, ◌<◌, inr, length, sym, ap, subst, ◌∙◌, None, arith, rules}
 use Rattle.std.proofs.lemmas.Grind.{common_steps}
-use Rattle.bfs_disk.specs.State.{State, Tells}
+use Rattle.bfs_disk.specs.State.{Tells}
 use Rattle.bfs_device.specs.Books.{Books, books_of, IsRight, AreSame}
-use Rattle.bfs_device.specs.declared.journal.Progress.{Progress}
 use Rattle.bfs_device.specs.Layouts.{layout_of}
 use Rattle.bfs_device.specs.Steps.{stepped, halted, still_touched, progress_to, calls_left}
 use Rattle.bfs_device.specs.Told.{HasCalled, HasMarked, HasCounted}

@@ -1,7 +1,4 @@
-use Rattle.std.proofs.Common.{◌≡◌, ◌<◌, ◌∙◌, ◌++◌, ◌∷◌, [], List, length, refl, sym, ap, arith, is_ok, Result, rules}
-use Rattle.std.proofs.lemmas.Grind.{common_steps}
-use Rattle.std.specs.Vec.{vec_capacity}
-use Rattle.bfs_txn.specs.declared.group.Group.{Group}
+use Rattle.std.proofs.Common.{◌≡◌, ◌++◌, ◌∷◌, [], refl, rules}
 use Rattle.bfs_device.proofs.Sealing.{sealed_ready}
 use Rattle.bfs_device.proofs.turn.take.Goals as goal
 

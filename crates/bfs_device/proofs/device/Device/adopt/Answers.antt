@@ -1,4 +1,3 @@
-use Rattle.std.proofs.Common.{◌≡◌, ℕ, List}
 use Rattle.bfs_device.proofs.Sealing.{adopted_rests}
 use Rattle.bfs_device.proofs.Stepping.{on_state, filled_state}
 use Rattle.bfs_device.proofs.device.Device.adopt.Goals as goal

@@ -1,10 +1,7 @@
-use Rattle.std.proofs.Common.{◌≡◌, ◌≤◌, ◌*◌, ℕ, List, Bool, subst, sym, Option, OnOk, OnErr, IfOk, IfSome}
+use Rattle.std.proofs.Common.{ℕ, Bool, subst, sym, Option}
 use Rattle.bfs_base.specs.Moments.{Passed}
 use Rattle.bfs_disk.specs.State.{State, Tells}
-use Rattle.bfs_disk.specs.Disk.{told_written}
-use Rattle.bfs_device.specs.Layouts.{Layout, layout_of}
-use Rattle.bfs_device.specs.Books.{View, books_of, IsRight, RecoversOne, IsOnDisk, version, sealed_of}
-use Rattle.bfs_device.specs.Data.{AreRead, touching, AreSameBut}
+use Rattle.bfs_device.specs.Books.{View, books_of, IsRight, RecoversOne, IsOnDisk}
 use Rattle.bfs_device.proofs.Stepping.{on_layout}
 use Rattle.bfs_device.proofs.device.Device.block.Goals as goal
 

@@ -1,4 +1,4 @@
-use Rattle.std.proofs.Common.{◌≡◌, ℕ, List, Bool, subst}
+use Rattle.std.proofs.Common.{ℕ, List, Bool, subst}
 use Rattle.bfs_disk.specs.State.{Tells}
 use Rattle.bfs_disk.specs.Disk.{MayLeave}
 use Rattle.bfs_device.specs.Books.{View, books_of, IsRight, RecoversOne}

@@ -1,10 +1,9 @@
-use Rattle.std.proofs.Common.{◌≡◌, ◌≤◌, ◌<◌, ◌+◌, ◌∙◌, ℕ, List, Bool, length, subst, sym, ap}
-use Rattle.bfs_disk.specs.State.{State}
+use Rattle.std.proofs.Common.{◌≡◌, ◌≤◌, ◌+◌, ◌∙◌, length, subst, sym, ap}
 use Rattle.bfs_log.specs.Replay.{over}
-use Rattle.bfs_device.specs.Layouts.{homes_in, layout_of}
-use Rattle.bfs_device.specs.Books.{Books, View, IsNext, books_of, IsRight, IsVersion, version, sealed_of}
+use Rattle.bfs_device.specs.Layouts.{homes_in}
+use Rattle.bfs_device.specs.Books.{Books, View, books_of, IsRight, IsVersion, version, sealed_of}
 use Rattle.bfs_device.specs.Steps.{calls_left}
-use Rattle.bfs_device.specs.Seals.{sealed_with, calls_of_group, last_used}
+use Rattle.bfs_device.specs.Seals.{sealed_with, calls_of_group}
 use Rattle.bfs_device.proofs.Stepping.{Known, known_of}
 use Rattle.bfs_device.proofs.Sealing.{sealed_right, still_version, version_low, older_version, newest_version, sealed_calls}
 use Rattle.bfs_device.proofs.device.Device.seal.Goals as goal

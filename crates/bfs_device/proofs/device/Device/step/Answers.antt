@@ -1,7 +1,7 @@
-use Rattle.std.proofs.Common.{◌≡◌, ◌≤◌, ◌*◌, ℕ, List, Bool, subst, sym, Option, OnOk, OnErr, IfOk}
+use Rattle.std.proofs.Common.{ℕ, Bool, subst, sym, Option, OnOk, OnErr, IfOk}
 use Rattle.bfs_base.specs.Moments.{Passed}
-use Rattle.bfs_disk.specs.State.{State, Tells}
-use Rattle.bfs_device.specs.Layouts.{Layout, layout_of}
+use Rattle.bfs_disk.specs.State.{Tells}
+use Rattle.bfs_device.specs.Layouts.{layout_of}
 use Rattle.bfs_device.specs.Books.{View, books_of, IsRight, RecoversOne, AreSame, IsOnDisk}
 use Rattle.bfs_device.specs.Steps.{still_touched}
 use Rattle.bfs_device.specs.Told.{HasCalled}

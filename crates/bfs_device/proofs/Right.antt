@@ -165,6 +165,26 @@ module _ (b : Books) (g : Group) (gs : List Group) (valid : IsValid b.sup) (empt
       → (image : List ℕ) → LeftDuring (call_of b.sup g p) (Some st) image → RecoversOne (at p) t st image
   during_one t st p fits read sized known image is = one_of (reading st) t st image p (same_reading t st (is_durable p)) (during_image b.sup g valid follow.0.sealed empty (reading st) t st sized image p fits read known is)
 
+  -- the versions' used blocks stay
+  pub used_after : (p : Phase) → IsPhaseOf g.blocks p → (n : ℕ) → IsVersion (after_phase g gs (at p) p) n → used_of (after_phase g gs (at p) p) n ≡ used_of (at p) n
+  used_after (Log i) fits n is = refl
+  used_after LogSafe fits n is = refl
+  used_after Open fits n is = refl
+  used_after OpenSafe fits n is = refl
+  used_after (GoHome i) fits n is = refl
+  used_after HomeSafe fits n is = refl
+  used_after Tail fits n is = refl
+  used_after TailSafe fits n is =
+      let later : g.last ≤ n = ⊎_elim
+      (λ here. let e = here ∙ front_not_durable g.last gs in omega (arith, e))
+      (λ one. let lt = last_above (layout_of b.sup) b.sup.block_size g.last g.used n gs follow.1 (subst (IsLastOf n) (front_waiting gs) one) in omega (arith, lt)) is in
+      ap (λ (u : ℕ). used_upto n gs u) (sym (cond-true (nat_le g.last n) g.used (natural b.sup.used_blocks) (le-leb g.last n later)))
+  used_after Pass fits n is = ap (λ (u : ℕ). used_upto n gs u) (either (nat_le g.last n))
+    where
+      either : (d : Bool) → natural b.sup.used_blocks ≡ cond d g.used (natural b.sup.used_blocks)
+      either true = sym (follow.0.same_used fits)
+      either false = refl
+
   -- ---- after the call has succeeded
 
   module _ (t : ℕ → Bool) (st : State) (sized : (layout_of b.sup).sectors * (layout_of b.sup).blocks ≤ st.size) where

@@ -137,6 +137,16 @@ module _ (b : Books) (g : Group) (know : Known b) (next : IsNext (layout_of b.su
       (upto_more g.last b.groups g ∙ ap (λ (hs : List Home). upto g.last b.groups ++ (hs ++ [])) (cond-true (nat_le g.last g.last) (homes_in g.blocks) [] (le-leb g.last g.last (omega arith))) ∙ ap (λ (hs : List Home). upto g.last b.groups ++ hs) (append-nil (homes_in g.blocks)) ∙ ap (λ (hs : List Home). hs ++ homes_in g.blocks) all)
       ∙ over_joined (upto (sealed_of b) b.groups) (homes_in g.blocks) (contents_of st (layout_of b.sup).sectors) k
 
+  pub older_used : (n : ℕ) → IsVersion b n → used_of (sealed_with b g) n ≡ used_of b n
+  older_used n is = used_earlier n (natural b.sup.used_blocks) b.groups g (version_low n is)
+
+  used_last : (u : ℕ) (gs : List Group) → used_upto g.last (gs ++ g ∷ []) u ≡ g.used
+  used_last u [] = cond-true (nat_le g.last g.last) g.used u (le-leb g.last g.last (omega arith))
+  used_last u (x ∷ gs) = used_last (cond (nat_le x.last g.last) x.used u) gs
+
+  pub newest_used : used_of (sealed_with b g) g.last ≡ g.used
+  newest_used = used_last (natural b.sup.used_blocks) b.groups
+
   last_more : (n : ℕ) (gs : List Group) → IsLastOf n gs → IsLastOf n (gs ++ g ∷ [])
   last_more n [] one = absurd one
   last_more n (x ∷ gs) one = ⊎_elim (λ here. inl here) (λ later. inr (last_more n gs later)) one

@@ -7,13 +7,13 @@ use Rattle.bfs_txn.specs.declared.group.Group.{Group}
 use Rattle.bfs_device.specs.declared.journal.Phase.{Phase}
 use Rattle.bfs_device.specs.declared.journal.Phase.TheVariants.{Log, LogSafe, Open, OpenSafe, Home as GoHome, HomeSafe, Tail, TailSafe, Pass}
 use Rattle.bfs_device.specs.Layouts.{layout_of, slot, ring_count}
-use Rattle.bfs_device.specs.Books.{Books, IsPhaseOf, is_durable}
+use Rattle.bfs_device.specs.Books.{Books, IsPhaseOf, is_durable, IsVersion, used_of}
 use Rattle.bfs_device.specs.Steps.{PrintsBack, ReadFront, told_front, stepped, after_phase, next_phase, front_phase, progress_to, progress_in, calls_left, calls_in, calls_from, calls_of, counted as counted_to}
 use Rattle.bfs_device.specs.Told.{HasCalled, HasMarked, HasCounted}
 use Rattle.bfs_device.proofs.Sizes.{from_low}
 use Rattle.bfs_device.proofs.Going.{slot_inside}
 use Rattle.bfs_device.proofs.Phasing.{long_block, long_home}
-use Rattle.bfs_device.proofs.Right.{front_not_durable}
+use Rattle.bfs_device.proofs.Right.{front_not_durable, used_after}
 use Rattle.bfs_device.proofs.Stepping.{Known}
 
 module _ (b : Books) (g : Group) (gs : List Group) (know : (let c : Books = record b { groups = g ∷ gs } in Known c)) where
@@ -136,3 +136,10 @@ step_counted b know = counted b b.groups know
 
 pub step_layout : (b : Books) → Known b → layout_of (stepped b).sup ≡ layout_of b.sup
 step_layout b know = same_layout b b.groups know
+
+used_kept : (b : Books) (groups : List Group) → (let c : Books = record b { groups = groups } in Known c) → (let c : Books = record b { groups = groups } in (n : ℕ) → IsVersion (stepped c) n → used_of (stepped c) n ≡ used_of c n)
+used_kept b [] know n is = refl
+used_kept b (g ∷ gs) know n is = used_after b g gs know.valid know.empty know.follow b.phase know.phase n is
+
+pub step_used : (b : Books) → Known b → (n : ℕ) → IsVersion (stepped b) n → used_of (stepped b) n ≡ used_of b n
+step_used b know n is = used_kept b b.groups know n is

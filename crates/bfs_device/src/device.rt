@@ -8,7 +8,7 @@ ghost use Rattle.bfs_super.specs.Conditions.{IsValid};
 ghost use Rattle.bfs_log.specs.Replay.{super_of, over};
 ghost use Rattle.bfs_device.specs.Layouts.{IsData, layout_of, homes_in};
 ghost use Rattle.bfs_device.specs.Phases.{none};
-ghost use Rattle.bfs_device.specs.Books.{IsNext, IsOnDisk, IsRight, IsVersion, RecoversOne, AreSame, Books, View, durable_of, sealed_of, version};
+ghost use Rattle.bfs_device.specs.Books.{IsNext, IsOnDisk, IsRight, IsVersion, RecoversOne, AreSame, Books, View, durable_of, sealed_of, version, used_of};
 ghost use Rattle.bfs_device.specs.Steps.{told_front, still_touched, stepped, progress_to, calls_left, IsStepFault, IsUnmoved, HasMoved};
 ghost use Rattle.bfs_device.specs.Told.{HasCalled, HasMarked, HasCounted};
 ghost use Rattle.bfs_device.specs.Data.{newest_in, moved_on, AreRead, IsReadFault, touching, AreSameBut};
@@ -109,6 +109,8 @@ impl<D: Disk> Device<D> {
         ensures numbers { (n : ℕ) → IsVersion self.old.books n → IsVersion self.new.books n × (n < group.last) }
         ensures older { (s : State) (n k : ℕ) → IsVersion self.old.books n → version self.new.books s n k ≡ version self.old.books s n k }
         ensures newest { (s : State) (k : ℕ) → version self.new.books s group.last k ≡ over (homes_in group.blocks) (version self.old.books s (sealed_of self.old.books)) k }
+        ensures older_used { (n : ℕ) → IsVersion self.old.books n → used_of self.new.books n ≡ used_of self.old.books n }
+        ensures newest_used { used_of self.new.books group.last ≡ group.used }
         ensures calls { calls_left self.new.books ≤ calls_left self.old.books + calls_of_group (length group.blocks) }
     {
         take(&mut self.journal, group);
@@ -132,6 +134,9 @@ impl<D: Disk> Device<D> {
             → OnOk result (Tells (D.state self.new.disk) (λ s. IsRight self.new.books (still_touched self.old.books t) s × AreSame self.old.books right.0 self.new.books s)) }
         ensures still_right { (t : ℕ → Bool) (right : Tells (D.state self.old.disk) (IsRight self.old.books t))
             → OnErr result (Tells (D.state self.new.disk) (λ s. IsRight self.new.books t s × AreSame self.old.books right.0 self.new.books s)) }
+        // The versions' used blocks stay too, and on a disk that tells there is exactly one call but where the device is idle.
+        ensures used { (n : ℕ) → IsVersion self.new.books n → used_of self.new.books n ≡ used_of self.old.books n }
+        ensures one { IsSome (D.state self.old.disk) → IfOk result (λ p. (p ≡ Progress.Idle) ⊎ (D.clock self.new.disk ≡ D.clock self.old.disk + 1)) }
         ensures moments { (t : ℕ → Bool) → Tells (D.state self.old.disk) (IsRight self.old.books t)
             → Passed (D.clock self.old.disk) (D.clock self.new.disk) (D.since self.old.disk) (D.since self.new.disk) (λ c. Tells (D.state self.old.disk) (λ s. RecoversOne self.old.books t s c)) }
     {

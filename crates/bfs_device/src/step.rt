@@ -1,11 +1,11 @@
 // A step of a device: one disk call, and what is kept of it.
-ghost use Rattle.std.specs.Prelude.{◌≡◌, ◌≤◌, ◌<◌, ◌+◌, ◌*◌, ◌^◌, ℕ, List, [], length, Bool, true, OnOk, OnErr, IfOk, IfErr, Option, Some, None};
+ghost use Rattle.std.specs.Prelude.{◌≡◌, ◌⊎◌, IsSome, ◌≤◌, ◌<◌, ◌+◌, ◌*◌, ◌^◌, ℕ, List, [], length, Bool, true, OnOk, OnErr, IfOk, IfErr, Option, Some, None};
 ghost use Rattle.bfs_base.specs.Counts.{HasCause, Rose};
 ghost use Rattle.bfs_base.specs.Moments.{Elapses, Passed};
 ghost use Rattle.bfs_disk.specs.State.{State, Tells};
 ghost use Rattle.bfs_disk.specs.Disk.{MayLeave};
 ghost use Rattle.bfs_device.specs.Layouts.{IsData, layout_of};
-ghost use Rattle.bfs_device.specs.Books.{Ready, IsOnDisk, IsRight, IsVersion, RecoversOne, AreSame, Books, books_of, durable_of, version};
+ghost use Rattle.bfs_device.specs.Books.{Ready, IsOnDisk, IsRight, IsVersion, RecoversOne, AreSame, Books, books_of, durable_of, version, used_of};
 ghost use Rattle.bfs_device.specs.Steps.{told_front, FailedFront, LeftFront, ReadFront, still_touched, halted, stepped, progress_to, IsStepFault, IsUnmoved, HasMoved, calls_left};
 ghost use Rattle.bfs_device.specs.Told.{HasCalled, HasMarked, HasCounted};
 
@@ -90,6 +90,8 @@ pub fn step_of<D: Disk>(disk: &mut D, journal: &mut Journal) -> Result<Progress,
         → OnOk result (Tells (D.state disk.new) (λ s. IsRight (books_of journal.new) (still_touched (books_of journal.old) t) s × AreSame (books_of journal.old) right.0 (books_of journal.new) s)) }
     ensures still_right { (t : ℕ → Bool) (right : Tells (D.state disk.old) (IsRight (books_of journal.old) t))
         → OnErr result (Tells (D.state disk.new) (λ s. IsRight (books_of journal.new) t s × AreSame (books_of journal.old) right.0 (books_of journal.new) s)) }
+    ensures used { (n : ℕ) → IsVersion (books_of journal.new) n → used_of (books_of journal.new) n ≡ used_of (books_of journal.old) n }
+    ensures one { IsSome (D.state disk.old) → IfOk result (λ p. (p ≡ Progress.Idle) ⊎ (D.clock disk.new ≡ D.clock disk.old + 1)) }
     ensures moments { (t : ℕ → Bool) → Tells (D.state disk.old) (IsRight (books_of journal.old) t)
         → Passed (D.clock disk.old) (D.clock disk.new) (D.since disk.old) (D.since disk.new) (λ c. Tells (D.state disk.old) (λ s. RecoversOne (books_of journal.old) t s c)) }
 {

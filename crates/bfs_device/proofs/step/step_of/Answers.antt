@@ -1,11 +1,11 @@
-use Rattle.std.proofs.Common.{◌≡◌, ◌<◌, inr, length, sym, ap, subst, ◌∙◌, None, arith, rules}
+use Rattle.std.proofs.Common.{◌≡◌, ◌<◌, inr, ℕ, length, sym, ap, subst, ◌∙◌, None, arith, rules}
 use Rattle.std.proofs.lemmas.Grind.{common_steps}
 use Rattle.bfs_disk.specs.State.{Tells}
-use Rattle.bfs_device.specs.Books.{Books, books_of, IsRight, AreSame}
+use Rattle.bfs_device.specs.Books.{Books, books_of, IsRight, AreSame, IsVersion, used_of}
 use Rattle.bfs_device.specs.Layouts.{layout_of}
 use Rattle.bfs_device.specs.Steps.{stepped, halted, still_touched, progress_to, calls_left}
 use Rattle.bfs_device.specs.Told.{HasCalled, HasMarked, HasCounted}
-use Rattle.bfs_device.proofs.Telling.{step_called, step_marked, step_counted, step_layout, step_moment}
+use Rattle.bfs_device.proofs.Telling.{step_called, step_marked, step_counted, step_layout, step_moment, step_used}
 use Rattle.bfs_device.proofs.step.step_of.Given.{Over}
 use Rattle.bfs_device.proofs.Stepping.{known_of, ok_right, err_right, step_moments}
 use Rattle.bfs_device.proofs.step.step_of.Goals as goal
@@ -75,3 +75,8 @@ returns-in-Ok-clause-moved g c =
     let j = c.args.journal.now in
     let some : 0 < length j.groups.items = grind (arith, common_steps, c.is_empty.ensures, c.if-is_empty.false) in
     inr (c.act.ensures.time.at_most_one, ap (λ (b : Books). b.moment) (new_books g c) ∙ step_moment (books_of j) (known_of j c.requires.ready) some)
+
+pub returns-in-Ok-clause-used : goal.returns-in-Ok-clause-used
+returns-in-Ok-clause-used g c =
+    let j = c.args.journal.now in
+    subst (λ (b : Books). (n : ℕ) → IsVersion b n → used_of b n ≡ used_of (books_of j) n) (sym (new_books g c)) (step_used (books_of j) (known_of j c.requires.ready))

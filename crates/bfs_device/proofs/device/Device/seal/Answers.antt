@@ -1,11 +1,11 @@
 use Rattle.std.proofs.Common.{◌≡◌, ◌≤◌, ◌+◌, ◌∙◌, length, subst, sym, ap}
 use Rattle.bfs_log.specs.Replay.{over}
 use Rattle.bfs_device.specs.Layouts.{homes_in}
-use Rattle.bfs_device.specs.Books.{Books, View, books_of, IsRight, IsVersion, version, sealed_of}
+use Rattle.bfs_device.specs.Books.{Books, View, books_of, IsRight, IsVersion, version, sealed_of, used_of}
 use Rattle.bfs_device.specs.Steps.{calls_left}
 use Rattle.bfs_device.specs.Seals.{sealed_with, calls_of_group}
 use Rattle.bfs_device.proofs.Stepping.{Known, known_of}
-use Rattle.bfs_device.proofs.Sealing.{sealed_right, still_version, version_low, older_version, newest_version, sealed_calls}
+use Rattle.bfs_device.proofs.Sealing.{sealed_right, still_version, version_low, older_version, newest_version, older_used, newest_used, sealed_calls}
 use Rattle.bfs_device.proofs.device.Device.seal.Goals as goal
 use Rattle.bfs_device.proofs.device.Device.seal.Given.{Over}
 
@@ -30,3 +30,9 @@ returns-clause-newest g c = λ s k. subst (λ (b : Books). version b s c.args.gr
 
 pub returns-clause-calls : goal.returns-clause-calls
 returns-clause-calls g c = subst (λ (b : Books). calls_left b ≤ calls_left c.args.self.now.books + calls_of_group (length c.args.group.blocks)) (sym (new_books g c)) (sealed_calls c.args.self.now.books c.args.group (know g c) c.requires.next)
+
+pub returns-clause-older_used : goal.returns-clause-older_used
+returns-clause-older_used g c = λ n is. subst (λ (b : Books). used_of b n ≡ used_of c.args.self.now.books n) (sym (new_books g c)) (older_used c.args.self.now.books c.args.group (know g c) c.requires.next n is)
+
+pub returns-clause-newest_used : goal.returns-clause-newest_used
+returns-clause-newest_used g c = subst (λ (b : Books). used_of b c.args.group.last ≡ c.args.group.used) (sym (new_books g c)) (newest_used c.args.self.now.books c.args.group (know g c) c.requires.next)

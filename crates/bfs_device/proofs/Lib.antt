@@ -1,0 +1,13 @@
+pub mod Homes
+pub mod Entries
+pub mod Sizes
+pub mod Images
+pub mod Going
+pub mod Fronts
+pub mod Phasing
+pub mod Right
+pub mod Failing
+pub mod Stepping
+pub mod Telling
+pub mod Sealing
+pub mod Reading

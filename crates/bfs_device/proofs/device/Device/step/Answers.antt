@@ -1,0 +1,34 @@
+use Rattle.std.proofs.Common.{ℕ, Bool, subst, sym, Option, OnOk, OnErr, IfOk}
+use Rattle.bfs_base.specs.Moments.{Passed}
+use Rattle.bfs_disk.specs.State.{Tells}
+use Rattle.bfs_device.specs.Layouts.{layout_of}
+use Rattle.bfs_device.specs.Books.{View, books_of, IsRight, RecoversOne, AreSame, IsOnDisk}
+use Rattle.bfs_device.specs.Steps.{still_touched}
+use Rattle.bfs_device.specs.Told.{HasCalled}
+use Rattle.bfs_device.proofs.Stepping.{on_layout}
+use Rattle.bfs_device.proofs.device.Device.step.Goals as goal
+
+pub invariant_of-self : goal.invariant_of-self
+invariant_of-self g c =
+    let inside = c.self.inside in
+    (c.step_of.ensures.ready, on_layout (g.D.Disk.size c.step_of.new.disk) inside.journal.sup c.step_of.new.journal.sup c.step_of.ensures.layout (subst (λ (o : Option ℕ). IsOnDisk o inside.journal.sup) (sym c.step_of.ensures.size) c.self.invariant.1))
+
+pub returns-clause-right : goal.returns-clause-right
+returns-clause-right g c =
+    let new = c.step_of.new in
+    subst (λ (x : View g.row.D.Denot). (t : ℕ → Bool) (right : Tells (g.D.Disk.state x.disk) (IsRight x.books t)) → OnOk c.step_of.result (Tells (g.D.Disk.state new.disk) (λ s. IsRight (books_of new.journal) (still_touched x.books t) s × AreSame x.books right.0 (books_of new.journal) s))) c.self.view_is c.step_of.ensures.right
+
+pub returns-clause-still_right : goal.returns-clause-still_right
+returns-clause-still_right g c =
+    let new = c.step_of.new in
+    subst (λ (x : View g.row.D.Denot). (t : ℕ → Bool) (right : Tells (g.D.Disk.state x.disk) (IsRight x.books t)) → OnErr c.step_of.result (Tells (g.D.Disk.state new.disk) (λ s. IsRight (books_of new.journal) t s × AreSame x.books right.0 (books_of new.journal) s))) c.self.view_is c.step_of.ensures.still_right
+
+pub returns-clause-moments : goal.returns-clause-moments
+returns-clause-moments g c =
+    let new = c.step_of.new in
+    subst (λ (x : View g.row.D.Denot). (t : ℕ → Bool) → Tells (g.D.Disk.state x.disk) (IsRight x.books t) → Passed (g.D.Disk.clock x.disk) (g.D.Disk.clock new.disk) (g.D.Disk.since x.disk) (g.D.Disk.since new.disk) (λ i. Tells (g.D.Disk.state x.disk) (λ s. RecoversOne x.books t s i))) c.self.view_is c.step_of.ensures.moments
+
+pub returns-clause-called : goal.returns-clause-called
+returns-clause-called g c =
+    let new = c.step_of.new in
+    subst (λ (x : View g.row.D.Denot). IfOk c.step_of.result (HasCalled (layout_of x.books.sup) (g.D.Disk.state x.disk) (g.D.Disk.state new.disk))) c.self.view_is c.step_of.ensures.called

@@ -1,0 +1,82 @@
+use Rattle.std.proofs.Common.{◌≡◌, ◌<◌, inr, ℕ, length, sym, ap, subst, ◌∙◌, None, arith, rules}
+use Rattle.std.proofs.lemmas.Grind.{common_steps}
+use Rattle.bfs_disk.specs.State.{Tells}
+use Rattle.bfs_device.specs.Books.{Books, books_of, IsRight, AreSame, IsVersion, used_of}
+use Rattle.bfs_device.specs.Layouts.{layout_of}
+use Rattle.bfs_device.specs.Steps.{stepped, halted, still_touched, progress_to, calls_left}
+use Rattle.bfs_device.specs.Told.{HasCalled, HasMarked, HasCounted}
+use Rattle.bfs_device.proofs.Telling.{step_called, step_marked, step_counted, step_layout, step_moment, step_used}
+use Rattle.bfs_device.proofs.step.step_of.Given.{Over}
+use Rattle.bfs_device.proofs.Stepping.{known_of, ok_right, err_right, step_moments}
+use Rattle.bfs_device.proofs.step.step_of.Goals as goal
+
+pub returns-in-Ok-clause-right : goal.returns-in-Ok-clause-right
+returns-in-Ok-clause-right g c = λ t right.
+    let j = c.args.journal.now in
+    let disk = c.args.disk.now in
+    let some : 0 < length j.groups.items = grind (arith, common_steps, c.is_empty.ensures, c.if-is_empty.false) in
+    let none_yet : j.stop ≡ None = search rules in
+    subst (λ (b : Books). Tells (g.D.Disk.state c.act.new.disk) (λ s. IsRight b (still_touched (books_of j) t) s × AreSame (books_of j) right.0 b s)) (sym (c.advance.ensures.books ∙ ap stepped c.act.ensures.books))
+    (ok_right (books_of j) (known_of j c.requires.ready) some c.act.ensures.read none_yet (g.D.Disk.size disk) c.requires.on_disk t (g.D.Disk.state disk) (g.D.Disk.state c.act.new.disk) (g.met.D.Disk.sized disk) (g.met.D.Disk.filled c.act.new.disk) c.in-Ok.ensures.done right)
+
+pub returns-in-Ok-clause-moments : goal.returns-in-Ok-clause-moments
+returns-in-Ok-clause-moments g c = λ t right.
+    let j = c.args.journal.now in
+    let disk = c.args.disk.now in
+    let some : 0 < length j.groups.items = grind (arith, common_steps, c.is_empty.ensures, c.if-is_empty.false) in
+    let none_yet : j.stop ≡ None = search rules in
+    step_moments (books_of j) (known_of j c.requires.ready) some c.act.ensures.read none_yet (g.D.Disk.size disk) c.requires.on_disk t (g.D.Disk.state disk) (g.met.D.Disk.sized disk) c.act.result _ _ _ _ c.act.ensures.time right
+
+pub returns-in-Err-clause-still_right : goal.returns-in-Err-clause-still_right
+returns-in-Err-clause-still_right g c = λ t right.
+    let j = c.args.journal.now in
+    let disk = c.args.disk.now in
+    let none_yet : j.stop ≡ None = search rules in
+    subst (λ (b : Books). Tells (g.D.Disk.state c.act.new.disk) (λ s. IsRight b t s × AreSame (books_of j) right.0 b s)) (sym (c.halt.ensures.books ∙ ap (λ (b : Books). halted b c.faults.result) c.act.ensures.books))
+    (err_right (books_of j) c.faults.result (known_of j c.requires.ready) c.act.ensures.read none_yet (g.D.Disk.size disk) c.requires.on_disk t (g.D.Disk.state disk) (g.D.Disk.state c.act.new.disk) (g.met.D.Disk.sized disk) c.in-Err.ensures.failed right)
+
+pub returns-in-Err-clause-moments : goal.returns-in-Err-clause-moments
+returns-in-Err-clause-moments g c = λ t right.
+    let j = c.args.journal.now in
+    let disk = c.args.disk.now in
+    let some : 0 < length j.groups.items = grind (arith, common_steps, c.is_empty.ensures, c.if-is_empty.false) in
+    let none_yet : j.stop ≡ None = search rules in
+    step_moments (books_of j) (known_of j c.requires.ready) some c.act.ensures.read none_yet (g.D.Disk.size disk) c.requires.on_disk t (g.D.Disk.state disk) (g.met.D.Disk.sized disk) c.act.result _ _ _ _ c.act.ensures.time right
+
+-- the answer and the books in terms of those at the call
+told : (g : Over) (c : goal.After-advance g) → c.advance.result ≡ progress_to c.args.journal.now.groups.items c.args.journal.now.phase
+told g c = c.advance.ensures.progress ∙ ap (λ (b : Books). progress_to b.groups b.phase) c.act.ensures.books
+
+new_books : (g : Over) (c : goal.After-advance g) → books_of c.advance.new.journal ≡ stepped (books_of c.args.journal.now)
+new_books g c = c.advance.ensures.books ∙ ap stepped c.act.ensures.books
+
+pub returns-in-Ok-clause-layout : goal.returns-in-Ok-clause-layout
+returns-in-Ok-clause-layout g c = ap (λ (b : Books). layout_of b.sup) (new_books g c) ∙ step_layout (books_of c.args.journal.now) (known_of c.args.journal.now c.requires.ready)
+
+pub returns-in-Ok-clause-called : goal.returns-in-Ok-clause-called
+returns-in-Ok-clause-called g c =
+    subst (HasCalled (layout_of c.args.journal.now.sup) (g.D.Disk.state c.args.disk.now) (g.D.Disk.state c.act.new.disk)) (sym (told g c))
+    (step_called (books_of c.args.journal.now) (known_of c.args.journal.now c.requires.ready) c.act.ensures.read (g.D.Disk.state c.args.disk.now) (g.D.Disk.state c.act.new.disk) c.in-Ok.ensures.done)
+
+pub returns-in-Ok-clause-marked : goal.returns-in-Ok-clause-marked
+returns-in-Ok-clause-marked g c =
+    let j = c.args.journal.now in
+    subst (λ (b : Books). HasMarked (books_of j) b c.advance.result) (sym (new_books g c))
+    (subst (HasMarked (books_of j) (stepped (books_of j))) (sym (told g c)) (step_marked (books_of j) (known_of j c.requires.ready)))
+
+pub returns-in-Ok-clause-counted : goal.returns-in-Ok-clause-counted
+returns-in-Ok-clause-counted g c =
+    let j = c.args.journal.now in
+    subst (λ (b : Books). HasCounted (calls_left (books_of j)) (calls_left b) c.advance.result) (sym (new_books g c))
+    (subst (HasCounted (calls_left (books_of j)) (calls_left (stepped (books_of j)))) (sym (told g c)) (step_counted (books_of j) (known_of j c.requires.ready)))
+
+pub returns-in-Ok-clause-moved : goal.returns-in-Ok-clause-moved
+returns-in-Ok-clause-moved g c =
+    let j = c.args.journal.now in
+    let some : 0 < length j.groups.items = grind (arith, common_steps, c.is_empty.ensures, c.if-is_empty.false) in
+    inr (c.act.ensures.time.at_most_one, ap (λ (b : Books). b.moment) (new_books g c) ∙ step_moment (books_of j) (known_of j c.requires.ready) some)
+
+pub returns-in-Ok-clause-used : goal.returns-in-Ok-clause-used
+returns-in-Ok-clause-used g c =
+    let j = c.args.journal.now in
+    subst (λ (b : Books). (n : ℕ) → IsVersion b n → used_of b n ≡ used_of (books_of j) n) (sym (new_books g c)) (step_used (books_of j) (known_of j c.requires.ready))

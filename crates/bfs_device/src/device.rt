@@ -1,0 +1,248 @@
+// A device: a disk, and the groups that go into its log and from there home.
+ghost use Rattle.std.specs.Prelude.{◌≡◌, ◌⊎◌, ◌≤◌, ◌<◌, ◌+◌, ◌-◌, ◌*◌, ◌/◌, ◌^◌, ◌==◌, ◌||◌, ◌↔◌, ◌++◌, ◌∷◌, max, ℕ, List, [], length, Bool, IsTrue, OnOk, OnErr, IfOk, IfErr, IfSome, IsSome, Option, Some, None};
+ghost use Rattle.bfs_base.specs.Counts.{HasCause, Rose};
+ghost use Rattle.bfs_base.specs.Moments.{Elapses, Passed};
+ghost use Rattle.bfs_disk.specs.State.{State, Tells, Holds};
+ghost use Rattle.bfs_disk.specs.Disk.{MayLeave, told_written};
+ghost use Rattle.bfs_super.specs.Conditions.{IsValid};
+ghost use Rattle.bfs_log.specs.Replay.{super_of, over};
+ghost use Rattle.bfs_device.specs.Layouts.{IsData, layout_of, homes_in};
+ghost use Rattle.bfs_device.specs.Phases.{none};
+ghost use Rattle.bfs_device.specs.Books.{IsNext, IsOnDisk, IsRight, IsVersion, RecoversOne, AreSame, Books, View, durable_of, sealed_of, version, used_of};
+ghost use Rattle.bfs_device.specs.Steps.{told_front, still_touched, stepped, progress_to, calls_left, IsStepFault, IsUnmoved, HasMoved};
+ghost use Rattle.bfs_device.specs.Told.{HasCalled, HasMarked, HasCounted};
+ghost use Rattle.bfs_device.specs.Data.{newest_in, moved_on, AreRead, IsReadFault, touching, AreSameBut};
+ghost use Rattle.bfs_device.specs.Seals.{adopted, with_room, sealed_with, last_used, calls_of_group};
+
+use crate::data::{read_data, read_newest, write_data};
+use crate::journal::{DeviceFault, Journal, Mark, Phase, Progress};
+use crate::step::step_of;
+use crate::turn::{durable_number, take};
+use bfs_disk::Disk;
+use bfs_super::Super;
+use bfs_txn::Group;
+use std::alloc::{AllocError, Global};
+use std::marker::Model;
+
+/// A disk with a journal: sealed groups of changed blocks wait here, go into the log, become durable, and are written home,
+/// one disk call a step. After a write or a barrier that failed it makes no disk call any more.
+#[derive(Drop)]
+pub struct Device<D: Disk> {
+    disk: D,
+    journal: Journal,
+}
+
+impl<D: Disk> Model for Device<D> {
+    ghost use Rattle.bfs_device.specs.Books.{View, Ready, IsOnDisk, books_of};
+
+    ghost Value = { View D };
+
+    ghost view = { λ d. record { disk = d.disk; books = books_of d.journal } };
+
+    ghost invariant = { λ d. Ready d.journal × IsOnDisk (D.size d.disk) d.journal.sup };
+}
+
+impl<D: Disk> Device<D> {
+    /// Takes a disk whose volume has this superblock, with an empty log. Room for 16 groups, a mark and a block is taken here;
+    /// for want of it the disk is handed back.
+    pub fn adopt(alloc: Global, disk: D, sup: Super) -> Result<Device<D>, D>
+        requires valid { IsValid sup }
+        requires empty { sup.log_start ≡ sup.log_end }
+        requires on_disk { IsOnDisk (D.size disk) sup }
+        ensures ok { IfOk result (λ d. (d.disk ≡ disk) × (d.books ≡ adopted sup)) }
+        ensures err { IfErr result (λ d. d ≡ disk) }
+        ensures right { (image : List ℕ) → Tells (D.state disk) (Holds image) → super_of image ≡ sup → IfOk result (λ d. Tells (D.state disk) (IsRight (adopted sup) none)) }
+    {
+        let Ok(groups) = Vec::with_capacity(alloc, 16) else {
+            return Err(disk);
+        };
+        let Ok(marks) = Vec::with_capacity(alloc, 1) else {
+            return Err(disk);
+        };
+        let Ok(buffer) = vec![in alloc; 0u8; sup.block_size as usize] else {
+            return Err(disk);
+        };
+        let journal = Journal {
+            sup,
+            groups,
+            phase: Phase::Pass,
+            left: 0,
+            marks,
+            spare: 1,
+            moment: 0,
+            stop: None,
+            buffer,
+        };
+        Ok(Device { disk, journal })
+    }
+
+    /// Whether one group more may wait.
+    pub fn may_seal(&self) -> bool
+        ensures { IsTrue result ↔ (length self.now.books.groups < 16) }
+    {
+        self.journal.groups.len() < 16
+    }
+
+    /// Makes room for the marks of two groups more.
+    pub fn room(&mut self) -> Result<(), AllocError>
+        ensures disk { self.new.disk ≡ self.old.disk }
+        ensures ok { OnOk result (self.new.books ≡ with_room self.old.books) }
+        ensures err { OnErr result (self.new.books ≡ self.old.books) }
+    {
+        if self.journal.spare >= 2 {
+            return Ok(());
+        }
+        self.journal.marks.reserve(18)?;
+        self.journal.spare = 2;
+        Ok(())
+    }
+
+    /// Takes a group behind the others. Takes no memory.
+    pub fn seal(&mut self, group: Group)
+        requires may { length self.old.books.groups < 16 }
+        requires spare { 1 ≤ self.old.books.spare }
+        requires next { IsNext (layout_of self.old.books.sup) self.old.books.sup.block_size (sealed_of self.old.books) (last_used self.old.books) group }
+        ensures disk { self.new.disk ≡ self.old.disk }
+        ensures books { self.new.books ≡ sealed_with self.old.books group }
+        ensures right { (t : ℕ → Bool) (s : State) → IsRight self.old.books t s → IsRight self.new.books t s }
+        // The versions stay, and the newest has the group's blocks over the one before it.
+        ensures numbers { (n : ℕ) → IsVersion self.old.books n → IsVersion self.new.books n × (n < group.last) }
+        ensures older { (s : State) (n k : ℕ) → IsVersion self.old.books n → version self.new.books s n k ≡ version self.old.books s n k }
+        ensures newest { (s : State) (k : ℕ) → version self.new.books s group.last k ≡ over (homes_in group.blocks) (version self.old.books s (sealed_of self.old.books)) k }
+        ensures older_used { (n : ℕ) → IsVersion self.old.books n → used_of self.new.books n ≡ used_of self.old.books n }
+        ensures newest_used { used_of self.new.books group.last ≡ group.used }
+        ensures calls { calls_left self.new.books ≤ calls_left self.old.books + calls_of_group (length group.blocks) }
+    {
+        take(&mut self.journal, group);
+    }
+
+    /// Makes the next disk call of the first group, and tells what it did. Takes no memory.
+    pub fn step(&mut self) -> Result<Progress, DeviceFault>
+        ensures size { D.size self.new.disk ≡ D.size self.old.disk }
+        ensures ok { IfOk result (λ p. (self.old.books.stop ≡ None) × (p ≡ progress_to self.old.books.groups self.old.books.phase) × (self.new.books ≡ stepped self.old.books)) }
+        ensures call { OnOk result (D.state self.new.disk ≡ told_front self.old.books.sup self.old.books.groups self.old.books.phase (D.state self.old.disk)) }
+        // The answer tells the disk call, the mark that is stored and the call that is no longer left; Idle comes where no group is.
+        ensures called { IfOk result (HasCalled (layout_of self.old.books.sup) (D.state self.old.disk) (D.state self.new.disk)) }
+        ensures marked { IfOk result (HasMarked self.old.books self.new.books) }
+        ensures counted { IfOk result (HasCounted (calls_left self.old.books) (calls_left self.new.books)) }
+        ensures fault { IfErr result (IsStepFault self.old.books self.new.books (D.faults self.old.disk) (D.faults self.new.disk) (D.stops self.old.disk) (D.stops self.new.disk)) }
+        ensures unmoved { IsUnmoved self.old.books → self.new.disk ≡ self.old.disk }
+        ensures faults { D.faults self.old.disk ≤ D.faults self.new.disk }
+        ensures stops { D.stops self.old.disk ≤ D.stops self.new.disk }
+        ensures moved { HasMoved (D.clock self.old.disk) self.old.books.moment (D.clock self.new.disk) self.new.books.moment }
+        ensures right { (t : ℕ → Bool) (right : Tells (D.state self.old.disk) (IsRight self.old.books t))
+            → OnOk result (Tells (D.state self.new.disk) (λ s. IsRight self.new.books (still_touched self.old.books t) s × AreSame self.old.books right.0 self.new.books s)) }
+        ensures still_right { (t : ℕ → Bool) (right : Tells (D.state self.old.disk) (IsRight self.old.books t))
+            → OnErr result (Tells (D.state self.new.disk) (λ s. IsRight self.new.books t s × AreSame self.old.books right.0 self.new.books s)) }
+        // The versions' used blocks stay too, and on a disk that tells there is exactly one call but where the device is idle.
+        ensures used { (n : ℕ) → IsVersion self.new.books n → used_of self.new.books n ≡ used_of self.old.books n }
+        ensures one { IsSome (D.state self.old.disk) → IfOk result (λ p. (p ≡ Progress.Idle) ⊎ (D.clock self.new.disk ≡ D.clock self.old.disk + 1)) }
+        ensures moments { (t : ℕ → Bool) → Tells (D.state self.old.disk) (IsRight self.old.books t)
+            → Passed (D.clock self.old.disk) (D.clock self.new.disk) (D.since self.old.disk) (D.since self.new.disk) (λ c. Tells (D.state self.old.disk) (λ s. RecoversOne self.old.books t s c)) }
+    {
+        step_of(&mut self.disk, &mut self.journal)
+    }
+
+    /// Reads a block with its newest bytes: those of the newest sealed group that has it, which takes no disk call, else the
+    /// disk's. The slice has a block's length. A read that fails leaves the device usable.
+    pub fn block(&mut self, block: u64, into: &mut [u8]) -> Result<(), DeviceFault>
+        requires below { block < (layout_of self.old.books.sup).blocks }
+        requires long { length into.old ≡ self.old.books.sup.block_size }
+        ensures size { D.size self.new.disk ≡ D.size self.old.disk }
+        ensures ok { OnOk result ((self.old.books.stop ≡ None) × ((self.new.books ≡ self.old.books) ⊎ (self.new.books ≡ moved_on self.old.books))) }
+        ensures sealed { OnOk result (IfSome (newest_in self.old.books.groups block) (λ bytes. (into.new ≡ bytes) × (self.new.disk ≡ self.old.disk))) }
+        ensures bytes { OnOk result (IfSome (D.state self.old.disk) (λ s. into.new ≡ version self.old.books s (sealed_of self.old.books) block)) }
+        ensures fault { IfErr result (IsReadFault self.old.books self.new.books (D.faults self.old.disk) (D.faults self.new.disk)) }
+        ensures unmoved { IsSome self.old.books.stop → self.new.disk ≡ self.old.disk }
+        ensures state { D.state self.new.disk ≡ D.state self.old.disk }
+        ensures faults { D.faults self.old.disk ≤ D.faults self.new.disk }
+        ensures stops { D.stops self.new.disk ≡ D.stops self.old.disk }
+        ensures moved { HasMoved (D.clock self.old.disk) self.old.books.moment (D.clock self.new.disk) self.new.books.moment }
+        ensures right { (t : ℕ → Bool) (s : State) → IsRight self.old.books t s → IsRight self.new.books t s }
+        ensures moments { (t : ℕ → Bool) → Tells (D.state self.old.disk) (IsRight self.old.books t)
+            → Passed (D.clock self.old.disk) (D.clock self.new.disk) (D.since self.old.disk) (D.since self.new.disk) (λ c. Tells (D.state self.old.disk) (λ s. RecoversOne self.old.books t s c)) }
+    {
+        read_newest(&mut self.disk, &mut self.journal, block, into)
+    }
+
+    /// Reads a block as the disk has it, in one disk call. The slice has a block's length. Takes no memory.
+    pub fn data_read(&mut self, block: u64, into: &mut [u8]) -> Result<(), DeviceFault>
+        requires below { block < (layout_of self.old.books.sup).blocks }
+        requires long { length into.old ≡ self.old.books.sup.block_size }
+        ensures size { D.size self.new.disk ≡ D.size self.old.disk }
+        ensures ok { OnOk result ((self.old.books.stop ≡ None) × (self.new.books ≡ moved_on self.old.books)) }
+        ensures bytes { OnOk result (AreRead (D.state self.old.disk) (layout_of self.old.books.sup).sectors block into.new) }
+        ensures fault { IfErr result (IsReadFault self.old.books self.new.books (D.faults self.old.disk) (D.faults self.new.disk)) }
+        ensures unmoved { IsSome self.old.books.stop → self.new.disk ≡ self.old.disk }
+        ensures state { D.state self.new.disk ≡ D.state self.old.disk }
+        ensures faults { D.faults self.old.disk ≤ D.faults self.new.disk }
+        ensures stops { D.stops self.new.disk ≡ D.stops self.old.disk }
+        ensures moved { HasMoved (D.clock self.old.disk) self.old.books.moment (D.clock self.new.disk) self.new.books.moment }
+        ensures right { (t : ℕ → Bool) (s : State) → IsRight self.old.books t s → IsRight self.new.books t s }
+        ensures moments { (t : ℕ → Bool) → Tells (D.state self.old.disk) (IsRight self.old.books t)
+            → Passed (D.clock self.old.disk) (D.clock self.new.disk) (D.since self.old.disk) (D.since self.new.disk) (λ c. Tells (D.state self.old.disk) (λ s. RecoversOne self.old.books t s c)) }
+    {
+        read_data(&mut self.disk, &mut self.journal, block, into)
+    }
+
+    /// Writes one block that no waiting group has, in one disk call. Takes no memory.
+    pub fn data_write(&mut self, block: u64, from: &[u8]) -> Result<(), DeviceFault>
+        requires place { IsData (layout_of self.old.books.sup) block }
+        requires apart { newest_in self.old.books.groups block ≡ None }
+        requires long { length from.now ≡ self.old.books.sup.block_size }
+        ensures size { D.size self.new.disk ≡ D.size self.old.disk }
+        ensures ok { OnOk result ((self.old.books.stop ≡ None) × (self.new.books ≡ moved_on self.old.books)) }
+        ensures call { OnOk result (D.state self.new.disk ≡ told_written (D.state self.old.disk) ((layout_of self.old.books.sup).sectors * block) from.now) }
+        ensures fault { IfErr result (IsStepFault self.old.books self.new.books (D.faults self.old.disk) (D.faults self.new.disk) (D.stops self.old.disk) (D.stops self.new.disk)) }
+        ensures unmoved { IsSome self.old.books.stop → self.new.disk ≡ self.old.disk }
+        ensures faults { D.faults self.old.disk ≤ D.faults self.new.disk }
+        ensures stops { D.stops self.old.disk ≤ D.stops self.new.disk }
+        ensures moved { HasMoved (D.clock self.old.disk) self.old.books.moment (D.clock self.new.disk) self.new.books.moment }
+        ensures right { (t : ℕ → Bool) (right : Tells (D.state self.old.disk) (IsRight self.old.books t))
+            → OnOk result (Tells (D.state self.new.disk) (λ s. IsRight self.new.books (touching block t) s × AreSameBut block self.old.books right.0 self.new.books s)) }
+        ensures still_right { (t : ℕ → Bool) (right : Tells (D.state self.old.disk) (IsRight self.old.books t))
+            → OnErr result (Tells (D.state self.new.disk) (λ s. IsRight self.new.books (touching block t) s × AreSameBut block self.old.books right.0 self.new.books s)) }
+        ensures moments { (t : ℕ → Bool) → Tells (D.state self.old.disk) (IsRight self.old.books t)
+            → Passed (D.clock self.old.disk) (D.clock self.new.disk) (D.since self.old.disk) (D.since self.new.disk) (λ c. Tells (D.state self.old.disk) (λ s. RecoversOne self.old.books (touching block t) s c)) }
+    {
+        write_data(&mut self.disk, &mut self.journal, block, from)
+    }
+
+    /// The number of the last entry that is durable. Each image that a crash leaves now recovers to the version of this number,
+    /// or to that of a later group.
+    pub fn durable(&self) -> u64
+        ensures value { result ≡ durable_of self.now.books }
+        ensures recovers { (t : ℕ → Bool) (right : Tells (D.state self.now.disk) (IsRight self.now.books t)) (image : List ℕ) → MayLeave (D.state self.now.disk) image → RecoversOne self.now.books t right.0 image }
+    {
+        durable_number(&self.journal)
+    }
+
+    /// The number of the last group that has left the log.
+    pub fn left(&self) -> u64
+        ensures { result ≡ self.now.books.left }
+    {
+        self.journal.left
+    }
+
+    /// The disk's count of faults.
+    pub fn faults(&self) -> u64
+        ensures { result ≡ D.faults self.now.disk }
+    {
+        self.disk.faults()
+    }
+
+    /// The marks, the oldest first.
+    pub fn marks(&self) -> &[Mark]
+        ensures { result.now ≡ self.now.books.marks }
+    {
+        self.journal.marks.as_slice()
+    }
+
+    /// The disk.
+    pub fn into_disk(self) -> D
+        ensures { result ≡ self.disk }
+    {
+        let Device { disk, journal: _ } = self;
+        disk
+    }
+}

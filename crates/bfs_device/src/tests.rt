@@ -1,0 +1,539 @@
+// Devices over disks in memory. Each volume is made here by hand, and what a crash leaves is replayed by hand.
+ghost use Rattle.std.specs.Prelude.{◌≡◌, ◌≤◌, ◌<◌, ◌+◌, ◌*◌, ◌/◌, ◌%◌, [], ℕ, length, IsTrue, IfOk, IfSome, OnOk, Some, None};
+ghost use Rattle.bfs_disk.specs.State.{state_of};
+ghost use Rattle.bfs_super.specs.Conditions.{natural, IsValid};
+ghost use Rattle.bfs_txn.specs.Changed.{Ascends, AreOfSize, number_at};
+ghost use Rattle.bfs_device.specs.Layouts.{IsData, layout_of, ring_count};
+ghost use Rattle.bfs_device.specs.Books.{IsNext, IsOnDisk};
+ghost use Rattle.bfs_device.specs.Seals.{adopted};
+
+use crate::calls::log_blocks;
+use crate::{Device, DeviceFault, Mark, Progress};
+use bfs_disk::{Disk, MemDisk};
+use bfs_super::Super;
+use bfs_txn::{Changed, Edits, Group, MemBlocks, Overlay};
+use std::alloc::{AllocError, Global};
+use std::test::Fail;
+
+// Sets some blocks to the same bytes.
+fn set_all<E: Edits>(edits: &mut E, blocks: &[u64], from: &[u8]) -> Result<(), AllocError>
+    requires { length from.now ≡ E.size edits.old }
+    ensures size { E.size edits.new ≡ E.size edits.old }
+    ensures frame { E.frame edits.new ≡ E.frame edits.old }
+{
+    for block in blocks {
+        edits.set(*block, from)?;
+    }
+    Ok(())
+}
+
+// Puts some blocks with the same bytes into an open group.
+fn put_all(
+    open: &mut Changed,
+    under: &mut MemBlocks,
+    blocks: &[u64],
+    from: &[u8],
+) -> Result<(), AllocError>
+    requires ascends { Ascends «open».old }
+    requires sized { AreOfSize (length from.now) «open».old }
+    requires size { under.old.block_size ≡ length from.now }
+    ensures ascends { Ascends «open».new }
+    ensures sized { AreOfSize (length from.now) «open».new }
+{
+    let mut call = Overlay::begin(open, under);
+    let done = set_all(&mut call, blocks, from);
+    call.keep();
+    done
+}
+
+// A group of blocks that are filled with one byte.
+fn group_of(
+    alloc: Global,
+    numbers: [u64; 3],
+    blocks: &[u64],
+    size: usize,
+    fill: u8,
+) -> Result<Group, AllocError>
+    requires { size ≤ 8192 }
+    ensures ascends { IfOk result (λ g. Ascends g.blocks) }
+    ensures sized { IfOk result (λ g. AreOfSize size g.blocks) }
+{
+    let from = vec![in alloc; fill; size]?;
+    let mut open = Changed::new(alloc);
+    let mut under = MemBlocks::new(Vec::new(alloc), size as u32);
+    put_all(&mut open, &mut under, blocks, &from)?;
+    let [first, last, used] = numbers;
+    Ok(Group {
+        first,
+        last,
+        used,
+        blocks: open,
+    })
+}
+
+// Is this a block behind block 0 and outside the log?
+fn is_data(sup: &Super, block: u64) -> bool
+    requires { IsValid sup.now }
+    ensures { IsTrue result → IsData (layout_of sup.now) block }
+{
+    let geometry = sup.geometry();
+    let log = sup.block_of(sup.log_blocks);
+    0 < block
+        && block < geometry.blocks
+        && (block < log || log + u64::from(sup.log_blocks.len) <= block)
+}
+
+fn are_data(sup: &Super, blocks: &Changed) -> bool
+    requires { IsValid sup.now }
+    ensures { IsTrue result → (i : ℕ) → i < length blocks.now → IsData (layout_of sup.now) (number_at blocks.now i) }
+{
+    for i in 0..blocks.len() {
+        if !is_data(sup, blocks.block(i)) {
+            return false;
+        }
+    }
+    true
+}
+
+// May this group be sealed behind the entry of this number?
+fn is_next(sup: &Super, left: u64, used: u64, group: &Group) -> bool
+    requires valid { IsValid sup.now }
+    requires ascends { Ascends group.now.blocks }
+    requires sized { AreOfSize sup.now.block_size group.now.blocks }
+    ensures { IsTrue result → IsNext (layout_of sup.now) sup.now.block_size left used group.now }
+{
+    if group.first == 0 || group.first - 1 != left || group.last < group.first {
+        return false;
+    }
+    if group.used > sup.geometry().blocks || group.blocks.len() >= 65536 {
+        return false;
+    }
+    if log_blocks(&group.blocks) >= usize::from(sup.log_blocks.len) {
+        return false;
+    }
+    if group.blocks.is_empty() && group.used != used {
+        return false;
+    }
+    are_data(sup, &group.blocks)
+}
+
+// The fields of a volume with an empty log at a place. The log is behind the bitmap, and has the root and the indices behind it.
+fn fields(shift: u32, blocks: i64, log_blocks: u16, place: i64) -> Super
+    requires { shift ≤ 13 }
+{
+    let run = |start, len| bfs_bytes::Run {
+        group: 0,
+        start,
+        len,
+    };
+    let size = 1u32 << shift;
+    Super {
+        name: [0; 32],
+        magic1: 0x42465331,
+        fs_byte_order: 0x42494745,
+        block_size: size,
+        block_shift: shift,
+        num_blocks: blocks,
+        used_blocks: 20,
+        inode_size: size as i32,
+        magic2: -586018767,
+        blocks_per_ag: 1,
+        ag_shift: shift as i32 + 3,
+        num_ags: 1,
+        flags: 0x434c454e,
+        log_blocks: run(2, log_blocks),
+        log_start: place,
+        log_end: place,
+        magic3: 0x15b6830e,
+        root_dir: run(log_blocks.wrapping_add(2), 1),
+        indices: run(log_blocks.wrapping_add(3), 1),
+        rest: [0; 380],
+    }
+}
+
+// A volume of zeros with this superblock.
+fn volume(alloc: Global, sup: &Super, length: usize) -> Result<Vec<u8>, AllocError> {
+    let mut bytes = vec![in alloc; 0u8; length]?;
+    let sector = sup.print();
+    if bytes.len() >= 1024 {
+        bytes[512..1024].copy_from_slice(&sector);
+    }
+    Ok(bytes)
+}
+
+// The superblock that a volume has.
+fn found(bytes: &[u8]) -> Option<Super>
+    ensures { IfSome result IsValid }
+{
+    if bytes.len() < 1024 {
+        return None;
+    }
+    let mut sector = [0u8; 512];
+    sector.copy_from_slice(&bytes[512..1024]);
+    match Super::parse(&sector) {
+        Ok(sup) => Some(sup),
+        Err(_) => None,
+    }
+}
+
+// A device over this disk with three groups sealed.
+fn loaded<D: Disk + Drop>(
+    alloc: Global,
+    mut disk: D,
+    sup: Super,
+    one: Group,
+    two: Group,
+    three: Group,
+) -> Option<Device<D>>
+    requires valid { IsValid sup }
+    requires ascends { Ascends one.blocks × Ascends two.blocks × Ascends three.blocks }
+    requires sized { AreOfSize sup.block_size one.blocks × AreOfSize sup.block_size two.blocks × AreOfSize sup.block_size three.blocks }
+{
+    let geometry = sup.geometry();
+    let Ok(sectors) = disk.sectors() else {
+        return None;
+    };
+    let needed = u64::from(geometry.block_size / 512) * geometry.blocks;
+    if sectors < needed || sup.log_start != sup.log_end {
+        return None;
+    }
+    let first = is_next(&sup, 0, geometry.used, &one);
+    let second = is_next(&sup, one.last, one.used, &two);
+    let third = is_next(&sup, two.last, two.used, &three);
+    if !first || !second || !third {
+        return None;
+    }
+    let Ok(mut device) = Device::adopt(alloc, disk, sup) else {
+        return None;
+    };
+    device.seal(one);
+    let Ok(()) = device.room() else {
+        return None;
+    };
+    device.seal(two);
+    device.seal(three);
+    Some(device)
+}
+
+// The three groups of the tests: blocks 16 and 17 with ones, none, and blocks 17 and 18 with threes, on a log of 12 blocks that
+// begins at its block 10. So the array block of the first stands in block 12 of the volume, and its bytes in 13 and 2.
+fn three<D: Disk + Drop>(alloc: Global, disk: D, shift: u32) -> Option<Device<D>>
+    requires { shift ≤ 13 }
+{
+    let Ok(sup) = Super::parse(&fields(shift, 32, 12, 10).print()) else {
+        return None;
+    };
+    let size = sup.block_size as usize;
+    if size > 8192 {
+        return None;
+    }
+    let Ok(one) = group_of(alloc, [1, 2, 22], &[16, 17], size, 1) else {
+        return None;
+    };
+    let Ok(two) = group_of(alloc, [3, 3, 22], &[], size, 1) else {
+        return None;
+    };
+    let Ok(three) = group_of(alloc, [4, 6, 23], &[18, 17], size, 3) else {
+        return None;
+    };
+    loaded(alloc, disk, sup, one, two, three)
+}
+
+// A number of two bytes.
+fn word(image: &[u8], at: usize) -> usize {
+    let low = image.get(at).copied().unwrap_or(0);
+    let high = image.get(at.wrapping_add(1)).copied().unwrap_or(0);
+    usize::from(low) + 256 * usize::from(high)
+}
+
+// The first byte of a block once the log behind block 2 is replayed.
+fn replayed(image: &[u8], size: usize, block: usize) -> u8 {
+    let mut value = image.get(block.wrapping_mul(size)).copied().unwrap_or(0);
+    let ring = word(image, 606);
+    if ring == 0 {
+        return value;
+    }
+    let mut at = word(image, 608) % ring;
+    let end = word(image, 616) % ring;
+    for _ in 0..ring {
+        if at == end {
+            break;
+        }
+        let array = at.wrapping_add(2).wrapping_mul(size);
+        let count = word(image, array);
+        for i in 0..count {
+            at = at.wrapping_add(1) % ring;
+            if word(
+                image,
+                array.wrapping_add(i.wrapping_mul(8)).wrapping_add(12),
+            ) == block
+            {
+                let place = at.wrapping_add(2).wrapping_mul(size);
+                value = image.get(place).copied().unwrap_or(0);
+            }
+        }
+        at = at.wrapping_add(1) % ring;
+    }
+    value
+}
+
+// What replay gives of blocks 16, 17, 18 and of the used blocks.
+fn seen(image: &[u8], size: usize) -> [usize; 4] {
+    [
+        usize::from(replayed(image, size, 16)),
+        usize::from(replayed(image, size, 17)),
+        usize::from(replayed(image, size, 18)),
+        word(image, 568),
+    ]
+}
+
+// Makes so many steps. Tells whether each was made.
+fn step_on<D: Disk>(device: &mut Device<D>, steps: usize) -> bool {
+    for _ in 0..steps {
+        if device.step().is_err() {
+            return false;
+        }
+    }
+    true
+}
+
+// The image that a crash leaves after so many steps, each sector old or new by the pick.
+fn crashed(alloc: Global, shift: u32, steps: usize, pick: u64) -> Result<Vec<u8>, AllocError>
+    requires { shift ≤ 13 }
+{
+    let sup = fields(shift, 32, 12, 10);
+    let bytes = volume(alloc, &sup, 32 << shift)?;
+    if bytes.len() != 512 * (bytes.len() / 512) {
+        return Err(AllocError);
+    }
+    let Some(mut device) = three(alloc, MemDisk::new(alloc, bytes), shift) else {
+        return Err(AllocError);
+    };
+    if !step_on(&mut device, steps) {
+        return Err(AllocError);
+    }
+    device.into_disk().crash(pick)
+}
+
+// What stands after so many steps: the first group from its gate on, the third from its own. While a gate is written and not
+// yet safe, the superblock's sector decides.
+fn expected(steps: usize, newest: bool) -> [usize; 4] {
+    if steps < 5 || (steps == 5 && !newest) {
+        [0, 0, 0, 20]
+    } else if steps < 17 || (steps == 17 && !newest) {
+        [1, 1, 0, 22]
+    } else {
+        [1, 3, 3, 23]
+    }
+}
+
+#[test]
+fn a_crash_after_each_step_leaves_the_durable_groups(rt: HostRuntime) -> Result<(), Fail> {
+    let alloc = rt.alloc();
+    for steps in 0..24usize {
+        for pick in [0, u64::MAX, 0x5555_5555_5555_5555, 0xaaaa_aaaa_aaaa_aaaa] {
+            let image = crashed(alloc, 10, steps, pick)?;
+            assert_eq!(rt; seen(&image, 1024), expected(steps, pick & 2 == 2));
+        }
+    }
+    Ok(())
+}
+
+#[test]
+fn blocks_of_sixteen_sectors_go_the_same_way(rt: HostRuntime) -> Result<(), Fail> {
+    let alloc = rt.alloc();
+    for steps in [4usize, 5, 6, 8, 11, 17, 18, 23] {
+        for pick in [0, u64::MAX] {
+            let image = crashed(alloc, 13, steps, pick)?;
+            assert_eq!(rt; seen(&image, 8192), expected(steps, pick == u64::MAX));
+        }
+    }
+    Ok(())
+}
+
+// A disk in memory with the volume of the tests, which fails at one of its calls, or at none.
+fn failing(alloc: Global, call: u64) -> Result<MemDisk, AllocError> {
+    let bytes = volume(alloc, &fields(10, 32, 12, 10), 32_768)?;
+    if bytes.len() != 512 * (bytes.len() / 512) {
+        return Err(AllocError);
+    }
+    Ok(MemDisk::failing(alloc, bytes, Vec::from_slice(alloc, &[call])?))
+}
+
+#[test]
+fn each_step_tells_its_call_and_stores_its_mark(rt: HostRuntime) -> Result<(), Fail> {
+    let alloc = rt.alloc();
+    let mut device = three(alloc, failing(alloc, 0)?, 10).ok_or("no device")?;
+    let told = [
+        Progress::Logged,
+        Progress::Logged,
+        Progress::Logged,
+        Progress::LogSafe,
+        Progress::Opened,
+        Progress::Durable(2),
+        Progress::Home(16),
+        Progress::Home(17),
+        Progress::HomeSafe,
+        Progress::TailMoved,
+        Progress::TailSafe,
+        Progress::Durable(3),
+        Progress::Logged,
+        Progress::Logged,
+        Progress::Logged,
+        Progress::LogSafe,
+        Progress::Opened,
+        Progress::Durable(6),
+        Progress::Home(17),
+        Progress::Home(18),
+        Progress::HomeSafe,
+        Progress::TailMoved,
+        Progress::TailSafe,
+        Progress::Idle,
+    ];
+    for progress in told {
+        assert_eq!(rt; device.step(), Ok(progress));
+    }
+    let marks = [(6, 2), (12, 3), (18, 6)].map(|(moment, number)| Mark { moment, number });
+    assert_eq!(rt; device.marks(), marks.as_slice());
+    assert_eq!(rt;
+        (device.durable(), device.left(), device.faults()),
+        (6, 6, 0)
+    );
+    Ok(())
+}
+
+// The last entry that is durable after so many steps.
+fn durable_after(steps: u64) -> u64 {
+    if steps < 6 {
+        0
+    } else if steps < 12 {
+        2
+    } else if steps < 18 {
+        3
+    } else {
+        6
+    }
+}
+
+#[test]
+fn a_stop_at_each_disk_call_is_for_good(rt: HostRuntime) -> Result<(), Fail> {
+    let alloc = rt.alloc();
+    for step in 1..24u64 {
+        // The first disk call asks for the sectors.
+        let mut device = three(alloc, failing(alloc, step + 1)?, 10).ok_or("no device")?;
+        for _ in 1..step {
+            assert!(rt; device.step().is_ok());
+        }
+        let failed = DeviceFault::Disk {
+            before: 0,
+            after: 1,
+            stops: true,
+        };
+        let stopped = DeviceFault::Stopped {
+            durable: durable_after(step - 1),
+            faults: 1,
+        };
+        assert_eq!(rt; device.step(), Err(failed));
+        assert_eq!(rt; device.step(), Err(stopped));
+        assert_eq!(rt; device.durable(), durable_after(step - 1));
+        let image = device.into_disk().crash(u64::MAX)?;
+        let found = seen(&image, 1024);
+        let before = expected(step as usize - 1, false);
+        assert!(rt; found == before || found == expected(step as usize, true));
+    }
+    Ok(())
+}
+
+// The image that a crash leaves after so many steps of a group of 130 blocks, on a log of 140 that it wraps round.
+fn wide(alloc: Global, steps: usize, pick: u64) -> Result<Vec<u8>, AllocError> {
+    let mut blocks = [0u64; 130];
+    let mut block = 144u64;
+    for place in &mut blocks {
+        *place = block;
+        block = block.wrapping_add(1);
+    }
+    let bytes = volume(alloc, &fields(10, 280, 140, 100), 286_720)?;
+    if bytes.len() != 512 * (bytes.len() / 512) {
+        return Err(AllocError);
+    }
+    let Ok(sup) = Super::parse(&fields(10, 280, 140, 100).print()) else {
+        return Err(AllocError);
+    };
+    let size = sup.block_size as usize;
+    if size > 8192 {
+        return Err(AllocError);
+    }
+    let one = group_of(alloc, [1, 2, 150], &blocks, size, 5)?;
+    let two = group_of(alloc, [3, 3, 150], &[], size, 0)?;
+    let three = group_of(alloc, [4, 4, 150], &[], size, 0)?;
+    let Some(mut device) = loaded(alloc, MemDisk::new(alloc, bytes), sup, one, two, three) else {
+        return Err(AllocError);
+    };
+    if !step_on(&mut device, steps) {
+        return Err(AllocError);
+    }
+    device.into_disk().crash(pick)
+}
+
+#[test]
+fn a_group_of_130_blocks_takes_two_array_blocks(rt: HostRuntime) -> Result<(), Fail> {
+    let alloc = rt.alloc();
+    // 132 blocks of the log, the barrier behind them, the gate and its barrier; then 130 blocks, and three calls more.
+    for (steps, pick, byte, start, end) in [
+        (134, 0, 0, 100, 100),
+        (134, u64::MAX, 5, 100, 92),
+        (135, 0, 5, 100, 92),
+        (200, 0, 5, 100, 92),
+        (268, 0, 5, 92, 92),
+    ] {
+        let image = wide(alloc, steps, pick)?;
+        for block in [144, 269, 270, 273] {
+            assert_eq!(rt; replayed(&image, 1024, block), byte);
+        }
+        assert_eq!(rt; (word(&image, 608), word(&image, 616)), (start, end));
+    }
+    Ok(())
+}
+
+// Writes a block beside the groups, and reads it in both ways: its first bytes, and whether a group may be sealed.
+fn data_of<D: Disk + Drop>(alloc: Global, mut disk: D) -> Option<(u8, u8, bool)> {
+    let Ok(sup) = Super::parse(&fields(10, 32, 12, 10).print()) else {
+        return None;
+    };
+    let needed = u64::from(sup.block_size / 512).checked_mul(sup.geometry().blocks)?;
+    let Ok(sectors) = disk.sectors() else {
+        return None;
+    };
+    let data = is_data(&sup, 20);
+    if sectors < needed || sup.log_start != sup.log_end || !data {
+        return None;
+    }
+    let Ok(from) = vec![in alloc; 7u8; sup.block_size as usize] else {
+        return None;
+    };
+    let Ok(mut into) = vec![in alloc; 0u8; sup.block_size as usize] else {
+        return None;
+    };
+    let Ok(mut device) = Device::adopt(alloc, disk, sup) else {
+        return None;
+    };
+    let Ok(()) = device.data_write(20, &from) else {
+        return None;
+    };
+    let Ok(()) = device.data_read(20, into.as_mut_slice()) else {
+        return None;
+    };
+    let read = into.first().copied()?;
+    let Ok(()) = device.block(20, into.as_mut_slice()) else {
+        return None;
+    };
+    Some((read, into.first().copied()?, device.may_seal()))
+}
+
+#[test]
+fn a_block_that_was_written_is_read(rt: HostRuntime) -> Result<(), Fail> {
+    let alloc = rt.alloc();
+    assert_eq!(rt; data_of(alloc, failing(alloc, 0)?), Some((7, 7, true)));
+    assert_eq!(rt; data_of(alloc, failing(alloc, 2)?), None);
+    Ok(())
+}

@@ -1,17 +1,6 @@
 #!/bin/sh
 # `label` on a real file of 4,194,304 bytes: the bytes that change, the statuses, and what blkid says.
-set -u
-root=$(dirname "$(dirname "$(readlink -f "$0")")")
-work=$(mktemp -d)
-trap 'rm -rf "$work"' EXIT
-failed=0
-passed=0
-
-check() { # NAME CONDITION..
-    name=$1
-    shift
-    if "$@"; then passed=$((passed + 1)); else failed=$((failed + 1)); echo "label.sh: failed: $name"; fi
-}
+. "$(dirname "$(readlink -f "$0")")/checks.sh"
 
 image=$work/volume.img
 python3 "$root/tests/volume.py" "$image"
@@ -45,7 +34,7 @@ check 'a full output' test $? -eq 6
 if command -v blkid >/dev/null 2>&1; then
     check 'blkid names the new label' sh -c "blkid -p '$image' | grep -q 'LABEL=\"new\"'"
 else
-    echo 'label.sh: skipped: blkid is not installed'
+    skip 'blkid is not installed'
 fi
 # The barrier of the one write is one fsync of the file, behind it.
 if strace -o "$work/calls" true 2>/dev/null; then
@@ -54,7 +43,6 @@ if strace -o "$work/calls" true 2>/dev/null; then
     check 'the write and then one fsync' test "$(grep -o 'write64\|write\|fsync\|fdatasync' "$work/calls" | tail -n 2 | tr '\n' ' ')" = 'write fsync '
     check 'no other fsync' test "$(grep -c 'sync(' "$work/calls")" -eq 1
 else
-    echo 'label.sh: skipped: strace is not installed, or may not trace'
+    skip 'strace is not installed, or may not trace'
 fi
-echo "$passed passed, $failed failed"
-test "$failed" -eq 0
+finish

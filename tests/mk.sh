@@ -1,17 +1,6 @@
 #!/bin/sh
 # `mk` on real files: what is printed, which bytes are written, and what programs that others wrote say of the volume.
-set -u
-root=$(dirname "$(dirname "$(readlink -f "$0")")")
-work=$(mktemp -d)
-trap 'rm -rf "$work"' EXIT
-failed=0
-passed=0
-
-check() { # NAME CONDITION..
-    name=$1
-    shift
-    if "$@"; then passed=$((passed + 1)); else failed=$((failed + 1)); echo "mk.sh: failed: $name"; fi
-}
+. "$(dirname "$(readlink -f "$0")")/checks.sh"
 
 image=$work/volume.img
 said() { # STATUS TEXT WORDS..: bfs prints this and ends so
@@ -55,18 +44,17 @@ for size in 1024 2048 4096 8192; do
     if command -v blkid >/dev/null 2>&1; then
         check "blkid knows it, $size" sh -c "blkid -p '$image' | grep 'TYPE=\"befs\"' | grep -q 'LABEL=\"archive\"'"
     else
-        echo 'mk.sh: skipped: blkid is not installed'
+        skip 'blkid is not installed'
     fi
     if command -v disktype >/dev/null 2>&1; then
         check "disktype knows it, $size" sh -c "disktype '$image' | grep -q 'BeOS BFS (BeFS) file system'"
     else
-        echo 'mk.sh: skipped: disktype is not installed'
+        skip 'disktype is not installed'
     fi
     if command -v grub-fstest >/dev/null 2>&1; then
         check "grub-fstest lists it, $size" sh -c "grub-fstest '$image' ls -- -l '(loop0)' | grep -q 'Filesystem type bfs'"
     else
-        echo 'mk.sh: skipped: grub-fstest is not installed'
+        skip 'grub-fstest is not installed'
     fi
 done
-echo "$passed passed, $failed failed"
-test "$failed" -eq 0
+finish

@@ -1,4 +1,5 @@
 pub mod Calls
+pub mod Dividing
 pub mod Exchange
 pub mod Faulted
 pub mod Good

@@ -1,5 +1,5 @@
 -- What a call makes of the bytes of a stream.
-use Rattle.std.specs.Prelude.{◌≡◌, ◌≢◌, ◌+◌, ◌⊎◌, ℕ, List, length, Option, Some, ◌==◌, if◌then◌else◌}
+use Rattle.std.specs.Prelude.{◌≡◌, ◌≢◌, ◌≤◌, ◌+◌, ◌⊎◌, ℕ, List, length, Option, Some, ◌==◌, if◌then◌else◌}
 use Rattle.bfs_node.specs.declared.header.Header.{Header}
 use Rattle.bfs_node.specs.declared.fault.TreeFault.{TreeFault}
 use Rattle.bfs_node.specs.declared.fault.TreeFault.TheVariants.{Exists, Absent, Damaged, Pages, NoMemory}
@@ -53,3 +53,15 @@ pub record IsTaken (kind : KeyKind) (b c : List ℕ) (q : ℕ) (h : Header) : Ty
 -- a stream has as many bytes, or a page more
 abbrev pub IsGrown : ℕ → ℕ → Type 0
 IsGrown n m = (m ≡ n) ⊎ (m ≡ n + 1024)
+
+-- the page beside is written, where there is one
+pub record BesideSet (b c : List ℕ) (at : ℕ) (page : List ℕ) : Type 0 where
+  pub size : length c ≡ length b
+  pub header : header_in c ≡ header_in b
+  pub pages : (x : ℕ) → 1 ≤ x → page_in c x ≡ (if x == at then page else page_in b x)
+
+-- the two halves of a page, the one beside them and the one above are written
+pub record HalvesSet (b c : List ℕ) (at child right next : ℕ) (above below half beside : List ℕ) : Type 0 where
+  pub size : length c ≡ length b
+  pub header : header_in c ≡ header_in b
+  pub pages : (x : ℕ) → 1 ≤ x → page_in c x ≡ (if x == at then above else if x == next then beside else if x == right then half else if x == child then below else page_in b x)

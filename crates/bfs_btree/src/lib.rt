@@ -1,7 +1,9 @@
 // B+trees over the pages of a stream: find, insert, remove and range as a sorted map.
 #![tactic(auto)]
 
+mod divide;
 mod finding;
+mod halves;
 mod look;
 mod memory;
 mod places;
@@ -9,7 +11,9 @@ mod read;
 mod take;
 mod write;
 
+pub use divide::{divide_interior, divide_leaf, middle_of, put_bound};
 pub use finding::{Found, find, leaf_for};
+pub use halves::{Places, write_halves};
 pub use look::{child_for, look_up, place_for};
 pub use memory::MemPages;
 pub use places::{is_child, is_link, place};

@@ -3,6 +3,7 @@ pub mod Dividing
 pub mod Exchange
 pub mod Faulted
 pub mod Good
+pub mod Halving
 pub mod Inner
 pub mod KeyOrder
 pub mod Later

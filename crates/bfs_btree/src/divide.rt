@@ -1,11 +1,15 @@
 // Divides a full page, and puts the key between into the page above.
-ghost use Rattle.std.specs.Prelude.{◌≡◌, ◌≤◌, ◌<◌, ◌+◌, ◌*◌, ℕ, length, take, drop, IsTrue};
+ghost use Rattle.std.specs.Prelude.{◌≡◌, ◌≤◌, ◌<◌, ◌+◌, ◌*◌, ◌^◌, ℕ, pos, length, take, drop, IsTrue};
 ghost use Rattle.bfs_node.specs.Page.{HasLayout, HasRoom, rows_of, row_in, key_of, value_of, keys_of, links_of};
-ghost use Rattle.bfs_btree.specs.Divided.{weight, bound_rows, bound_last};
+ghost use Rattle.bfs_btree.specs.Divided.{weight, bound_rows, bound_last, IsBetween, IsLeafSplit, IsInteriorSplit, IsRoomy, IsFullPage};
+ghost use Rattle.bfs_btree.specs.Order.{Key};
+ghost use Rattle.bfs_btree.specs.Ways.{KeysAscend};
+ghost use Rattle.bfs_node.specs.Search.{IsSought};
+ghost use Rattle.bfs_node.specs.Page.{IsPage};
 
-use crate::look::child_link;
+use crate::look::{child_link, place_for};
 use bfs_node::{
-    insert_row, overflow_link, remove_row, right_link, row_count, row_key, row_value,
+    KeyKind, insert_row, overflow_link, remove_row, right_link, row_count, row_key, row_value,
     set_left_link, set_overflow_link, set_right_link, set_row_value, split_rows,
 };
 
@@ -88,4 +92,42 @@ pub fn put_bound(page: &mut [u8], i: usize, bound: &[u8], right: i64)
         insert_row(page, i, bound, child);
         set_overflow_link(page, right);
     }
+}
+
+/// Halves a full leaf, and puts the last key of its first half into the page above. Tells whether another key leads to
+/// the first half.
+pub fn halve_leaf(
+    above: &mut [u8],
+    below: &mut [u8],
+    half: &mut [u8],
+    kind: KeyKind,
+    key: &[u8],
+    places: (u64, u64),
+) -> bool
+    requires above { IsPage kind above.old }
+    requires roomy { IsRoomy above.old }
+    requires below { IsPage kind below.old }
+    requires full { IsFullPage below.old }
+    requires half { length half.old ≡ 1024 }
+    requires key { IsSought kind key.now }
+    requires at { places.0 < 2 ^ 63 }
+    requires right { places.1 < 2 ^ 63 }
+    requires some { 1 ≤ places.1 }
+    ensures above { IsPage kind above.new }
+    ensures below { IsPage kind below.new }
+    ensures half { IsPage kind half.new }
+    ensures below_roomy { IsRoomy below.new }
+    ensures half_roomy { IsRoomy half.new }
+    ensures above_left { (links_of above.new).left ≡ (links_of above.old).left }
+    ensures above_right { (links_of above.new).right ≡ (links_of above.old).right }
+    ensures below_links { links_of below.new ≡ record (links_of below.old) { right = pos places.1 } }
+    ensures half_links { links_of half.new ≡ record { left = pos places.0; right = (links_of below.old).right; overflow = (links_of below.old).overflow } }
+    ensures split { KeysAscend kind (rows_of above.old) → KeysAscend kind (rows_of below.old) → (sep : Key) × IsLeafSplit (rows_of below.old) (rows_of below.new) (rows_of half.new) sep × IsBetween kind above.old above.new places.1 key.now sep result }
+{
+    let middle = middle_of(below);
+    let first = place_for(below, kind, key);
+    let place = place_for(above, kind, key);
+    put_bound(above, place, row_key(below, middle), places.1 as i64);
+    divide_leaf(below, half, middle, places.0 as i64, places.1 as i64);
+    first <= middle
 }

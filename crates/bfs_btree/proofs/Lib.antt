@@ -3,11 +3,13 @@ pub mod Dividing
 pub mod Exchange
 pub mod Faulted
 pub mod Good
+pub mod Halved
 pub mod Halving
 pub mod Inner
 pub mod KeyOrder
 pub mod Later
 pub mod Laws
+pub mod LeafCut
 pub mod Looked
 pub mod OfKind
 pub mod Placed

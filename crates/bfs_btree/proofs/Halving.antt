@@ -184,3 +184,8 @@ between kind above new rows p f m right k sep fa fr up h e some is_rows is_last 
     s : (children_in (bound_rows (rows_of above) (links_of above).overflow p sep (pos right)) ≡ keys_split kind (children_in (rows_of above)) (place_of (links_of above).overflow) k sep (place_of (pos right)))
         × (place_of (bound_last (rows_of above) (links_of above).overflow p (pos right)) ≡ last_split kind (children_in (rows_of above)) (place_of (links_of above).overflow) k (place_of (pos right)))
     s = split-keys kind (rows_of above) (links_of above).overflow k p sep (pos right) fa
+
+pub interior-split : (rows left right : List Row) (m : ℕ) (sep : Key) (value : ℤ) → m < length rows → sep ≡ key_of (row_in rows m) → value ≡ value_of (row_in rows m) → left ≡ take m rows → right ≡ drop (suc m) rows → IsInteriorSplit rows left right sep value
+interior-split rows left right m sep value h e v l r = record {
+  rows_are = split_at rows m ([], pos 0) h ∙ ap₂ (λ (s : Key) (w : ℤ). take m rows ++ ((s, w) ∷ drop (suc m) rows)) (sym e) (sym v) ∙ ap₂ (λ (f b : List Row). f ++ ((sep, value) ∷ b)) (sym l) (sym r);
+}

@@ -6,6 +6,7 @@ pub mod Good
 pub mod Halved
 pub mod Halving
 pub mod Inner
+pub mod InnerCut
 pub mod KeyOrder
 pub mod Later
 pub mod Laws

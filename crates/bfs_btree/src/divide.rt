@@ -131,3 +131,41 @@ pub fn halve_leaf(
     divide_leaf(below, half, middle, places.0 as i64, places.1 as i64);
     first <= middle
 }
+
+/// Halves a full interior page, whose middle key goes to the page above. Tells whether another key leads to the first
+/// half.
+pub fn halve_interior(
+    above: &mut [u8],
+    below: &mut [u8],
+    half: &mut [u8],
+    kind: KeyKind,
+    key: &[u8],
+    right: u64,
+) -> bool
+    requires above { IsPage kind above.old }
+    requires roomy { IsRoomy above.old }
+    requires below { IsPage kind below.old }
+    requires full { IsFullPage below.old }
+    requires half { length half.old ≡ 1024 }
+    requires key { IsSought kind key.now }
+    requires right { right < 2 ^ 63 }
+    requires some { 1 ≤ right }
+    ensures above { IsPage kind above.new }
+    ensures below { IsPage kind below.new }
+    ensures half { IsPage kind half.new }
+    ensures below_roomy { IsRoomy below.new }
+    ensures half_roomy { IsRoomy half.new }
+    ensures above_left { (links_of above.new).left ≡ (links_of above.old).left }
+    ensures above_right { (links_of above.new).right ≡ (links_of above.old).right }
+    ensures below_left { (links_of below.new).left ≡ (links_of below.old).left }
+    ensures below_right { (links_of below.new).right ≡ (links_of below.old).right }
+    ensures half_last { (links_of half.new).overflow ≡ (links_of below.old).overflow }
+    ensures split { KeysAscend kind (rows_of above.old) → KeysAscend kind (rows_of below.old) → (sep : Key) × IsInteriorSplit (rows_of below.old) (rows_of below.new) (rows_of half.new) sep (links_of below.new).overflow × IsBetween kind above.old above.new right key.now sep result }
+{
+    let middle = middle_of(below);
+    let first = place_for(below, kind, key);
+    let place = place_for(above, kind, key);
+    put_bound(above, place, row_key(below, middle), right as i64);
+    divide_interior(below, half, middle);
+    first <= middle
+}

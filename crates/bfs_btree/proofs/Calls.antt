@@ -1,5 +1,5 @@
 -- What the calls of an insert come to.
-use Rattle.std.proofs.Common.{◌≡◌, ◌≢◌, ◌≤◌, ◌<◌, ◌+◌, ◌-◌, ℕ, ℤ, suc, List, [], ◌∷◌, Some, None, cond, refl, ap, sym, ◌∙◌, subst, arith}
+use Rattle.std.proofs.Common.{Bool, ◌≡◌, ◌≢◌, ◌≤◌, ◌<◌, ◌+◌, ◌-◌, ℕ, ℤ, suc, List, [], ◌∷◌, Some, None, cond, refl, ap, sym, ◌∙◌, subst, arith}
 use Rattle.bfs_base.specs.Lists.{times}
 use Rattle.bfs_base.specs.declared.kind.KeyKind.{KeyKind}
 use Rattle.bfs_btree.specs.Order.{Key, at_most}
@@ -67,3 +67,17 @@ inserts kind st now new k v at r p loose t fs h some absent =
   where
     off : (x y : ℕ) → times x (y ∷ []) ≡ 0 → x ≢ y
     off x y i = λ e. grind (arith, i, e)
+
+-- a page was taken and the child split in it
+pub steps-halved : (kind : KeyKind) → (st mid new : State) (q at : ℕ) (k : Key) (c next : ℕ) (left : Bool) → Taken st mid q
+    → ((loose : List ℕ) (t : Shape) (fs : List ℕ) (d : ℕ) → Holds kind st loose t fs → suc d ≤ st.levels → place (under kind d t k) ≡ at → place (under kind (suc d) t k) ≡ c)
+    → ((loose : List ℕ) (t : Shape) (fs : List ℕ) (d : ℕ) → Holds kind mid (q ∷ loose) t fs → suc d ≤ mid.levels → place (under kind d t k) ≡ at → place (under kind (suc d) t k) ≡ c
+    → (sep : Key) × SplitOff kind mid new at c k q sep × (at_most kind k sep ≡ left))
+    → cond left c q ≡ next → StepsDown kind st new at k next
+steps-halved kind st mid new q at k c next left tk on cut n loose t fs d h some l e =
+    let a = taken kind st mid loose t fs q h some tk in
+    let l2 : suc d ≤ mid.levels = subst (λ m. suc d ≤ m) (sym tk.2) l in
+    let ec = on loose t fs d h l e in
+    let s = cut loose t a.0 d a.1 l2 e ec in
+    let b = split-step kind mid new q loose t a.0 d k at c s.0 a.1 a.2 l2 e ec s.1 in
+    (b.0, a.0, b.1, b.2, b.3 ∙ ap (λ z. cond z c q) s.2 ∙ n, omega (arith, a.2, s.1.others.size))

@@ -3,6 +3,7 @@ pub mod Dividing
 pub mod Exchange
 pub mod Faulted
 pub mod Good
+pub mod Grown
 pub mod Halved
 pub mod Halving
 pub mod Inner

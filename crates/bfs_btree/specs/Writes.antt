@@ -1,12 +1,15 @@
 -- What a call makes of the bytes of a stream.
-use Rattle.std.specs.Prelude.{◌≡◌, ◌≢◌, ◌≤◌, ◌+◌, ◌⊎◌, ℕ, List, length, Option, Some, ◌==◌, if◌then◌else◌}
+use Rattle.std.specs.Prelude.{◌≡◌, ◌≢◌, ◌≤◌, ◌+◌, ◌⊎◌, ℕ, suc, List, length, Option, Some, ◌==◌, if◌then◌else◌}
 use Rattle.bfs_node.specs.declared.header.Header.{Header}
 use Rattle.bfs_node.specs.declared.fault.TreeFault.{TreeFault}
 use Rattle.bfs_node.specs.declared.fault.TreeFault.TheVariants.{Exists, Absent, Damaged, Pages, NoMemory}
 use Rattle.bfs_txn.specs.Faults.{Counts, AreLater}
 use Rattle.bfs_base.specs.declared.kind.KeyKind.{KeyKind}
-use Rattle.bfs_btree.specs.Changes.{Taken}
-use Rattle.bfs_btree.specs.Trees.{page_in, header_in, state_of}
+use Rattle.bfs_btree.specs.Changes.{Taken, StepsDown}
+use Rattle.bfs_btree.specs.Order.{Key}
+use Rattle.bfs_btree.specs.Shapes.{Shape, place}
+use Rattle.bfs_btree.specs.Ways.{under}
+use Rattle.bfs_btree.specs.Trees.{page_in, header_in, state_of, Holds}
 
 -- where the bytes are told before it, they are told behind it, and stand in this relation
 abbrev pub Makes : Option (List ℕ) → Option (List ℕ) → (List ℕ → List ℕ → Type 0) → Type 0
@@ -47,6 +50,7 @@ IsFailed cause NoMemory = ⊥
 -- a page is taken: the header is this one since, and pages but that one stay
 pub record IsTaken (kind : KeyKind) (b c : List ℕ) (q : ℕ) (h : Header) : Type 0 where
   pub header : header_in c ≡ h
+  pub same_levels : (header_in c).levels ≡ (header_in b).levels
   pub taken : Taken (state_of kind b) (state_of kind c) q
   pub others : (x : ℕ) → x ≢ q → page_in c x ≡ page_in b x
 
@@ -65,3 +69,10 @@ pub record HalvesSet (b c : List ℕ) (at child right next : ℕ) (above below h
   pub size : length c ≡ length b
   pub header : header_in c ≡ header_in b
   pub pages : (x : ℕ) → 1 ≤ x → page_in c x ≡ (if x == at then above else if x == next then beside else if x == right then half else if x == child then below else page_in b x)
+
+-- A step down the way of a key, from a page whose child on that way is this one: the header stays but for its free
+-- pages and the stream's size, and the tree is the same map.
+pub record IsStep (kind : KeyKind) (b c : List ℕ) (at child : ℕ) (k : Key) (next : ℕ) : Type 0 where
+  pub down : ((reached : List ℕ) (t : Shape) (fs : List ℕ) (d : ℕ) → Holds kind (state_of kind b) reached t fs → suc d ≤ (state_of kind b).levels → place (under kind d t k) ≡ at → place (under kind (suc d) t k) ≡ child)
+      → StepsDown kind (state_of kind b) (state_of kind c) at k next
+  pub levels : (header_in c).levels ≡ (header_in b).levels

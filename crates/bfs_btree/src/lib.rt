@@ -3,6 +3,7 @@
 
 mod divide;
 mod finding;
+mod grow;
 mod halves;
 mod look;
 mod memory;

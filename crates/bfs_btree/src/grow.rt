@@ -123,3 +123,55 @@ fn split_leaf<P: Pages, L: Ledger>(
         Err(fault) => Err(fault),
     }
 }
+
+/// Splits a full interior page, and answers the half that a key leads to.
+fn split_interior<P: Pages, L: Ledger>(
+    pages: &mut P,
+    kind: KeyKind,
+    key: &[u8],
+    at: (u64, u64),
+    above: &mut [u8],
+    below: &mut [u8],
+    steps: &mut Steps<L>,
+) -> Result<u64, TreeFault<P::Fault>>
+    requires kind { IsTreeKind kind }
+    requires key { IsSought kind key.now }
+    requires at { IsChild (P.size pages.old) at.0 }
+    requires child { IsChild (P.size pages.old) at.1 }
+    requires above { IsPage kind above.old }
+    requires roomy { IsRoomy above.old }
+    requires below { IsPage kind below.old }
+    requires interior { IsInteriorPage kind (P.size pages.old) below.old }
+    requires full { IsFullPage below.old }
+    requires told_above { IfSome (P.told pages.old) (λ b. above.old ≡ page_in b at.0) }
+    requires told_below { IfSome (P.told pages.old) (λ b. below.old ≡ page_in b at.1) }
+    ensures next { IfOk result (IsChild (P.size pages.new)) }
+    ensures step { IfOk result (λ next. Makes (P.told pages.old) (P.told pages.new) (λ b c. IsStep kind b c at.0 at.1 key.now next)) }
+    ensures size { OnOk result (IsGrown (P.size pages.old) (P.size pages.new)) }
+    ensures refused { IfErr result (IsRefused kind (P.told pages.new) (P.is_cause pages.old pages.new)) }
+    ensures spared { (b reached : List ℕ) (t : Shape) (fs : List ℕ) → P.told pages.old ≡ Some b → IsTree kind b reached t fs → IfErr result IsSpared }
+    ensures kept { Kept (P.counts pages.old) (P.counts pages.new) (P.frame pages.old) (P.frame pages.new) (P.goes_on pages.old pages.new) }
+{
+    let right = match take_page(pages, kind, steps) {
+        Ok(fresh) => fresh.page,
+        Err(fault) => return Err(fault),
+    };
+    let mut half = [0u8; PAGE];
+    let left = halve_interior(above, below, &mut half, kind, key, right);
+    let places = Places {
+        above: at.0,
+        below: at.1,
+        right,
+        next: 0,
+    };
+    match write_halves(pages, places, above, below, &half, &half) {
+        Ok(()) => {
+            if left {
+                Ok(at.1)
+            } else {
+                Ok(right)
+            }
+        }
+        Err(fault) => Err(fault),
+    }
+}

@@ -1,4 +1,5 @@
 pub mod Calls
+pub mod Descending
 pub mod Dividing
 pub mod Exchange
 pub mod Faulted

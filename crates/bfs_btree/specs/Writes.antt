@@ -9,7 +9,7 @@ use Rattle.bfs_btree.specs.Changes.{Taken, StepsDown}
 use Rattle.bfs_btree.specs.Order.{Key}
 use Rattle.bfs_btree.specs.Shapes.{Shape, place}
 use Rattle.bfs_btree.specs.Ways.{under}
-use Rattle.bfs_btree.specs.Trees.{page_in, header_in, state_of, Holds}
+use Rattle.bfs_btree.specs.Trees.{page_in, header_in, state_of, Holds, IsTreeHeader}
 
 -- where the bytes are told before it, they are told behind it, and stand in this relation
 abbrev pub Makes : Option (List ℕ) → Option (List ℕ) → (List ℕ → List ℕ → Type 0) → Type 0
@@ -76,3 +76,11 @@ pub record IsStep (kind : KeyKind) (b c : List ℕ) (at child : ℕ) (k : Key) (
   pub down : ((reached : List ℕ) (t : Shape) (fs : List ℕ) (d : ℕ) → Holds kind (state_of kind b) reached t fs → suc d ≤ (state_of kind b).levels → place (under kind d t k) ≡ at → place (under kind (suc d) t k) ≡ child)
       → StepsDown kind (state_of kind b) (state_of kind c) at k next
   pub levels : (header_in c).levels ≡ (header_in b).levels
+  pub header : IsTreeHeader kind (length b) (header_in b) → IsTreeHeader kind (length c) (header_in c)
+
+-- A step down the way of a key, from this page: the header stays but for its free pages and the stream's size, and the
+-- tree is the same map.
+pub record IsDown (kind : KeyKind) (b c : List ℕ) (at : ℕ) (k : Key) (next : ℕ) : Type 0 where
+  pub down : StepsDown kind (state_of kind b) (state_of kind c) at k next
+  pub levels : (header_in c).levels ≡ (header_in b).levels
+  pub header : IsTreeHeader kind (length b) (header_in b) → IsTreeHeader kind (length c) (header_in c)

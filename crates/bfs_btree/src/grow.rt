@@ -66,7 +66,7 @@ fn mend_left(page: &mut [u8], left: u64)
 }
 
 /// Splits a full leaf, and answers the half that a key leads to.
-fn split_leaf<P: Pages, L: Ledger>(
+pub fn split_leaf<P: Pages, L: Ledger>(
     pages: &mut P,
     kind: KeyKind,
     key: &[u8],
@@ -125,7 +125,7 @@ fn split_leaf<P: Pages, L: Ledger>(
 }
 
 /// Splits a full interior page, and answers the half that a key leads to.
-fn split_interior<P: Pages, L: Ledger>(
+pub fn split_interior<P: Pages, L: Ledger>(
     pages: &mut P,
     kind: KeyKind,
     key: &[u8],

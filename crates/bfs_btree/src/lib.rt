@@ -1,6 +1,7 @@
 // B+trees over the pages of a stream: find, insert, remove and range as a sorted map.
 #![tactic(auto)]
 
+mod descend;
 mod divide;
 mod finding;
 mod grow;
@@ -12,6 +13,7 @@ mod read;
 mod take;
 mod write;
 
+pub use descend::{is_roomy, step_down};
 pub use divide::{divide_interior, divide_leaf, middle_of, put_bound};
 pub use finding::{Found, find, leaf_for};
 pub use halves::{Places, write_halves};

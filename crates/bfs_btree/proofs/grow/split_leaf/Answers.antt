@@ -6,7 +6,7 @@ use Rattle.bfs_txn.specs.Pages.{HasLength}
 use Rattle.bfs_btree.specs.Answers.{IsChild, IsLink, IsLeafPage}
 use Rattle.bfs_base.specs.Lists.{times}
 use Rattle.bfs_btree.specs.Shapes.{Shape, place, leaves_of}
-use Rattle.bfs_btree.specs.Trees.{state_of, place_of, page_in, neighbours_in, header_in}
+use Rattle.bfs_btree.specs.Trees.{state_of, place_of, page_in, neighbours_in, header_in, IsTreeHeader}
 use Rattle.bfs_btree.proofs.Faulted.{of-pages, pages-spared, failed-refused, failed-spared}
 use Rattle.bfs_btree.proofs.Grown.{grown-child, grown-link}
 use Rattle.bfs_btree.proofs.OfKind.{if_some, leaf-page, leaf-any, next-in}
@@ -86,6 +86,8 @@ returns-then-left-clause-step g c b e =
           reached t fs d tree level way way_on)
           refl;
       levels = ap (λ (z : Header). z.levels) set.2.header ∙ tk.2.same_levels;
+      header = λ h. subst (λ (z : Header). IsTreeHeader c.args.kind (length set.0) z) (sym (set.2.header ∙ tk.2.header))
+          (subst (λ (m : ℕ). IsTreeHeader c.args.kind m c.in-Ok-take_page.fresh.header) (sym (set.2.size ∙ size0)) c.in-Ok-take_page.ensures.header.tree);
     })
 
 pub returns-else-left-clause-next : goal.returns-else-left-clause-next
@@ -125,4 +127,6 @@ returns-else-left-clause-step g c b e =
           reached t fs d tree level way way_on)
           refl;
       levels = ap (λ (z : Header). z.levels) set.2.header ∙ tk.2.same_levels;
+      header = λ h. subst (λ (z : Header). IsTreeHeader c.args.kind (length set.0) z) (sym (set.2.header ∙ tk.2.header))
+          (subst (λ (m : ℕ). IsTreeHeader c.args.kind m c.in-Ok-take_page.fresh.header) (sym (set.2.size ∙ size0)) c.in-Ok-take_page.ensures.header.tree);
     })

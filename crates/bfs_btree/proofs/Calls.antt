@@ -4,13 +4,14 @@ use Rattle.bfs_base.specs.Lists.{times}
 use Rattle.bfs_base.specs.declared.kind.KeyKind.{KeyKind}
 use Rattle.bfs_btree.specs.Order.{Key, at_most}
 use Rattle.bfs_btree.specs.Maps.{assoc, put}
-use Rattle.bfs_btree.specs.Shapes.{leaf_body, Shape, leaf_shape, node_shape, last_shape, place, tree_rows, IsDeep, Stands}
+use Rattle.bfs_btree.specs.Shapes.{leaf_body, Shape, leaf_shape, node_shape, last_shape, place, tree_rows, entries_of, AscendAll, IsDeep, Stands}
 use Rattle.bfs_btree.specs.Changes.{child_in, Taken, SplitOff, RowPut, Rooted, StepsDown, Heightens, Inserts}
 use Rattle.bfs_btree.specs.Trees.{State, Holds}
 use Rattle.bfs_btree.specs.Ways.{under, instead}
 use Rattle.bfs_btree.proofs.Exchange.{stands-under}
 use Rattle.bfs_btree.proofs.Inner.{put-row, grow-root}
 use Rattle.bfs_btree.proofs.Looked.{leaf-value}
+use Rattle.bfs_btree.proofs.OfKind.{rows-ascend, under-ascends}
 use Rattle.bfs_btree.proofs.Steps.{deep-under, leaf-of, child-at, taken, split-step}
 
 pub heightens : (kind : KeyKind) → (st mid new : State) (q : ℕ) → Taken st mid q → Rooted mid new q → Heightens kind st new
@@ -62,7 +63,7 @@ inserts kind st now new k v at r p loose t fs h some absent =
       levels = p.levels;
       free = p.free;
       size = p.size;
-    }) (p.leaf f.0 s) p.links in
+    }) (p.leaf f.0 s (rows-ascend kind f.0 (subst (λ u. AscendAll kind (entries_of u)) f.1 (under-ascends kind a.2 a.0 k a.3.ascends)))) p.links in
     (instead kind a.2 a.0 k (leaf_shape at (put kind f.0 k v)), a.1, b.0, b.1 ∙ ap (λ w. put kind w k v) a.4)
   where
     off : (x y : ℕ) → times x (y ∷ []) ≡ 0 → x ≢ y

@@ -17,6 +17,7 @@ pub mod Looked
 pub mod OfKind
 pub mod Placed
 pub mod Reading
+pub mod RowPuts
 pub mod Sorted
 pub mod Splice
 pub mod Split

@@ -1,15 +1,16 @@
 -- What a call makes of the bytes of a stream.
-use Rattle.std.specs.Prelude.{◌≡◌, ◌≢◌, ◌≤◌, ◌+◌, ◌⊎◌, ℕ, suc, List, length, Option, Some, ◌==◌, if◌then◌else◌}
+use Rattle.std.specs.Prelude.{◌≡◌, ◌≢◌, ◌≤◌, ◌+◌, ◌⊎◌, ℕ, ℤ, suc, List, length, Option, Some, ◌==◌, if◌then◌else◌}
 use Rattle.bfs_node.specs.declared.header.Header.{Header}
 use Rattle.bfs_node.specs.declared.fault.TreeFault.{TreeFault}
 use Rattle.bfs_node.specs.declared.fault.TreeFault.TheVariants.{Exists, Absent, Damaged, Pages, NoMemory}
 use Rattle.bfs_txn.specs.Faults.{Counts, AreLater}
 use Rattle.bfs_base.specs.declared.kind.KeyKind.{KeyKind}
-use Rattle.bfs_btree.specs.Changes.{Taken, StepsDown}
+use Rattle.bfs_btree.specs.Changes.{Taken, StepsDown, RowPut, Heightens}
+use Rattle.bfs_btree.specs.Divided.{IsFullPage}
 use Rattle.bfs_btree.specs.Order.{Key}
 use Rattle.bfs_btree.specs.Shapes.{Shape, place}
 use Rattle.bfs_btree.specs.Ways.{under}
-use Rattle.bfs_btree.specs.Trees.{page_in, header_in, state_of, Holds, IsTreeHeader}
+use Rattle.bfs_btree.specs.Trees.{page_in, header_in, state_of, place_of, Holds, IsTreeHeader}
 
 -- where the bytes are told before it, they are told behind it, and stand in this relation
 abbrev pub Makes : Option (List ℕ) → Option (List ℕ) → (List ℕ → List ℕ → Type 0) → Type 0
@@ -84,3 +85,20 @@ pub record IsDown (kind : KeyKind) (b c : List ℕ) (at : ℕ) (k : Key) (next :
   pub down : StepsDown kind (state_of kind b) (state_of kind c) at k next
   pub levels : (header_in c).levels ≡ (header_in b).levels
   pub header : IsTreeHeader kind (length b) (header_in b) → IsTreeHeader kind (length c) (header_in c)
+
+-- a row comes into a leaf, and the header stays
+pub record IsPut (kind : KeyKind) (b c : List ℕ) (at : ℕ) (k : Key) (v : ℤ) : Type 0 where
+  pub row : RowPut kind (state_of kind b) (state_of kind c) at k v
+  pub header : header_in c ≡ header_in b
+  pub size : length c ≡ length b
+
+-- The tree is the same map, with this page for its root and so many levels.
+pub record IsTop (kind : KeyKind) (b c : List ℕ) (root levels : ℕ) : Type 0 where
+  pub heightens : Heightens kind (state_of kind b) (state_of kind c)
+  pub root_is : place_of (header_in c).root_pointer ≡ root
+  pub levels_are : (header_in c).levels ≡ levels
+  pub header : IsTreeHeader kind (length b) (header_in b) → IsTreeHeader kind (length c) (header_in c)
+
+-- the levels are as many as before, or where fewer than 272 bytes of the root were free, one more
+abbrev pub HasRisen : List ℕ → ℕ → Type 0
+HasRisen b levels = (levels ≡ (header_in b).levels) ⊎ ((levels ≡ (header_in b).levels + 1) × IsFullPage (page_in b (place_of (header_in b).root_pointer)))

@@ -16,6 +16,7 @@ pub mod LeafCut
 pub mod Looked
 pub mod OfKind
 pub mod Placed
+pub mod Raised
 pub mod Reading
 pub mod RowPuts
 pub mod Sorted

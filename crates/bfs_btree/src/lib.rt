@@ -12,6 +12,7 @@ mod places;
 mod putting;
 mod read;
 mod take;
+mod top;
 mod write;
 
 pub use descend::{is_roomy, step_down};
@@ -24,6 +25,7 @@ pub use places::{is_child, is_link, place};
 pub use putting::put_row;
 pub use read::{read_header, read_interior, read_leaf};
 pub use take::{Fresh, take_page};
+pub use top::{Top, reach_top};
 pub use write::{add_page, write_header, write_page};
 
 #[cfg(test)]

@@ -1,5 +1,5 @@
 // Where the way of a key begins: the root, or where that is full, a new page above it.
-ghost use Rattle.std.specs.Prelude.{◌≡◌, ◌≤◌, ◌<◌, ◌+◌, ◌×◌, ℕ, List, Some, length, OnOk, IfOk, IfErr, IfSome};
+ghost use Rattle.std.specs.Prelude.{◌≡◌, ◌≤◌, ◌<◌, ◌+◌, ℕ, List, Some, length, OnOk, IfOk, IfErr, IfSome};
 ghost use Rattle.bfs_base.specs.Keys.{IsTreeKind};
 ghost use Rattle.bfs_node.specs.Page.{IsPage};
 ghost use Rattle.bfs_btree.specs.Answers.{IsChild, IsHeaderFor, IsUnread, IsRefused, IsSpared};

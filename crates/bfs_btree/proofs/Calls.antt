@@ -5,7 +5,7 @@ use Rattle.bfs_base.specs.declared.kind.KeyKind.{KeyKind}
 use Rattle.bfs_btree.specs.Order.{Key, at_most}
 use Rattle.bfs_btree.specs.Maps.{assoc, put}
 use Rattle.bfs_btree.specs.Shapes.{leaf_body, Shape, leaf_shape, node_shape, last_shape, place, tree_rows, entries_of, AscendAll, IsDeep, Stands}
-use Rattle.bfs_btree.specs.Changes.{child_in, Taken, SplitOff, RowPut, Rooted, StepsDown, Heightens, Inserts}
+use Rattle.bfs_btree.specs.Changes.{child_in, Taken, SplitOff, RowPut, Rooted, StepsDown, Heightens, Reaches, Inserts}
 use Rattle.bfs_btree.specs.Trees.{State, Holds}
 use Rattle.bfs_btree.specs.Ways.{under, instead}
 use Rattle.bfs_btree.proofs.Exchange.{stands-under}
@@ -30,11 +30,6 @@ steps-split kind st mid new q at k c sep next tk is s n loose t fs d h some l e 
     let a = taken kind st mid loose t fs q h some tk in
     let b = split-step kind mid new q loose t a.0 d k at c sep a.1 a.2 (subst (λ m. suc d ≤ m) (sym tk.2) l) e (child-at kind st loose t fs d k at c h l e is) s in
     (b.0, a.0, b.1, b.2, b.3 ∙ n, omega (arith, a.2, s.others.size))
-
--- so far down: the same map, and the key's way leads to this page
-abbrev pub Reaches : KeyKind → State → State → Key → ℕ → ℕ → Type 0
-Reaches kind st now k at left = (loose : List ℕ) (t : Shape) (fs : List ℕ) → Holds kind st loose t fs → 1 ≤ st.size
-    → (t2 : Shape) × (fs2 : List ℕ) × (d : ℕ) × Holds kind now loose t2 fs2 × (tree_rows t2 ≡ tree_rows t) × (1 ≤ now.size) × (d + left ≡ now.levels) × (place (under kind d t2 k) ≡ at)
 
 pub reaches-root : (kind : KeyKind) → (st now : State) (k : Key) (at left : ℕ) → Heightens kind st now → at ≡ now.root → left ≡ now.levels → Reaches kind st now k at left
 reaches-root kind st now k at left g e l loose t fs h some =

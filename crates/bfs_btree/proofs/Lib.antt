@@ -26,4 +26,5 @@ pub mod Steps
 pub mod Taking
 pub mod UpTo
 pub mod Way
+pub mod WayDown
 pub mod Written

@@ -121,6 +121,11 @@ abbrev pub Heightens : KeyKind → State → State → Type 0
 Heightens kind st new = (reached : List ℕ) (t : Shape) (fs : List ℕ) → Holds kind st reached t fs → 1 ≤ st.size
     → (t2 : Shape) × (fs2 : List ℕ) × Holds kind new reached t2 fs2 × (tree_rows t2 ≡ tree_rows t) × (1 ≤ new.size)
 
+-- the tree is the same map, and a key's way leads to this page, from which it goes down so many levels
+abbrev pub Reaches : KeyKind → State → State → Key → ℕ → ℕ → Type 0
+Reaches kind st now k at left = (reached : List ℕ) (t : Shape) (fs : List ℕ) → Holds kind st reached t fs → 1 ≤ st.size
+    → (t2 : Shape) × (fs2 : List ℕ) × (d : ℕ) × Holds kind now reached t2 fs2 × (tree_rows t2 ≡ tree_rows t) × (1 ≤ now.size) × (d + left ≡ now.levels) × (place (under kind d t2 k) ≡ at)
+
 abbrev pub Inserts : KeyKind → State → State → Key → ℤ → Type 0
 Inserts kind st new k v = (reached : List ℕ) (t : Shape) (fs : List ℕ) → Holds kind st reached t fs → 1 ≤ st.size → assoc kind (tree_rows t) k ≡ None
     → (t2 : Shape) × (fs2 : List ℕ) × Holds kind new reached t2 fs2 × (tree_rows t2 ≡ put kind (tree_rows t) k v)

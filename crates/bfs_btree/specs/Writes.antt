@@ -5,7 +5,7 @@ use Rattle.bfs_node.specs.declared.fault.TreeFault.{TreeFault}
 use Rattle.bfs_node.specs.declared.fault.TreeFault.TheVariants.{Exists, Absent, Damaged, Pages, NoMemory}
 use Rattle.bfs_txn.specs.Faults.{Counts, AreLater}
 use Rattle.bfs_base.specs.declared.kind.KeyKind.{KeyKind}
-use Rattle.bfs_btree.specs.Changes.{Taken, StepsDown, RowPut, Heightens}
+use Rattle.bfs_btree.specs.Changes.{Taken, StepsDown, RowPut, Heightens, Reaches}
 use Rattle.bfs_btree.specs.Divided.{IsFullPage}
 use Rattle.bfs_btree.specs.Order.{Key}
 use Rattle.bfs_btree.specs.Shapes.{Shape, place}
@@ -102,3 +102,9 @@ pub record IsTop (kind : KeyKind) (b c : List ℕ) (root levels : ℕ) : Type 0 
 -- the levels are as many as before, or where fewer than 272 bytes of the root were free, one more
 abbrev pub HasRisen : List ℕ → ℕ → Type 0
 HasRisen b levels = (levels ≡ (header_in b).levels) ⊎ ((levels ≡ (header_in b).levels + 1) × IsFullPage (page_in b (place_of (header_in b).root_pointer)))
+
+-- A key's way leads to this page, from which it goes down so many levels, and the tree is the same map.
+pub record IsWay (kind : KeyKind) (b c : List ℕ) (k : Key) (at left : ℕ) : Type 0 where
+  pub reaches : Reaches kind (state_of kind b) (state_of kind c) k at left
+  pub header : IsTreeHeader kind (length b) (header_in b) → IsTreeHeader kind (length c) (header_in c)
+  pub risen : HasRisen b (header_in c).levels

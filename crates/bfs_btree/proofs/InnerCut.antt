@@ -68,9 +68,6 @@ last-of_two P kind (c ∷ cs) last k q l r = by_test (at_most kind k c.0) (last-
 child-two_or_more : (n x : ℕ) → IsChild n x → 2 ≤ x
 child-two_or_more n x h = grind (arith, h.0, h.1)
 
-
-
-
 module _ (kind : KeyKind) (b c0 c : List ℕ) (at child right : ℕ) (A A2 B B2 H N2 : List ℕ) (k : Key) (left : Bool) (h : Header) (taken : IsTaken kind b c0 right h) (set : HalvesSet c0 c at child right 0 A2 B2 H N2) (hA : A ≡ page_in b at) (hB : B ≡ page_in b child) (innerB : IsInteriorPage kind (length b) B) (pA2 : IsPage kind A2) (pB2 : IsPage kind B2) (pH : IsPage kind H) (roomB : IsRoomy B2) (roomH : IsRoomy H) (linksA : neighbours_in A2 ≡ neighbours_in A) (leftB : (links_of B2).left ≡ (links_of B).left) (rightB : (links_of B2).right ≡ (links_of B).right) (lastH : (links_of H).overflow ≡ (links_of B).overflow) (placed : IsChild (length c0) right) (halves : KeysAscend kind (rows_of A) → KeysAscend kind (rows_of B) → (sep : Key) × IsInteriorSplit (rows_of B) (rows_of B2) (rows_of H) sep (links_of B2).overflow × IsBetween kind A A2 right k sep left) (reached : List ℕ) (t : Shape) (fs : List ℕ) (d : ℕ) (tree : Holds kind (state_of kind c0) (right ∷ reached) t fs) (level : suc d ≤ (state_of kind c0).levels) (on_way : place (under kind d t k) ≡ at) (way_on : place (under kind (suc d) t k) ≡ child) where
   once : (x : ℕ) → times x (met_by t) + times x (right ∷ reached) + times x fs ≤ 1
   once x = met-once (state_of kind c0) (right ∷ reached) t fs tree.built x
@@ -230,14 +227,15 @@ module _ (kind : KeyKind) (b c0 c : List ℕ) (at child right : ℕ) (A A2 B B2 
       ap (body_in kind) (set-below set child_places.0 child_not_at child_not_zero (not_right child in_child)) ∙ says-inner kind B2 pB2 (child-two_or_more (length b) (place_of (links_of B2).overflow) middle) in
       let right_big : 2 ≤ place_of (links_of H).overflow = subst (λ z. 2 ≤ place_of z) (sym lastH) (child-two_or_more (length b) (place_of (links_of B).overflow) innerB.last) in
       let right_body : (state_of kind c).bodies right ≡ Some (inner_body (children_in (rows_of H)) (place_of (links_of B).overflow)) =
-      ap (body_in kind) (set-right set placed.0 right_not_at right_not_zero) ∙ says-inner kind H pH right_big ∙ ap (λ z. Some (inner_body (children_in (rows_of H)) (place_of z))) lastH in
-      (w.0,
-      record {
-        others = others;
-        parent = parent w.0 w.2;
-        child = subst (λ z. SplitChild (state_of kind c0) (state_of kind c) child right w.0 z) (sym body_child)
-            (children_in (rows_of B2), place_of (links_of B2).overflow, children_in (rows_of H), apart, left_body, right_body, links_others);
-        left_room = ap full_of left_body ∙ roomy-inner (rows_of B2) (place_of (links_of B2).overflow) B2 refl roomB;
-        right_room = ap full_of right_body ∙ roomy-inner (rows_of H) (place_of (links_of B).overflow) H refl roomH;
-      },
-      w.2.way)
+      ap (body_in kind) (set-right set placed.0 right_not_at right_not_zero) ∙ says-inner kind H pH right_big ∙ ap (λ z. Some (inner_body (children_in (rows_of H)) (place_of z))) lastH in (
+        w.0,
+        record {
+          others = others;
+          parent = parent w.0 w.2;
+          child = subst (λ z. SplitChild (state_of kind c0) (state_of kind c) child right w.0 z) (sym body_child)
+              (children_in (rows_of B2), place_of (links_of B2).overflow, children_in (rows_of H), apart, left_body, right_body, links_others);
+          left_room = ap full_of left_body ∙ roomy-inner (rows_of B2) (place_of (links_of B2).overflow) B2 refl roomB;
+          right_room = ap full_of right_body ∙ roomy-inner (rows_of H) (place_of (links_of B).overflow) H refl roomH;
+        },
+        w.2.way,
+      )

@@ -288,14 +288,15 @@ module _ (kind : KeyKind) (b c0 c : List ℕ) (at child right next : ℕ) (A A2 
       let left_body : (state_of kind c).bodies child ≡ Some (leaf_body (rows_of B2)) =
       ap (body_in kind) (set-below set child_places.0 child_not_at child_not_next (not_right child in_child)) ∙ says-leaf kind B2 pB2 (ap (λ (l : Links). l.overflow) linksB ∙ leafB.overflow) in
       let right_body : (state_of kind c).bodies right ≡ Some (leaf_body (rows_of H)) =
-      ap (body_in kind) (set-right set placed.0 right_not_at right_not_next) ∙ says-leaf kind H pH (ap (λ (l : Links). l.overflow) linksH ∙ leafB.overflow) in
-      (w.0,
-      record {
-        others = others;
-        parent = parent w.0 w.2;
-        child = subst (λ z. SplitChild (state_of kind c0) (state_of kind c) child right w.0 z) (sym body_child)
-            (w.1.front, w.1.value, w.1.next.0, w.1.next.1, w.1.back, w.1.rows_are, left_body ∙ ap (λ l. Some (leaf_body l)) w.1.left_are, right_body ∙ ap (λ l. Some (leaf_body l)) w.1.right_are, split_links);
-        left_room = ap full_of left_body ∙ roomy-leaf (rows_of B2) B2 refl roomB;
-        right_room = ap full_of right_body ∙ roomy-leaf (rows_of H) H refl roomH;
-      },
-      w.2.way)
+      ap (body_in kind) (set-right set placed.0 right_not_at right_not_next) ∙ says-leaf kind H pH (ap (λ (l : Links). l.overflow) linksH ∙ leafB.overflow) in (
+        w.0,
+        record {
+          others = others;
+          parent = parent w.0 w.2;
+          child = subst (λ z. SplitChild (state_of kind c0) (state_of kind c) child right w.0 z) (sym body_child)
+              (w.1.front, w.1.value, w.1.next.0, w.1.next.1, w.1.back, w.1.rows_are, left_body ∙ ap (λ l. Some (leaf_body l)) w.1.left_are, right_body ∙ ap (λ l. Some (leaf_body l)) w.1.right_are, split_links);
+          left_room = ap full_of left_body ∙ roomy-leaf (rows_of B2) B2 refl roomB;
+          right_room = ap full_of right_body ∙ roomy-leaf (rows_of H) H refl roomH;
+        },
+        w.2.way,
+      )

@@ -34,15 +34,15 @@ raised kind b b0 b1 c q h h2 page tk set hs good child layout rows last magic no
     root_is = root_q;
     levels_are = ap (λ (z : Header). z.levels) hs.header ∙ levels;
     header = λ i. subst (λ (z : Header). IsTreeHeader kind (length c) z) (sym hs.header) (record {
-          header = record {
-            magic_is = magic ∙ good.tree.header.magic_is;
-            size = node ∙ good.tree.header.size;
-            kind = subst (λ (n : ℕ). n ≤ 4) (sym type) good.tree.header.kind;
-          };
-          kind_is = type ∙ good.tree.kind_is;
-          levels = subst (λ (n : ℕ). 1 ≤ n) (sym levels) (omega arith);
-          maximum = most ∙ good.tree.maximum ∙ ap pos (sym (hs.size ∙ set.size));
-        });
+      header = record {
+        magic_is = magic ∙ good.tree.header.magic_is;
+        size = node ∙ good.tree.header.size;
+        kind = subst (λ (n : ℕ). n ≤ 4) (sym type) good.tree.header.kind;
+      };
+      kind_is = type ∙ good.tree.kind_is;
+      levels = subst (λ (n : ℕ). 1 ≤ n) (sym levels) (omega arith);
+      maximum = most ∙ good.tree.maximum ∙ ap pos (sym (hs.size ∙ set.size));
+    });
   },
   ap (λ (n : ℕ). n + 1) (sym (ap (λ (z : Header). z.levels) tk.header) ∙ tk.same_levels),
 )

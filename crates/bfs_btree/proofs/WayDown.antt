@@ -49,11 +49,15 @@ way-tree kind b c k at left reached t fs w tree =
 pub row-inserted : (kind : KeyKind) (b c n : List ℕ) (k : Key) (v : ℤ) (at : ℕ) (reached : List ℕ) (t : Shape) (fs : List ℕ) → IsWay kind b c k at 0 → IsPut kind c n at k v → IsTree kind b reached t fs → assoc kind (tree_rows t) k ≡ None
     → HasRows kind n reached (put kind (tree_rows t) k v)
 row-inserted kind b c n k v at reached t fs w p tree none =
-    let i = inserts kind (state_of kind b) (state_of kind c) (state_of kind n) k v at w.reaches p.row reached t fs tree.holds (some-bytes kind b reached t fs tree) none in
-    (i.0, i.1, record {
-      header = subst (λ (h : Header). IsTreeHeader kind (length n) h) (sym p.header) (subst (λ m. IsTreeHeader kind m (header_in c)) (sym p.size) (w.header tree.header));
-      holds = i.2;
-    }, i.3)
+    let i = inserts kind (state_of kind b) (state_of kind c) (state_of kind n) k v at w.reaches p.row reached t fs tree.holds (some-bytes kind b reached t fs tree) none in (
+      i.0,
+      i.1,
+      record {
+        header = subst (λ (h : Header). IsTreeHeader kind (length n) h) (sym p.header) (subst (λ m. IsTreeHeader kind m (header_in c)) (sym p.size) (w.header tree.header));
+        holds = i.2;
+      },
+      i.3,
+    )
 
 -- why no row was put
 pub spared-not_put : {F : Type 0} (kind : KeyKind) (t : Shape) (k : Key) (fault : TreeFault F) → assoc kind (tree_rows t) k ≡ None → IsSpared fault → IsNotPut kind t k fault

@@ -113,13 +113,7 @@ pub fn split_leaf<P: Pages, L: Ledger>(
         next,
     };
     match write_halves(pages, places, above, below, &half, &beside) {
-        Ok(()) => {
-            if left {
-                Ok(at.1)
-            } else {
-                Ok(right)
-            }
-        }
+        Ok(()) => { if left { Ok(at.1) } else { Ok(right) } }
         Err(fault) => Err(fault),
     }
 }
@@ -165,13 +159,7 @@ pub fn split_interior<P: Pages, L: Ledger>(
         next: 0,
     };
     match write_halves(pages, places, above, below, &half, &half) {
-        Ok(()) => {
-            if left {
-                Ok(at.1)
-            } else {
-                Ok(right)
-            }
-        }
+        Ok(()) => { if left { Ok(at.1) } else { Ok(right) } }
         Err(fault) => Err(fault),
     }
 }

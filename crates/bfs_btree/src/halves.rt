@@ -18,11 +18,7 @@ pub struct Places {
 }
 
 /// Writes the page beside, where there is one.
-fn write_beside<P: Pages>(
-    pages: &mut P,
-    at: u64,
-    page: &[u8],
-) -> Result<(), TreeFault<P::Fault>>
+fn write_beside<P: Pages>(pages: &mut P, at: u64, page: &[u8]) -> Result<(), TreeFault<P::Fault>>
     requires at { IsLink (P.size pages.old) at }
     requires page { length page.now ≡ 1024 }
     ensures made { OnOk result (Makes (P.told pages.old) (P.told pages.new) (λ b c. BesideSet b c at page.now)) }

@@ -37,10 +37,11 @@ returns-clause-half_roomy c =
 pub returns-clause-split : goal.returns-clause-split
 returns-clause-split c ua ub =
     let inside = middle-inside (rows_of c.args.below.now) c.middle_of-middle.result c.requires.full.1 c.middle_of-middle.ensures.before in
-    let next : c.middle_of-middle.result + 1 ≡ suc c.middle_of-middle.result = omega arith in
-    (c.row_key.result.now,
-    interior-split (rows_of c.args.below.now) (rows_of c.divide_interior.new.page) (rows_of c.divide_interior.new.into) c.middle_of-middle.result c.row_key.result.now (links_of c.divide_interior.new.page).overflow inside c.row_key.ensures
-    (ap (λ (l : Links). l.overflow) c.divide_interior.ensures.links) c.divide_interior.ensures.rows (c.divide_interior.ensures.moved ∙ ap (λ (n : ℕ). drop n (rows_of c.args.below.now)) next),
-    between c.args.kind c.args.above.now c.put_bound.new.page (rows_of c.args.below.now) c.place_for-place.result c.place_for-first.result c.middle_of-middle.result c.args.right c.args.key.now c.row_key.result.now
-    (c.place_for-place.ensures.first ua) (c.place_for-first.ensures.first ub) ub inside c.row_key.ensures c.requires.some
-    (c.put_bound.ensures.rows ∙ search rules) (c.put_bound.ensures.last ∙ search rules))
+    let next : c.middle_of-middle.result + 1 ≡ suc c.middle_of-middle.result = omega arith in (
+      c.row_key.result.now,
+      interior-split (rows_of c.args.below.now) (rows_of c.divide_interior.new.page) (rows_of c.divide_interior.new.into) c.middle_of-middle.result c.row_key.result.now (links_of c.divide_interior.new.page).overflow inside c.row_key.ensures
+          (ap (λ (l : Links). l.overflow) c.divide_interior.ensures.links) c.divide_interior.ensures.rows (c.divide_interior.ensures.moved ∙ ap (λ (n : ℕ). drop n (rows_of c.args.below.now)) next),
+      between c.args.kind c.args.above.now c.put_bound.new.page (rows_of c.args.below.now) c.place_for-place.result c.place_for-first.result c.middle_of-middle.result c.args.right c.args.key.now c.row_key.result.now
+          (c.place_for-place.ensures.first ua) (c.place_for-first.ensures.first ub) ub inside c.row_key.ensures c.requires.some
+          (c.put_bound.ensures.rows ∙ search rules) (c.put_bound.ensures.last ∙ search rules),
+    )

@@ -40,10 +40,11 @@ returns-clause-split c ua ub =
     let inside = middle-inside (rows_of c.args.below.now) c.middle_of-middle.result c.requires.full.1 c.middle_of-middle.ensures.before in
     let next : c.middle_of-middle.result + 1 ≡ suc c.middle_of-middle.result = omega arith in
     let w = first-half (rows_of c.args.below.now) c.middle_of-middle.result inside (key-most c.args.kind (length (key_of (row_in (rows_of c.args.below.now) c.middle_of-middle.result))) (c.requires.below.keys c.middle_of-middle.result inside)) c.middle_of-middle.ensures.before in
-    let more = middle-before (rows_of c.args.below.now) c.middle_of-middle.result c.requires.full.1 w in
-    (c.row_key.result.now,
-    leaf-split (rows_of c.args.below.now) (rows_of c.divide_leaf.new.page) (rows_of c.divide_leaf.new.into) c.middle_of-middle.result c.row_key.result.now more c.row_key.ensures
-    (c.divide_leaf.ensures.rows ∙ ap (λ (n : ℕ). take n (rows_of c.args.below.now)) next) (c.divide_leaf.ensures.moved ∙ ap (λ (n : ℕ). drop n (rows_of c.args.below.now)) next),
-    between c.args.kind c.args.above.now c.put_bound.new.page (rows_of c.args.below.now) c.place_for-place.result c.place_for-first.result c.middle_of-middle.result c.args.places.1 c.args.key.now c.row_key.result.now
-    (c.place_for-place.ensures.first ua) (c.place_for-first.ensures.first ub) ub inside c.row_key.ensures c.requires.some
-    (c.put_bound.ensures.rows ∙ search rules) (c.put_bound.ensures.last ∙ search rules))
+    let more = middle-before (rows_of c.args.below.now) c.middle_of-middle.result c.requires.full.1 w in (
+      c.row_key.result.now,
+      leaf-split (rows_of c.args.below.now) (rows_of c.divide_leaf.new.page) (rows_of c.divide_leaf.new.into) c.middle_of-middle.result c.row_key.result.now more c.row_key.ensures
+          (c.divide_leaf.ensures.rows ∙ ap (λ (n : ℕ). take n (rows_of c.args.below.now)) next) (c.divide_leaf.ensures.moved ∙ ap (λ (n : ℕ). drop n (rows_of c.args.below.now)) next),
+      between c.args.kind c.args.above.now c.put_bound.new.page (rows_of c.args.below.now) c.place_for-place.result c.place_for-first.result c.middle_of-middle.result c.args.places.1 c.args.key.now c.row_key.result.now
+          (c.place_for-place.ensures.first ua) (c.place_for-first.ensures.first ub) ub inside c.row_key.ensures c.requires.some
+          (c.put_bound.ensures.rows ∙ search rules) (c.put_bound.ensures.last ∙ search rules),
+    )

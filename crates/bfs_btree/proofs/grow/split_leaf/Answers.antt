@@ -66,29 +66,32 @@ returns-then-left-clause-step g c b e =
     let tk = c.in-Ok-take_page.ensures.taken b (c.in-Ok.ensures.told ∙ e) in
     let set = c.in-Ok-write_halves.ensures.made tk.0 tk.1 in
     let size0 : length tk.0 ≡ g.P.Pages.size c.take_page.new.pages = subst (λ (t : Option (List ℕ)). HasLength t (g.P.Pages.size c.take_page.new.pages)) tk.1 (g.met.P.Pages.sized c.take_page.new.pages) in
-    let leaf : IsLeafPage c.args.kind (length b) c.args.below.now = subst (λ (m : ℕ). IsLeafPage c.args.kind m c.args.below.now) (sym size) c.requires.leaf in
-    (set.0, set.1, record {
-      down = λ on. steps-halved c.args.kind (state_of c.args.kind b) (state_of c.args.kind tk.0) (state_of c.args.kind set.0) c.in-Ok-take_page.fresh.page c.args.at.0 c.args.key.now c.args.at.1 c.args.at.1 true tk.2.taken on
-          (λ reached t fs d tree level way way_on. split-leaf_off c.args.kind b tk.0 set.0 c.args.at.0 c.args.at.1 c.in-Ok-take_page.fresh.page c.place-next.result
-          c.args.above.now c.halve_leaf-left.new.above c.args.below.now c.halve_leaf-left.new.below c.halve_leaf-left.new.half c.read_beside.new.page c.mend_left.new.page c.args.key.now true _
-          tk.2 set.2 ra rb leaf c.halve_leaf-left.ensures.above c.halve_leaf-left.ensures.below c.halve_leaf-left.ensures.half c.halve_leaf-left.ensures.below_roomy c.halve_leaf-left.ensures.half_roomy
-          (ap₂ (λ x y. (place_of x, place_of y)) c.halve_leaf-left.ensures.above_left c.halve_leaf-left.ensures.above_right) c.halve_leaf-left.ensures.below_links c.halve_leaf-left.ensures.half_links
-          (n ∙ ap place_of c.right_link.ensures)
-          (λ some. (
-            if_some (λ b. c.read_beside.new.page ≡ page_in b c.place-next.result) (g.P.Pages.told c.args.pages.now) b (c.in-Ok.ensures.read some) e,
-            subst (λ (m : ℕ). IsLeafPage c.args.kind m c.read_beside.new.page) (sym size) (c.in-Ok.ensures.leaf some),
-            linked-page c.args.kind c.read_beside.new.page c.mend_left.new.page (c.in-Ok.ensures.page some) c.mend_left.ensures.rows c.mend_left.ensures.page,
-            c.mend_left.ensures.rows,
-            c.mend_left.ensures.links,
-          ))
-          (subst (λ (m : ℕ). IsChild m c.in-Ok-take_page.fresh.page) (sym size0) c.in-Ok-take_page.ensures.page)
-          (λ ua ub. let h = c.halve_leaf-left.ensures.split ua ub in (h.0, h.1, record { keys = h.2.keys; last = h.2.last; way = h.2.way ∙ c.if-left.true }))
-          reached t fs d tree level way way_on)
-          refl;
-      levels = ap (λ (z : Header). z.levels) set.2.header ∙ tk.2.same_levels;
-      header = λ h. subst (λ (z : Header). IsTreeHeader c.args.kind (length set.0) z) (sym (set.2.header ∙ tk.2.header))
-          (subst (λ (m : ℕ). IsTreeHeader c.args.kind m c.in-Ok-take_page.fresh.header) (sym (set.2.size ∙ size0)) c.in-Ok-take_page.ensures.header.tree);
-    })
+    let leaf : IsLeafPage c.args.kind (length b) c.args.below.now = subst (λ (m : ℕ). IsLeafPage c.args.kind m c.args.below.now) (sym size) c.requires.leaf in (
+      set.0,
+      set.1,
+      record {
+        down = λ on. steps-halved c.args.kind (state_of c.args.kind b) (state_of c.args.kind tk.0) (state_of c.args.kind set.0) c.in-Ok-take_page.fresh.page c.args.at.0 c.args.key.now c.args.at.1 c.args.at.1 true tk.2.taken on
+            (λ reached t fs d tree level way way_on. split-leaf_off c.args.kind b tk.0 set.0 c.args.at.0 c.args.at.1 c.in-Ok-take_page.fresh.page c.place-next.result
+            c.args.above.now c.halve_leaf-left.new.above c.args.below.now c.halve_leaf-left.new.below c.halve_leaf-left.new.half c.read_beside.new.page c.mend_left.new.page c.args.key.now true _
+            tk.2 set.2 ra rb leaf c.halve_leaf-left.ensures.above c.halve_leaf-left.ensures.below c.halve_leaf-left.ensures.half c.halve_leaf-left.ensures.below_roomy c.halve_leaf-left.ensures.half_roomy
+            (ap₂ (λ x y. (place_of x, place_of y)) c.halve_leaf-left.ensures.above_left c.halve_leaf-left.ensures.above_right) c.halve_leaf-left.ensures.below_links c.halve_leaf-left.ensures.half_links
+            (n ∙ ap place_of c.right_link.ensures)
+            (λ some. (
+              if_some (λ b. c.read_beside.new.page ≡ page_in b c.place-next.result) (g.P.Pages.told c.args.pages.now) b (c.in-Ok.ensures.read some) e,
+              subst (λ (m : ℕ). IsLeafPage c.args.kind m c.read_beside.new.page) (sym size) (c.in-Ok.ensures.leaf some),
+              linked-page c.args.kind c.read_beside.new.page c.mend_left.new.page (c.in-Ok.ensures.page some) c.mend_left.ensures.rows c.mend_left.ensures.page,
+              c.mend_left.ensures.rows,
+              c.mend_left.ensures.links,
+            ))
+            (subst (λ (m : ℕ). IsChild m c.in-Ok-take_page.fresh.page) (sym size0) c.in-Ok-take_page.ensures.page)
+            (λ ua ub. let h = c.halve_leaf-left.ensures.split ua ub in (h.0, h.1, record { keys = h.2.keys; last = h.2.last; way = h.2.way ∙ c.if-left.true }))
+            reached t fs d tree level way way_on)
+            refl;
+        levels = ap (λ (z : Header). z.levels) set.2.header ∙ tk.2.same_levels;
+        header = λ h. subst (λ (z : Header). IsTreeHeader c.args.kind (length set.0) z) (sym (set.2.header ∙ tk.2.header))
+            (subst (λ (m : ℕ). IsTreeHeader c.args.kind m c.in-Ok-take_page.fresh.header) (sym (set.2.size ∙ size0)) c.in-Ok-take_page.ensures.header.tree);
+      },
+    )
 
 pub returns-else-left-clause-next : goal.returns-else-left-clause-next
 returns-else-left-clause-next g c = subst (λ (n : ℕ). IsChild n c.in-Ok-take_page.fresh.page) (sym c.in-Ok-write_halves.ensures.size) c.in-Ok-take_page.ensures.page
@@ -107,26 +110,29 @@ returns-else-left-clause-step g c b e =
     let tk = c.in-Ok-take_page.ensures.taken b (c.in-Ok.ensures.told ∙ e) in
     let set = c.in-Ok-write_halves.ensures.made tk.0 tk.1 in
     let size0 : length tk.0 ≡ g.P.Pages.size c.take_page.new.pages = subst (λ (t : Option (List ℕ)). HasLength t (g.P.Pages.size c.take_page.new.pages)) tk.1 (g.met.P.Pages.sized c.take_page.new.pages) in
-    let leaf : IsLeafPage c.args.kind (length b) c.args.below.now = subst (λ (m : ℕ). IsLeafPage c.args.kind m c.args.below.now) (sym size) c.requires.leaf in
-    (set.0, set.1, record {
-      down = λ on. steps-halved c.args.kind (state_of c.args.kind b) (state_of c.args.kind tk.0) (state_of c.args.kind set.0) c.in-Ok-take_page.fresh.page c.args.at.0 c.args.key.now c.args.at.1 c.in-Ok-take_page.fresh.page false tk.2.taken on
-          (λ reached t fs d tree level way way_on. split-leaf_off c.args.kind b tk.0 set.0 c.args.at.0 c.args.at.1 c.in-Ok-take_page.fresh.page c.place-next.result
-          c.args.above.now c.halve_leaf-left.new.above c.args.below.now c.halve_leaf-left.new.below c.halve_leaf-left.new.half c.read_beside.new.page c.mend_left.new.page c.args.key.now false _
-          tk.2 set.2 ra rb leaf c.halve_leaf-left.ensures.above c.halve_leaf-left.ensures.below c.halve_leaf-left.ensures.half c.halve_leaf-left.ensures.below_roomy c.halve_leaf-left.ensures.half_roomy
-          (ap₂ (λ x y. (place_of x, place_of y)) c.halve_leaf-left.ensures.above_left c.halve_leaf-left.ensures.above_right) c.halve_leaf-left.ensures.below_links c.halve_leaf-left.ensures.half_links
-          (n ∙ ap place_of c.right_link.ensures)
-          (λ some. (
-            if_some (λ b. c.read_beside.new.page ≡ page_in b c.place-next.result) (g.P.Pages.told c.args.pages.now) b (c.in-Ok.ensures.read some) e,
-            subst (λ (m : ℕ). IsLeafPage c.args.kind m c.read_beside.new.page) (sym size) (c.in-Ok.ensures.leaf some),
-            linked-page c.args.kind c.read_beside.new.page c.mend_left.new.page (c.in-Ok.ensures.page some) c.mend_left.ensures.rows c.mend_left.ensures.page,
-            c.mend_left.ensures.rows,
-            c.mend_left.ensures.links,
-          ))
-          (subst (λ (m : ℕ). IsChild m c.in-Ok-take_page.fresh.page) (sym size0) c.in-Ok-take_page.ensures.page)
-          (λ ua ub. let h = c.halve_leaf-left.ensures.split ua ub in (h.0, h.1, record { keys = h.2.keys; last = h.2.last; way = h.2.way ∙ c.if-left.false }))
-          reached t fs d tree level way way_on)
-          refl;
-      levels = ap (λ (z : Header). z.levels) set.2.header ∙ tk.2.same_levels;
-      header = λ h. subst (λ (z : Header). IsTreeHeader c.args.kind (length set.0) z) (sym (set.2.header ∙ tk.2.header))
-          (subst (λ (m : ℕ). IsTreeHeader c.args.kind m c.in-Ok-take_page.fresh.header) (sym (set.2.size ∙ size0)) c.in-Ok-take_page.ensures.header.tree);
-    })
+    let leaf : IsLeafPage c.args.kind (length b) c.args.below.now = subst (λ (m : ℕ). IsLeafPage c.args.kind m c.args.below.now) (sym size) c.requires.leaf in (
+      set.0,
+      set.1,
+      record {
+        down = λ on. steps-halved c.args.kind (state_of c.args.kind b) (state_of c.args.kind tk.0) (state_of c.args.kind set.0) c.in-Ok-take_page.fresh.page c.args.at.0 c.args.key.now c.args.at.1 c.in-Ok-take_page.fresh.page false tk.2.taken on
+            (λ reached t fs d tree level way way_on. split-leaf_off c.args.kind b tk.0 set.0 c.args.at.0 c.args.at.1 c.in-Ok-take_page.fresh.page c.place-next.result
+            c.args.above.now c.halve_leaf-left.new.above c.args.below.now c.halve_leaf-left.new.below c.halve_leaf-left.new.half c.read_beside.new.page c.mend_left.new.page c.args.key.now false _
+            tk.2 set.2 ra rb leaf c.halve_leaf-left.ensures.above c.halve_leaf-left.ensures.below c.halve_leaf-left.ensures.half c.halve_leaf-left.ensures.below_roomy c.halve_leaf-left.ensures.half_roomy
+            (ap₂ (λ x y. (place_of x, place_of y)) c.halve_leaf-left.ensures.above_left c.halve_leaf-left.ensures.above_right) c.halve_leaf-left.ensures.below_links c.halve_leaf-left.ensures.half_links
+            (n ∙ ap place_of c.right_link.ensures)
+            (λ some. (
+              if_some (λ b. c.read_beside.new.page ≡ page_in b c.place-next.result) (g.P.Pages.told c.args.pages.now) b (c.in-Ok.ensures.read some) e,
+              subst (λ (m : ℕ). IsLeafPage c.args.kind m c.read_beside.new.page) (sym size) (c.in-Ok.ensures.leaf some),
+              linked-page c.args.kind c.read_beside.new.page c.mend_left.new.page (c.in-Ok.ensures.page some) c.mend_left.ensures.rows c.mend_left.ensures.page,
+              c.mend_left.ensures.rows,
+              c.mend_left.ensures.links,
+            ))
+            (subst (λ (m : ℕ). IsChild m c.in-Ok-take_page.fresh.page) (sym size0) c.in-Ok-take_page.ensures.page)
+            (λ ua ub. let h = c.halve_leaf-left.ensures.split ua ub in (h.0, h.1, record { keys = h.2.keys; last = h.2.last; way = h.2.way ∙ c.if-left.false }))
+            reached t fs d tree level way way_on)
+            refl;
+        levels = ap (λ (z : Header). z.levels) set.2.header ∙ tk.2.same_levels;
+        header = λ h. subst (λ (z : Header). IsTreeHeader c.args.kind (length set.0) z) (sym (set.2.header ∙ tk.2.header))
+            (subst (λ (m : ℕ). IsTreeHeader c.args.kind m c.in-Ok-take_page.fresh.header) (sym (set.2.size ∙ size0)) c.in-Ok-take_page.ensures.header.tree);
+      },
+    )

@@ -18,10 +18,13 @@ place_for-i-requires-clause-key g c = key-sought c.args.kind c.args.key.now c.re
 pub returns-in-Ok-write_page-clause-put : goal.returns-in-Ok-write_page-clause-put
 returns-in-Ok-write_page-clause-put g c b e =
     let r : c.read_leaf.new.page ≡ page_in b c.args.at = if_some (λ b. c.read_leaf.new.page ≡ page_in b c.args.at) (g.P.Pages.told c.args.pages.now) b c.in-Ok.ensures.read e in
-    let s = c.in-Ok-write_page.ensures.made b (c.in-Ok.ensures.told ∙ e) in
-    (s.0, s.1, row-put c.args.kind b s.0 c.read_leaf.new.page c.insert_row.new.page c.args.at c.place_for-i.result c.args.key.now c.args.value s.2 r
-    (more-page c.args.kind c.read_leaf.new.page c.insert_row.new.page c.place_for-i.result c.args.key.now _ c.in-Ok.ensures.page c.requires.key c.insert_row.ensures.page c.insert_row.ensures.rows)
-    (c.insert_row.ensures.rows ∙ search rules) c.insert_row.ensures.links c.place_for-i.ensures.first)
+    let s = c.in-Ok-write_page.ensures.made b (c.in-Ok.ensures.told ∙ e) in (
+      s.0,
+      s.1,
+      row-put c.args.kind b s.0 c.read_leaf.new.page c.insert_row.new.page c.args.at c.place_for-i.result c.args.key.now c.args.value s.2 r
+          (more-page c.args.kind c.read_leaf.new.page c.insert_row.new.page c.place_for-i.result c.args.key.now _ c.in-Ok.ensures.page c.requires.key c.insert_row.ensures.page c.insert_row.ensures.rows)
+          (c.insert_row.ensures.rows ∙ search rules) c.insert_row.ensures.links c.place_for-i.ensures.first,
+    )
 
 pub returns-in-Err-write_page-clause-refused : goal.returns-in-Err-write_page-clause-refused
 returns-in-Err-write_page-clause-refused g c =

@@ -26,7 +26,8 @@ pub fn is_roomy(page: &[u8]) -> bool
     free_bytes(page) >= 272
 }
 
-/// Goes down to a leaf, which is split where it is full.
+/// Goes down to a leaf, which is split where it is full. On the way down a tree the page above always has room for one
+/// more key; where it has none, the answer is NoMemory.
 fn enter_leaf<P: Pages, L: Ledger>(
     pages: &mut P,
     kind: KeyKind,
@@ -64,7 +65,7 @@ fn enter_leaf<P: Pages, L: Ledger>(
     }
 }
 
-/// Goes down to an interior page, which is split where it is full.
+/// Goes down to an interior page, which is split where it is full, as for a leaf.
 fn enter_interior<P: Pages, L: Ledger>(
     pages: &mut P,
     kind: KeyKind,

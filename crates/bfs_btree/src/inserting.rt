@@ -49,7 +49,8 @@ fn reach_leaf<P: Pages, L: Ledger>(
 }
 
 /// Puts a row into a tree: a key of the tree's kind, and a plain number. Where the key is there already, the answer is
-/// Exists and nothing changes.
+/// Exists and nothing changes. Each full page on the key's way is split before it is entered, so that a page above has
+/// room for the key between the halves. After another failure the stream may be half changed.
 pub fn insert<P: Pages, L: Ledger>(
     pages: &mut P,
     kind: KeyKind,

@@ -1,10 +1,10 @@
 -- What the calls of an insert come to.
-use Rattle.std.proofs.Common.{Bool, ◌≡◌, ◌≢◌, ◌≤◌, ◌<◌, ◌+◌, ◌-◌, ℕ, ℤ, suc, List, [], ◌∷◌, Some, None, cond, refl, ap, sym, ◌∙◌, subst, arith}
+use Rattle.std.proofs.Common.{Bool, ◌≡◌, ◌≢◌, ◌≤◌, ◌<◌, ◌-◌, ℕ, ℤ, suc, List, [], ◌∷◌, Some, None, cond, refl, ap, sym, ◌∙◌, subst, arith}
 use Rattle.bfs_base.specs.Lists.{times}
 use Rattle.bfs_base.specs.declared.kind.KeyKind.{KeyKind}
 use Rattle.bfs_btree.specs.Order.{Key, at_most}
 use Rattle.bfs_btree.specs.Maps.{assoc, put}
-use Rattle.bfs_btree.specs.Shapes.{leaf_body, Shape, leaf_shape, node_shape, last_shape, place, tree_rows, entries_of, AscendAll, IsDeep, Stands}
+use Rattle.bfs_btree.specs.Shapes.{leaf_body, Shape, leaf_shape, node_shape, last_shape, place, entries_of, AscendAll, IsDeep, Stands}
 use Rattle.bfs_btree.specs.Changes.{child_in, Taken, SplitOff, RowPut, Rooted, StepsDown, Heightens, Reaches, Inserts}
 use Rattle.bfs_btree.specs.Trees.{State, Holds}
 use Rattle.bfs_btree.specs.Ways.{under, instead}

@@ -1,5 +1,5 @@
 -- A step down the way of a key.
-use Rattle.std.proofs.Common.{◌≡◌, ◌≤◌, ◌<◌, ◌+◌, ℕ, suc, List, length, Bool, true, false, IsTrue, nat_le, refl, ap, sym, ◌∙◌, subst, arith}
+use Rattle.std.proofs.Common.{◌≡◌, ◌≤◌, ◌<◌, ℕ, suc, List, Bool, true, false, IsTrue, nat_le, refl, sym, subst, arith}
 use Rattle.bfs_base.specs.declared.kind.KeyKind.{KeyKind}
 use Rattle.bfs_node.specs.Page.{rows_of, links_of}
 use Rattle.bfs_btree.specs.Order.{Key}

@@ -1,6 +1,6 @@
 -- The rows of a page that is divided, and of the page above it.
-use Rattle.std.proofs.Common.{◌≡◌, ◌≤◌, ◌<◌, ◌+◌, ◌-◌, ◌*◌, ℕ, ℤ, pos, zero, suc, List, [], ◌∷◌, ◌++◌, length, get_or, take, drop, insert, set, refl, ap, ap₂, sym, ◌∙◌, subst, arith}
-use Rattle.bfs_node.specs.Page.{Row, HasLayout, rows_of, row_in, key_of, value_of, count_at}
+use Rattle.std.proofs.Common.{◌≡◌, ◌≤◌, ◌<◌, ◌+◌, ◌*◌, ℕ, ℤ, zero, suc, List, [], ◌∷◌, ◌++◌, length, take, drop, insert, set, refl, ap, arith}
+use Rattle.bfs_node.specs.Page.{Row, HasLayout, rows_of, row_in, key_of, count_at}
 use Rattle.bfs_node.proofs.PageLayout.{length-rows_of, row_in-rows_of, length-key, end-within}
 use Rattle.bfs_btree.specs.Order.{Key}
 use Rattle.bfs_btree.specs.Divided.{weight, bound_rows, bound_last}

@@ -1,5 +1,5 @@
 -- Places in a stream that has a page more.
-use Rattle.std.proofs.Common.{◌≡◌, ◌≤◌, ◌<◌, ◌+◌, ◌%◌, ℕ, Bool, true, refl, sym, subst, arith, inl, inr, ◌⊎◌}
+use Rattle.std.proofs.Common.{◌≡◌, ◌+◌, ℕ, true, sym, subst, arith, inl, inr}
 use Rattle.bfs_btree.specs.Answers.{IsChild, IsLink}
 use Rattle.bfs_btree.specs.Trees.{is_place}
 use Rattle.bfs_btree.specs.Writes.{IsGrown}

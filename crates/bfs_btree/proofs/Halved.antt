@@ -1,26 +1,17 @@
 -- A leaf is split in the bytes of a stream.
-use Rattle.std.proofs.Common.{◌≡◌, ◌≢◌, ◌≤◌, ◌<◌, ◌+◌, ◌-◌, ◌%◌, ℕ, ℤ, pos, negsuc, zero, suc, List, [], ◌∷◌, ◌++◌, length, Option, Some, None, Bool, true, false, cond, ◌==◌, nat_le, refl, ap, ap₂, sym, ◌∙◌, subst, arith, inl, inr, ◌⊎◌}
+use Rattle.std.proofs.Common.{◌≡◌, ◌≢◌, ◌≤◌, ℕ, ℤ, pos, negsuc, zero, suc, List, [], ◌∷◌, ◌++◌, Some, None, true, false, cond, ◌==◌, refl, ap, sym, ◌∙◌, subst, arith}
 use Rattle.bfs_base.specs.Lists.{times}
 use Rattle.bfs_base.specs.declared.kind.KeyKind.{KeyKind}
 use Rattle.bfs_node.specs.Page.{Row, IsPage, rows_of, links_of}
-use Rattle.bfs_node.specs.declared.header.Header.{Header}
-use Rattle.bfs_node.specs.declared.links.Links.{Links}
-use Rattle.bfs_btree.specs.Answers.{IsLeafPage}
-use Rattle.bfs_btree.specs.Changes.{Others, SplitLinks, SplitOff, SplitChild, full_of, key_total}
-use Rattle.bfs_btree.specs.Divided.{IsRoomy, IsLeafSplit, IsBetween}
-use Rattle.bfs_btree.specs.Order.{Key, at_most}
-use Rattle.bfs_btree.specs.Shapes.{Body, leaf_body, inner_body, Shape, Shapes, leaf_shape, node_shape, place, met_by, met_by_all, leaves_of, children_of, last_child, Stands}
-use Rattle.bfs_btree.specs.Trees.{State, state_of, Holds, Built, Linked, page_in, header_in, place_of, is_page, body_of, body_in, neighbours_in, free_in, children_in, head_or}
-use Rattle.bfs_btree.specs.Ways.{under, child_for, keys_split, last_split, KeysAscend}
-use Rattle.bfs_btree.specs.Writes.{HalvesSet, IsTaken}
-use Rattle.bfs_btree.proofs.Exchange.{met-once, stands-under}
+use Rattle.bfs_btree.specs.Changes.{full_of}
+use Rattle.bfs_btree.specs.Divided.{IsRoomy}
+use Rattle.bfs_btree.specs.Shapes.{leaf_body, inner_body}
+use Rattle.bfs_btree.specs.Trees.{Linked, page_in, place_of, body_of, body_in, children_in, head_or}
+use Rattle.bfs_btree.specs.Writes.{HalvesSet}
 use Rattle.bfs_btree.proofs.Good.{true-page}
 use Rattle.bfs_btree.proofs.Halving.{keys-total}
-use Rattle.bfs_btree.proofs.OfKind.{inner-fields, leaf-fields, met-child, under-met, leaf-met}
-use Rattle.bfs_btree.proofs.Splice.{self, times-append}
-use Rattle.bfs_btree.proofs.Split.{linked-at, times-leaves, node-leaves}
-use Rattle.bfs_btree.proofs.Steps.{node-at}
-use Rattle.bfs_btree.proofs.Way.{times-child, times-under, place-met}
+use Rattle.bfs_btree.proofs.Splice.{self}
+use Rattle.bfs_btree.proofs.Split.{linked-at}
 
 eq_no : (a b : ℕ) → a ≢ b → (a == b) ≡ false
 eq_no a b e = grind (arith, e)

@@ -1,15 +1,15 @@
 -- The halves of a full page, and the page above them.
-use Rattle.std.proofs.Common.{◌≡◌, ◌≤◌, ◌<◌, ◌+◌, ◌-◌, ◌*◌, ◌/◌, ℕ, ℤ, pos, negsuc, zero, suc, List, [], ◌∷◌, ◌++◌, length, get_or, take, drop, Option, Some, None, Bool, true, false, cond, nat_le, refl, ap, ap₂, sym, ◌∙◌, subst, arith, length-append, length-take, length-drop}
+use Rattle.std.proofs.Common.{◌≡◌, ◌≤◌, ◌<◌, ◌+◌, ◌*◌, ℕ, ℤ, pos, zero, suc, List, [], ◌∷◌, ◌++◌, length, take, drop, Bool, true, false, cond, nat_le, refl, ap, ap₂, sym, ◌∙◌, subst, arith, length-append, length-drop}
 use Rattle.std.proofs.lemmas.List.{get_or-drop}
 use Rattle.std.proofs.Math.Seq.{split_at, drop-cons}
 use Rattle.bfs_base.specs.declared.kind.KeyKind.{KeyKind}
 use Rattle.bfs_base.specs.declared.kind.KeyKind.TheVariants.{Text, I32, U32, I64, U64, F32, F64}
-use Rattle.bfs_node.specs.Page.{Row, HasLayout, HasKeys, HasRoom, IsPage, IsKeyLength, rows_of, row_in, key_of, value_of, keys_of, links_of, taken_by, most_key}
+use Rattle.bfs_node.specs.Page.{Row, HasKeys, HasRoom, IsKeyLength, rows_of, row_in, key_of, value_of, keys_of, links_of, taken_by}
 use Rattle.bfs_node.specs.Search.{key_at}
 use Rattle.bfs_node.proofs.AllRows.{all-part}
 use Rattle.bfs_btree.specs.Changes.{key_total}
 use Rattle.bfs_btree.specs.Divided.{weight, bound_rows, bound_last, IsRoomy, IsLeafSplit, IsInteriorSplit, IsBetween}
-use Rattle.bfs_btree.specs.Order.{Key, comes_before, at_most}
+use Rattle.bfs_btree.specs.Order.{Key, at_most}
 use Rattle.bfs_btree.specs.Trees.{place_of, children_in}
 use Rattle.bfs_btree.specs.Ways.{KeysAscend, FirstAt, keys_split, last_split}
 use Rattle.bfs_btree.proofs.KeyOrder.{most_less, less_is_most}

@@ -1,29 +1,27 @@
 -- An interior page is split in the bytes of a stream: what the tree's pages say since.
-use Rattle.std.proofs.Common.{◌≡◌, ◌≢◌, ◌≤◌, ◌<◌, ◌+◌, ◌-◌, ◌%◌, ℕ, ℤ, pos, negsuc, zero, suc, List, [], ◌∷◌, ◌++◌, length, Option, Some, None, Bool, true, false, cond, ◌==◌, nat_le, refl, ap, ap₂, sym, ◌∙◌, subst, arith, inl, inr, ◌⊎◌}
+use Rattle.std.proofs.Common.{◌≡◌, ◌≢◌, ◌≤◌, ◌<◌, ◌+◌, ◌-◌, ℕ, zero, suc, List, [], ◌∷◌, ◌++◌, length, Some, Bool, true, false, cond, ◌==◌, nat_le, refl, ap, ap₂, sym, ◌∙◌, subst, arith}
 use Rattle.std.specs.List.{AllByRecursion}
 use Rattle.bfs_base.specs.Lists.{times}
 use Rattle.bfs_base.specs.declared.kind.KeyKind.{KeyKind}
 use Rattle.bfs_node.specs.Page.{Row, IsPage, rows_of, row_in, value_of, links_of}
 use Rattle.bfs_node.specs.declared.header.Header.{Header}
-use Rattle.bfs_node.specs.declared.links.Links.{Links}
 use Rattle.bfs_btree.specs.Answers.{IsChild, IsInteriorPage}
-use Rattle.bfs_btree.specs.Changes.{Others, SplitLinks, SplitOff, SplitChild, full_of, key_total}
+use Rattle.bfs_btree.specs.Changes.{Others, SplitOff, SplitChild, full_of, key_total}
 use Rattle.bfs_btree.specs.Divided.{IsRoomy, IsInteriorSplit, IsBetween}
 use Rattle.bfs_btree.specs.Order.{Key, at_most}
-use Rattle.bfs_btree.specs.Shapes.{Body, leaf_body, inner_body, Shape, Shapes, leaf_shape, node_shape, place, met_by, met_by_all, leaves_of, entries_of, children_of, last_child, Stands, AscendAll}
-use Rattle.bfs_btree.specs.Trees.{State, state_of, Holds, Built, Linked, page_in, header_in, place_of, is_page, body_of, body_in, neighbours_in, free_in, next_if, children_in, head_or}
-use Rattle.bfs_btree.specs.Ways.{under, child_for, leaves_before, leaves_behind, leaves_before_way, leaves_behind_way, keys_split, last_split, KeysAscend}
+use Rattle.bfs_btree.specs.Shapes.{leaf_body, inner_body, Shape, Shapes, node_shape, place, met_by, met_by_all, Stands}
+use Rattle.bfs_btree.specs.Trees.{state_of, Holds, page_in, place_of, body_in, neighbours_in, free_in, children_in}
+use Rattle.bfs_btree.specs.Ways.{under, child_for, keys_split, last_split, KeysAscend}
 use Rattle.bfs_btree.specs.Writes.{HalvesSet, IsTaken}
-use Rattle.bfs_btree.proofs.Exchange.{met-once, stands-under}
-use Rattle.bfs_btree.proofs.Good.{true-page, page-true}
+use Rattle.bfs_btree.proofs.Exchange.{met-once}
+use Rattle.bfs_btree.proofs.Good.{page-true}
 use Rattle.bfs_btree.proofs.Laws.{one}
-use Rattle.bfs_btree.proofs.Halving.{keys-total, place-pos}
-use Rattle.bfs_btree.proofs.OfKind.{leaf-at, inner-fields, inner-page, met-child, under-met, rows-ascend, under-ascends}
-use Rattle.bfs_btree.proofs.Splice.{self, times-append}
-use Rattle.bfs_btree.proofs.Split.{leaf-form, times-leaves, node-leaves}
+use Rattle.bfs_btree.proofs.Halving.{keys-total}
+use Rattle.bfs_btree.proofs.OfKind.{leaf-at, inner-fields, inner-page, met-child, under-met}
+use Rattle.bfs_btree.proofs.Splice.{self}
 use Rattle.bfs_btree.proofs.Steps.{node-at}
-use Rattle.bfs_btree.proofs.Way.{times-child, times-under, place-met, child-stands}
-use Rattle.bfs_btree.proofs.Halved.{set-above, set-next, set-right, set-below, set-others, says-leaf, says-inner, roomy-leaf, next-leaf}
+use Rattle.bfs_btree.proofs.Way.{times-child, times-under, place-met}
+use Rattle.bfs_btree.proofs.Halved.{set-above, set-right, set-below, set-others, says-inner}
 
 children-append : (xs ys : List Row) → children_in (xs ++ ys) ≡ children_in xs ++ children_in ys
 children-append [] ys = refl

@@ -1,5 +1,5 @@
 -- A page is put above the root.
-use Rattle.std.proofs.Common.{◌≡◌, ◌≢◌, ◌≤◌, ◌<◌, ◌+◌, ◌-◌, ◌^◌, ℕ, ℤ, pos, suc, SFits, w64, List, [], length, Some, Bool, true, false, cond, ◌==◌, refl, ap, ap₂, sym, ◌∙◌, subst, arith}
+use Rattle.std.proofs.Common.{◌≡◌, ◌≢◌, ◌≤◌, ◌<◌, ◌+◌, ◌-◌, ◌^◌, ℕ, ℤ, pos, suc, SFits, w64, List, [], length, Some, true, false, cond, ◌==◌, ap, ap₂, sym, ◌∙◌, subst, arith}
 use Rattle.bfs_base.specs.declared.kind.KeyKind.{KeyKind}
 use Rattle.bfs_node.specs.Page.{Row, IsPage, HasLayout, HasKeys, rows_of, links_of}
 use Rattle.bfs_node.specs.declared.header.Header.{Header}

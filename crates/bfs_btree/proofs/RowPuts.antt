@@ -1,5 +1,5 @@
 -- A row is put into a leaf.
-use Rattle.std.proofs.Common.{◌≡◌, ◌≢◌, ◌≤◌, ◌<◌, ◌+◌, ◌-◌, ℕ, ℤ, negsuc, List, length, insert, Some, Bool, true, false, cond, ◌==◌, refl, ap, sym, ◌∙◌, subst, arith}
+use Rattle.std.proofs.Common.{◌≡◌, ◌≢◌, ◌-◌, ℕ, ℤ, List, length, insert, Some, Bool, true, false, cond, ◌==◌, refl, ap, sym, ◌∙◌, subst, arith}
 use Rattle.bfs_base.specs.declared.kind.KeyKind.{KeyKind}
 use Rattle.bfs_base.specs.declared.kind.KeyKind.TheVariants.{Text, I32, U32, I64, U64, F32, F64}
 use Rattle.bfs_base.specs.Keys.{IsKey}
@@ -10,7 +10,7 @@ use Rattle.bfs_node.specs.Search.{IsSought}
 use Rattle.bfs_node.proofs.AllRows.{all-insert, key-length}
 use Rattle.bfs_btree.specs.Order.{Key}
 use Rattle.bfs_btree.specs.Shapes.{leaf_body}
-use Rattle.bfs_btree.specs.Trees.{page_in, header_in, place_of, body_in, neighbours_in, free_in}
+use Rattle.bfs_btree.specs.Trees.{page_in, place_of, body_in, neighbours_in, free_in}
 use Rattle.bfs_btree.specs.Ways.{KeysAscend, FirstAt}
 use Rattle.bfs_btree.specs.Writes.{PageSet, IsPut}
 use Rattle.bfs_btree.proofs.Halved.{says-leaf}

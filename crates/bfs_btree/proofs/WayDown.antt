@@ -1,5 +1,5 @@
 -- The way of a key down a tree that is made ready for its row.
-use Rattle.std.proofs.Common.{◌≡◌, ◌≤◌, ◌<◌, ◌+◌, ◌-◌, ℕ, ℤ, suc, List, length, Some, None, Bool, true, IsTrue, ◌==◌, ◌↔◌, refl, ap, sym, ◌∙◌, subst, arith}
+use Rattle.std.proofs.Common.{◌≡◌, ◌≤◌, ◌<◌, ◌+◌, ◌-◌, ℕ, ℤ, suc, List, length, None, true, IsTrue, ◌==◌, ◌↔◌, ap, sym, subst, arith}
 use Rattle.bfs_base.specs.declared.kind.KeyKind.{KeyKind}
 use Rattle.bfs_node.specs.declared.fault.TreeFault.{TreeFault}
 use Rattle.bfs_node.specs.declared.fault.TreeFault.TheVariants.{Exists, Absent, Damaged, Pages, NoMemory}
@@ -8,7 +8,7 @@ use Rattle.bfs_btree.specs.Answers.{IsChild, IsSpared, IsNotPut, IsOfPages}
 use Rattle.bfs_btree.specs.Maps.{assoc, put}
 use Rattle.bfs_btree.specs.Order.{Key}
 use Rattle.bfs_btree.specs.Shapes.{Shape, place, tree_rows}
-use Rattle.bfs_btree.specs.Trees.{IsTree, HasRows, IsTreeHeader, Built, header_in, place_of, state_of}
+use Rattle.bfs_btree.specs.Trees.{IsTree, HasRows, IsTreeHeader, header_in, state_of}
 use Rattle.bfs_btree.specs.Ways.{under}
 use Rattle.bfs_btree.specs.Writes.{IsTop, IsDown, IsWay, IsPut, HasRisen}
 use Rattle.bfs_btree.proofs.Calls.{reaches-root, reaches-next, inserts}

@@ -1,4 +1,4 @@
-use Rattle.std.proofs.Common.{◌≡◌, ◌≤◌, ◌<◌, ◌+◌, ℕ, suc, List, Option, Some, IfSome, refl, ap, sym, ◌∙◌, subst}
+use Rattle.std.proofs.Common.{◌∙◌}
 use Rattle.bfs_node.specs.declared.fault.PageKind.TheVariants.{Leaf}
 use Rattle.bfs_btree.proofs.Descending.{step-stays}
 use Rattle.bfs_btree.proofs.Faulted.{of-pages, pages-spared}

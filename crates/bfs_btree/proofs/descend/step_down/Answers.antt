@@ -1,6 +1,6 @@
-use Rattle.std.proofs.Common.{◌≡◌, ◌≤◌, ℕ, suc, List, Option, Some, IfSome, IsTrue, true, refl, ap, sym, ◌∙◌, subst}
+use Rattle.std.proofs.Common.{◌≡◌, ℕ, suc, sym, ◌∙◌, subst}
 use Rattle.bfs_node.specs.declared.fault.PageKind.TheVariants.{Interior}
-use Rattle.bfs_btree.specs.Answers.{IsChild, IsInteriorPage}
+use Rattle.bfs_btree.specs.Answers.{IsInteriorPage}
 use Rattle.bfs_btree.specs.Trees.{page_in}
 use Rattle.bfs_btree.proofs.Descending.{way-on, goes-down, more-below}
 use Rattle.bfs_btree.proofs.Faulted.{of-pages, pages-spared}

@@ -1,4 +1,4 @@
-use Rattle.std.proofs.Common.{◌≡◌, ◌+◌, ℕ, suc, List, take, drop, ◌++◌, remove, ap, sym, ◌∙◌, subst, arith}
+use Rattle.std.proofs.Common.{◌≡◌, ◌+◌, ℕ, suc, List, take, remove, ap, ◌∙◌, arith}
 use Rattle.bfs_node.specs.Page.{Row, rows_of}
 use Rattle.bfs_btree.proofs.Dividing.{rows-some, take-removed}
 use Rattle.bfs_btree.proofs.divide.divide_interior.Goals as goal

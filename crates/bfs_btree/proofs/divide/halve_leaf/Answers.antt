@@ -1,6 +1,6 @@
-use Rattle.std.proofs.Common.{◌≡◌, ◌≤◌, ◌<◌, ◌+◌, ℕ, ℤ, pos, suc, List, length, take, drop, ap, sym, ◌∙◌, subst, arith, rules, w64, to_z, of_z}
-use Rattle.bfs_node.specs.Page.{Row, rows_of, row_in, key_of, keys_of, links_of, taken_by, HasKeys, IsKeyLength}
-use Rattle.bfs_btree.specs.Divided.{weight, bound_rows, bound_last}
+use Rattle.std.proofs.Common.{◌≡◌, ◌≤◌, ◌+◌, ℕ, suc, List, length, take, drop, ap, sym, ◌∙◌, subst, arith, rules}
+use Rattle.bfs_node.specs.Page.{Row, rows_of, row_in, key_of, links_of, HasKeys, IsKeyLength}
+use Rattle.bfs_btree.specs.Divided.{weight}
 use Rattle.bfs_btree.proofs.Halving.{middle-inside, middle-before, roomy-rows, first-half, second-half, leaf-split, between, key-most, keys-bound}
 use Rattle.bfs_btree.proofs.divide.halve_leaf.Goals as goal
 

@@ -1,5 +1,5 @@
-use Rattle.std.proofs.Common.{◌≡◌, ◌≤◌, ◌<◌, ◌+◌, ℕ, suc, List, length, take, ap, sym, ◌∙◌, subst, arith}
-use Rattle.bfs_node.specs.Page.{rows_of, row_in, key_of}
+use Rattle.std.proofs.Common.{◌≡◌, ◌≤◌, ◌<◌, ◌+◌, ℕ, suc, List, length, take, ap, sym, subst, arith}
+use Rattle.bfs_node.specs.Page.{rows_of}
 use Rattle.bfs_btree.specs.Divided.{weight}
 use Rattle.bfs_btree.proofs.Dividing.{key-small, weight-next}
 use Rattle.bfs_btree.proofs.divide.middle_of.Goals as goal

@@ -1,7 +1,6 @@
-use Rattle.std.proofs.Common.{◌≡◌, ◌≤◌, ◌<◌, ◌+◌, ℕ, ℤ, suc, List, insert, set, ap, sym, ◌∙◌, subst, arith, rules, w64, to_z, of_z}
+use Rattle.std.proofs.Common.{◌≡◌, ◌+◌, ℕ, ℤ, suc, List, insert, set, ap, sym, ◌∙◌, arith, rules, w64, to_z, of_z}
 use Rattle.bfs_node.specs.Page.{Row, rows_of, row_in, key_of, links_of}
 use Rattle.bfs_node.specs.declared.links.Links.{Links}
-use Rattle.bfs_btree.specs.Divided.{bound_rows, bound_last}
 use Rattle.bfs_btree.specs.Ways.{link_at}
 use Rattle.bfs_btree.proofs.Dividing.{bound-inner, bound-inner_last, bound-end, bound-end_last}
 use Rattle.bfs_btree.proofs.divide.put_bound.Goals as goal

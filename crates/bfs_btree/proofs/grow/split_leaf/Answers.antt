@@ -1,12 +1,10 @@
-use Rattle.std.proofs.Common.{◌≡◌, ◌≢◌, ◌≤◌, ◌<◌, ◌+◌, ℕ, ℤ, suc, List, Option, Some, None, IfSome, length, Bool, true, false, cond, ap, ap₂, sym, ◌∙◌, subst, arith, refl, rules, w64, to_z, of_z, inl, inr, ◌⊎◌, pos}
-use Rattle.bfs_node.specs.Page.{links_of, rows_of}
-use Rattle.bfs_node.specs.declared.links.Links.{Links}
+use Rattle.std.proofs.Common.{◌≡◌, ◌≤◌, ℕ, List, Option, length, true, false, ap, ap₂, sym, ◌∙◌, subst, refl, rules, w64, to_z, of_z}
 use Rattle.bfs_node.specs.declared.fault.PageKind.TheVariants.{Leaf}
 use Rattle.bfs_txn.specs.Pages.{HasLength}
 use Rattle.bfs_btree.specs.Answers.{IsChild, IsLink, IsLeafPage}
 use Rattle.bfs_base.specs.Lists.{times}
-use Rattle.bfs_btree.specs.Shapes.{Shape, place, leaves_of}
-use Rattle.bfs_btree.specs.Trees.{state_of, place_of, page_in, neighbours_in, header_in, IsTreeHeader}
+use Rattle.bfs_btree.specs.Shapes.{leaves_of}
+use Rattle.bfs_btree.specs.Trees.{state_of, place_of, page_in, neighbours_in, IsTreeHeader}
 use Rattle.bfs_btree.proofs.Faulted.{of-pages, pages-spared, failed-refused, failed-spared}
 use Rattle.bfs_btree.proofs.Grown.{grown-child, grown-link}
 use Rattle.bfs_btree.proofs.OfKind.{if_some, leaf-page, leaf-any, next-in}

@@ -1,4 +1,4 @@
-use Rattle.std.proofs.Common.{◌≡◌, ◌+◌, ℕ, ℤ, List, Option, Some, None, ◌∙◌, subst, arith, rules, w64, to_z, of_z}
+use Rattle.std.proofs.Common.{◌≡◌, ℤ, Option, ◌∙◌, subst, arith, rules, w64, to_z, of_z}
 use Rattle.bfs_btree.specs.Answers.{IsFound}
 use Rattle.bfs_btree.specs.Writes.{IsPut}
 use Rattle.bfs_btree.specs.declared.finding.Found.{Found}

@@ -1,4 +1,4 @@
-use Rattle.std.proofs.Common.{◌≡◌, ◌≤◌, ◌<◌, ◌+◌, ◌-◌, ℕ, List, Some, ap, sym, ◌∙◌, subst, arith}
+use Rattle.std.proofs.Common.{◌≡◌, ◌-◌, ℕ, ◌∙◌, subst, arith}
 use Rattle.bfs_btree.specs.Writes.{IsWay}
 use Rattle.bfs_btree.proofs.Faulted.{refused-before}
 use Rattle.bfs_btree.proofs.Later.{later-twice}

@@ -1,4 +1,4 @@
-use Rattle.std.proofs.Common.{◌≤◌, ◌-◌, ℕ, List}
+use Rattle.std.proofs.Common.{◌≤◌, ◌-◌}
 use Rattle.bfs_btree.specs.Answers.{IsChild}
 use Rattle.bfs_btree.specs.Writes.{Makes, Kept, IsWay}
 use Rattle.bfs_btree.proofs.inserting.reach_leaf.Given as goal

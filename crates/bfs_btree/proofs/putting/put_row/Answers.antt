@@ -1,4 +1,4 @@
-use Rattle.std.proofs.Common.{◌≡◌, ◌≤◌, ℕ, List, Option, Some, IfSome, refl, ap, sym, ◌∙◌, subst, rules, w64, to_z, of_z}
+use Rattle.std.proofs.Common.{◌≡◌, ◌∙◌, rules}
 use Rattle.bfs_node.specs.declared.fault.PageKind.TheVariants.{Leaf}
 use Rattle.bfs_btree.specs.Trees.{page_in}
 use Rattle.bfs_btree.proofs.Faulted.{of-pages, pages-spared, failed-refused, failed-spared}

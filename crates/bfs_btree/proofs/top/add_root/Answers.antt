@@ -1,4 +1,4 @@
-use Rattle.std.proofs.Common.{◌≡◌, ◌≤◌, ◌<◌, ◌+◌, ◌^◌, ℕ, List, Option, Some, length, refl, ap, sym, ◌∙◌, subst, rules, w64, to_z, of_z, SFits}
+use Rattle.std.proofs.Common.{◌≡◌, ◌<◌, ◌^◌, ℕ, List, Option, length, refl, ap, sym, ◌∙◌, subst, rules, w64, SFits}
 use Rattle.std.proofs.Math.Facts.{to_z_pos}
 use Rattle.bfs_node.specs.declared.links.Links.{Links}
 use Rattle.bfs_txn.specs.Pages.{HasLength}

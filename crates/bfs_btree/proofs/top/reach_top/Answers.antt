@@ -1,4 +1,4 @@
-use Rattle.std.proofs.Common.{◌≡◌, ◌≤◌, ℕ, List, Some, IfSome, refl, ◌∙◌}
+use Rattle.std.proofs.Common.{◌≡◌, refl, ◌∙◌}
 use Rattle.bfs_node.specs.declared.fault.PageKind.TheVariants.{Header as HeaderKind}
 use Rattle.bfs_btree.specs.Trees.{header_in}
 use Rattle.bfs_btree.proofs.Faulted.{of-pages, pages-spared, tree-header}

@@ -1,4 +1,4 @@
-use Rattle.std.proofs.Common.{◌≡◌, ◌≤◌, ◌-◌, ℕ, suc, List, [], Option, Some, refl, ap, sym, ◌∙◌, subst, arith, rules, w64, to_z, of_z}
+use Rattle.std.proofs.Common.{◌≡◌, [], ap, sym, ◌∙◌, arith, rules, w64, to_z, of_z}
 use Rattle.bfs_node.specs.declared.fault.PageKind.TheVariants.{Interior, Leaf}
 use Rattle.bfs_node.specs.declared.header.Header.{Header}
 use Rattle.bfs_btree.specs.Trees.{header_in, place_of}

@@ -1,5 +1,5 @@
 // Trees of pages in memory.
-ghost use Rattle.std.specs.Prelude.{◌≡◌};
+ghost use Rattle.std.specs.Prelude.{◌≡◌, ◌≤◌};
 ghost use Rattle.bfs_base.specs.Keys.{IsKey};
 ghost use Rattle.bfs_base.specs.declared.kind.KeyKind.TheVariants.{Text};
 
@@ -136,33 +136,38 @@ fn said(pages: &mut MemPages, key: &[u8], value: i64) -> Reply
     }
 }
 
-/// The key of a number: 100 bytes, which differ in the first two. A page has room for nine rows with such keys, so a
-/// tree with a hundred of them has three levels or more.
-fn key_of(i: u8) -> [u8; 100] {
-    let mut key = [b'k'; 100];
+/// The key of a number, of which the first two bytes differ from other keys'. A page has room for nine rows with keys
+/// of 100 bytes, so a tree with a hundred of them has three levels or more.
+fn key_of(i: u8) -> [u8; 255] {
+    let mut key = [b'k'; 255];
     key[0] = b'a' + i % 16;
     key[1] = b'a' + i / 16;
     key
 }
 
-/// The keys of the numbers below 100, each put in once, and again.
-fn puts_all(pages: &mut MemPages) -> bool {
+/// The keys of the numbers below 100, of so many bytes, each put in once, and again.
+fn puts_all(pages: &mut MemPages, length: usize) -> bool
+    requires { (2 ≤ length) × (length ≤ 255) }
+{
     for i in 0..100u8 {
         let key = key_of(i);
-        if said(pages, &key, i as i64) != Reply::Done {
+        if said(pages, &key[..length], i as i64) != Reply::Done {
             return false;
         }
-        if said(pages, &key, 7) != Reply::Exists {
+        if said(pages, &key[..length], 7) != Reply::Exists {
             return false;
         }
     }
     true
 }
 
-/// Whether the keys of the numbers below 100 have their values.
-fn has_all(pages: &mut MemPages) -> bool {
+/// Whether the keys of the numbers below 100, of so many bytes, have their values.
+fn has_all(pages: &mut MemPages, length: usize) -> bool
+    requires { length ≤ 255 }
+{
     for i in 0..100u8 {
-        match found(pages, &key_of(i)) {
+        let key = key_of(i);
+        match found(pages, &key[..length]) {
             Some(at) => {
                 if at.1 != i as i64 {
                     return false;
@@ -193,9 +198,24 @@ fn rows_are_put_into_a_tree_that_grows(rt: HostRuntime) -> Result<(), Fail> {
     bytes.extend_from_slice(&page_of(&[], (-1, -1, -1)))?;
     match stream_of(bytes) {
         Some(mut pages) => {
-            assert!(rt; puts_all(&mut pages));
-            assert!(rt; has_all(&mut pages));
+            assert!(rt; puts_all(&mut pages, 100));
+            assert!(rt; has_all(&mut pages, 100));
             assert_eq!(rt; levels_of(&pages), Some(3));
+        }
+        None => assert!(rt; false),
+    }
+    Ok(())
+}
+
+#[test]
+fn keys_of_255_bytes_are_put(rt: HostRuntime) -> Result<(), Fail> {
+    let mut bytes = Vec::new(rt.alloc());
+    bytes.extend_from_slice(&header_of(1, 2048))?;
+    bytes.extend_from_slice(&page_of(&[], (-1, -1, -1)))?;
+    match stream_of(bytes) {
+        Some(mut pages) => {
+            assert!(rt; puts_all(&mut pages, 255));
+            assert!(rt; has_all(&mut pages, 255));
         }
         None => assert!(rt; false),
     }

@@ -1,3 +1,4 @@
 pub mod Sizes
 pub mod Homes
 pub mod Closing
+pub mod Walking

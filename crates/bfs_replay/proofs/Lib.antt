@@ -2,3 +2,4 @@ pub mod Sizes
 pub mod Homes
 pub mod Closing
 pub mod Walking
+pub mod Further

@@ -3,4 +3,5 @@
 #![tactic(auto)]
 
 mod calls;
+mod home;
 mod log;

@@ -3,3 +3,4 @@ pub mod Homes
 pub mod Closing
 pub mod Walking
 pub mod Further
+pub mod Going

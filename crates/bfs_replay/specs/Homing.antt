@@ -1,13 +1,13 @@
 -- A disk on which the blocks that the log names are written home.
-use Rattle.std.specs.Prelude.{◌≡◌, ◌⊎◌, ◌<◌, ℕ, ◌+◌, ◌*◌, List, length, All}
+use Rattle.std.specs.Prelude.{◌≡◌, ◌⊎◌, ◌<◌, ℕ, ◌+◌, ◌*◌, List, ◌++◌, length, All, Option}
 use Rattle.bfs_base.specs.Images.{sector, overwritten}
 use Rattle.bfs_base.specs.Lists.{times}
-use Rattle.bfs_disk.specs.State.{State, IsOneOf, ReadsAs}
+use Rattle.bfs_disk.specs.State.{State, IsOneOf, ReadsAs, Tells}
 use Rattle.bfs_super.specs.declared.sup.Super.{Super}
 use Rattle.bfs_super.specs.Geometry.{geometry_of}
 use Rattle.bfs_super.specs.Layout.{super_at, sector_of}
 use Rattle.bfs_log.specs.Entry.{IsHome}
-use Rattle.bfs_log.specs.Replay.{Home, Valid, AgreeBut, home_places, super_of, with_homes}
+use Rattle.bfs_log.specs.Replay.{Home, Valid, AgreeBut, Logs, block_sectors, blocks_of, home_places, homes_of, log_to, super_of, with_homes}
 
 -- Of the homes of a log some were written: the disk reads as the image with these, and a crash leaves every sector outside of
 -- all homes' blocks as the image has it.
@@ -30,3 +30,11 @@ pub record IsLogOf (image : List ℕ) (s : Super) (all : List Home) : Type 0 whe
   pub super : super_of image ≡ s
   pub valid : Valid image
   pub homes : All (IsHome (geometry_of s)) (home_places all)
+
+-- A walk over the log has written the homes of the entries in front home, and comes to those behind.
+pub record Between (image : List ℕ) (s : Super) (entries : List (List Home)) (at : ℕ) (told : Option State) : Type 0 where
+  pub front : List (List Home)
+  pub back : List (List Home)
+  pub parts : front ++ back ≡ entries
+  pub ahead : Logs (geometry_of s) (blocks_of image) at (log_to s) back
+  pub known : Tells told (Homing (block_sectors s) (homes_of entries) (homes_of front) image)

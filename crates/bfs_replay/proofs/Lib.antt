@@ -4,3 +4,4 @@ pub mod Closing
 pub mod Walking
 pub mod Further
 pub mod Going
+pub mod Recovering

@@ -71,3 +71,7 @@ module _ (s : Super) (valid : IsValid s) where
   in_range (Some size) b bytes on lt long =
       let sectors : length bytes / 512 ≡ block_sectors s = ap (λ (n : ℕ). n / 512) long in
       omega (arith, fits_sectors b lt, on, sectors)
+
+  pub has_two : (size : Option ℕ) → HasSectors size (sectors_of s) → HasSectors size 2
+  has_two None on = on
+  has_two (Some size) on = let f = fits_sectors 0 (let l = log_inside 0 (omega (arith, valid.log.2)) in omega (arith, l)) in omega (arith, f, on, sizes.1)

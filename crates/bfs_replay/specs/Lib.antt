@@ -1,2 +1,3 @@
 pub mod Homing
 pub mod Steps
+pub mod Recover

@@ -5,3 +5,6 @@
 mod calls;
 mod home;
 mod log;
+mod recover;
+
+pub use recover::MountFault;

@@ -5,3 +5,4 @@ pub mod Walking
 pub mod Further
 pub mod Going
 pub mod Recovering
+pub mod Loading

@@ -75,3 +75,6 @@ module _ (s : Super) (valid : IsValid s) where
   pub has_two : (size : Option ℕ) → HasSectors size (sectors_of s) → HasSectors size 2
   has_two None on = on
   has_two (Some size) on = let f = fits_sectors 0 (let l = log_inside 0 (omega (arith, valid.log.2)) in omega (arith, l)) in omega (arith, f, on, sizes.1)
+
+  pub volume_small : sectors_of s ≤ 67108864
+  volume_small = let le : natural s.num_blocks * block_sectors s ≤ natural s.num_blocks * 16 = mul-le-mul_left (natural s.num_blocks) few_sectors in omega (arith, le, blocks_low)

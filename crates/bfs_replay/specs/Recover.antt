@@ -2,17 +2,18 @@
 use Rattle.std.specs.Prelude.{◌≡◌, ◌⊎◌, ◌<◌, ◌≤◌, ℕ, ◌*◌, ◌/◌, List, length, Option}
 use Rattle.bfs_base.specs.Counts.{Rose}
 use Rattle.bfs_disk.specs.State.{State, Tells, Holds}
+use Rattle.bfs_disk.specs.Disk.{HasSectors}
 use Rattle.bfs_super.specs.declared.sup.Super.{Super}
 use Rattle.bfs_super.specs.Conditions.{IsRefusal, IsValid}
-use Rattle.bfs_log.specs.Replay.{Replayed, super_of}
+use Rattle.bfs_log.specs.Replay.{Replayed, Valid, super_of}
 use Rattle.bfs_log.specs.Replay.{Malformed as IsMalformed}
 use Rattle.bfs_replay.specs.Steps.{sectors_of}
-use Rattle.bfs_replay.specs.declared.recover.Ending.{Ending}
-use Rattle.bfs_replay.specs.declared.recover.Ending.TheVariants as endings
-use Rattle.bfs_replay.specs.declared.recover.MountFault.{MountFault}
-use Rattle.bfs_replay.specs.declared.recover.MountFault.TheVariants as faults
-use Rattle.bfs_replay.specs.declared.recover.Loaded.{Loaded}
-use Rattle.bfs_replay.specs.declared.recover.Loaded.TheVariants as loads
+use Rattle.bfs_replay.specs.declared.recovery.Ending.{Ending}
+use Rattle.bfs_replay.specs.declared.recovery.Ending.TheVariants as endings
+use Rattle.bfs_replay.specs.declared.recovery.MountFault.{MountFault}
+use Rattle.bfs_replay.specs.declared.recovery.MountFault.TheVariants as faults
+use Rattle.bfs_replay.specs.declared.recovery.Loaded.{Loaded}
+use Rattle.bfs_replay.specs.declared.recovery.Loaded.TheVariants as loads
 
 -- the image, or one that is replayed to the same
 abbrev pub GoesOn : List ℕ → List ℕ → Type 0
@@ -73,3 +74,17 @@ IsJudged s sectors (loads.Volume found) = (found ≡ s) × IsValid s × (sectors
 IsJudged s sectors (loads.Short count needed) = (count ≡ sectors) × IsValid s × (needed ≡ sectors_of s) × (sectors < needed)
 IsJudged s sectors (loads.Refused fault) = IsRefusal s fault
 IsJudged s sectors loads.Failed = ⊥
+
+-- what is found on a disk that reads as an image
+abbrev pub FindsIn : List ℕ → Loaded → Type 0
+FindsIn image (loads.Volume s) = (s ≡ super_of image) × Valid image
+FindsIn image (loads.Short sectors needed) = IsShort image sectors needed
+FindsIn image (loads.Refused fault) = (1024 ≤ length image) × IsRefusal (super_of image) fault
+FindsIn image loads.Failed = Unit {0}
+
+-- a volume that was found fits the disk
+abbrev pub FitsDisk : Option ℕ → Loaded → Type 0
+FitsDisk size (loads.Volume s) = IsValid s × HasSectors size (sectors_of s)
+FitsDisk size (loads.Short sectors needed) = Unit {0}
+FitsDisk size (loads.Refused fault) = Unit {0}
+FitsDisk size loads.Failed = Unit {0}

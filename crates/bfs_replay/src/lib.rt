@@ -5,6 +5,6 @@
 mod calls;
 mod home;
 mod log;
-mod recover;
+mod recovery;
 
-pub use recover::MountFault;
+pub use recovery::{MountFault, recover};

@@ -12,7 +12,7 @@ use Rattle.bfs_replay.specs.Recover.{GoesOn}
 use Rattle.bfs_replay.proofs.Sizes.{has_two}
 use Rattle.bfs_replay.proofs.Homes.{homing_start}
 use Rattle.bfs_replay.proofs.Recovering.{held_image, log_full, log_of, stopped_on, closed_on, recovered, entries_in, malformed_by, not_malformed}
-use Rattle.bfs_replay.proofs.recover.replay_log.Goals as goal
+use Rattle.bfs_replay.proofs.recovery.replay_log.Goals as goal
 
 pub returns-in-Err-Malformed-clause-ends : goal.returns-in-Err-Malformed-clause-ends
 returns-in-Err-Malformed-clause-ends g c image is valid held = (

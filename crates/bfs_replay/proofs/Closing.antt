@@ -1,5 +1,5 @@
 -- The last steps of a recovery: a barrier, the superblock with an empty log, and a barrier.
-use Rattle.std.proofs.Common.{◌≡◌, ◌⊎◌, inl, inr, ⊎_elim, ℕ, ◌<◌, ◌≤◌, List, length, sym, ◌∙◌, ap, subst, arith}
+use Rattle.std.proofs.Common.{◌≡◌, inl, inr, ⊎_elim, ℕ, ◌<◌, List, length, sym, ◌∙◌, ap, subst, arith}
 use Rattle.std.specs.Prelude.{Option, Some}
 use Rattle.std.specs.Option.{IfSome, option_map}
 use Rattle.bfs_base.specs.Images.{overwritten}
@@ -7,8 +7,8 @@ use Rattle.bfs_disk.specs.State.{State, Tells, Filled, IsImage, Holds, written, 
 use Rattle.bfs_disk.specs.Disk.{HasSectors, told_written}
 use Rattle.bfs_super.specs.declared.sup.Super.{Super}
 use Rattle.bfs_super.specs.Layout.{super_at, sector_of}
-use Rattle.bfs_log.specs.Replay.{Home, AgreeBut, with_homes}
-use Rattle.bfs_replay.specs.Homing.{Homing, Closed, ClosedOrNot}
+use Rattle.bfs_log.specs.Replay.{Home, with_homes}
+use Rattle.bfs_replay.specs.Homing.{Homing, ClosedOrNot}
 use Rattle.bfs_replay.proofs.Homes.{told_size, told_filled, homing_image, closing, before_closing, closed}
 
 module _ (r : ℕ) (all : List Home) (image : List ℕ) (told : Option State) (size : Option ℕ) (filled : IfSome told Filled) (sized : IfSome told (λ t. size ≡ Some t.size)) (two : HasSectors size 2)

@@ -1,5 +1,5 @@
 -- A walk over the log that writes the homes of each entry.
-use Rattle.std.proofs.Common.{◌≡◌, ◌≢◌, ℕ, ◌+◌, ◌*◌, ◌<◌, ◌≤◌, List, [], ◌∷◌, ◌++◌, length, take, refl, sym, ◌∙◌, ap, subst, arith, append_assoc}
+use Rattle.std.proofs.Common.{◌≡◌, ◌≢◌, ℕ, ◌+◌, ◌<◌, List, [], ◌∷◌, ◌++◌, length, take, refl, sym, ◌∙◌, ap, subst, arith, append_assoc}
 use Rattle.std.specs.Prelude.{Option, Some}
 use Rattle.std.specs.Option.{IfSome}
 use Rattle.std.proofs.lemmas.List.{append-nil}
@@ -17,7 +17,7 @@ use Rattle.bfs_log.specs.declared.entry.EntryFault.{EntryFault}
 use Rattle.bfs_log.specs.Entry.{IsEntry, IsFault, runs_of, blocks_in, log_first}
 use Rattle.bfs_log.specs.Found.{HasRuns}
 use Rattle.bfs_log.specs.Ring.{next_place}
-use Rattle.bfs_log.specs.Replay.{Home, Logs, super_of, block_sectors, blocks_of, home_places, homes_at, homes_from, homes_of, logged, log_from, log_to}
+use Rattle.bfs_log.specs.Replay.{Home, Logs, block_sectors, blocks_of, home_places, homes_at, homes_from, homes_of, logged, log_from, log_to}
 use Rattle.bfs_log.proofs.Logged.{entry_no_fault, logs_one, places_from}
 use Rattle.bfs_replay.specs.Homing.{Homing, IsLogOf, Between}
 use Rattle.bfs_replay.specs.Steps.{AreRead, HasEntriesIn, IsFaultAt, place_at, sectors_of}

@@ -2,14 +2,14 @@
 use Rattle.std.proofs.Common.{◌≡◌, ◌≢◌, ◌⊎◌, inl, inr, ⊎_elim, ℕ, ◌+◌, ◌-◌, ◌*◌, ◌/◌, ◌<◌, ◌≤◌, List, [], ◌∷◌, ◌++◌, length, take, drop, refl, sym, ◌∙◌, ap, subst, arith, get_or, false, length-drop}
 use Rattle.std.specs.Prelude.{All, if◌then◌else◌, ◌==◌, Option, Some, None}
 use Rattle.std.specs.Option.{IfSome}
-use Rattle.std.proofs.lemmas.Bool.{cases_lt, cases_eq, cond-true, cond-false, ne_eqb}
+use Rattle.std.proofs.lemmas.Bool.{cases_lt, cond-true, cond-false, ne_eqb}
 use Rattle.std.proofs.lemmas.List.{length-take-le}
 use Rattle.std.proofs.lemmas.List.Elements.{All-head, All-tail}
 use Rattle.std.proofs.Math.Nat.{mul-le-mul_left}
 use Rattle.bfs_base.specs.Images.{sector, block, overwritten}
 use Rattle.bfs_base.specs.Lists.{times, Has}
 use Rattle.bfs_base.proofs.Sectors.{same_sectors, sector_part, sector_before, sector_inside, sector_after, length-pasted}
-use Rattle.bfs_disk.specs.State.{State, Tells, Filled, IsImage, IsOneOf, IsQuiet, ReadsAs, Holds, newest, written, settled, names}
+use Rattle.bfs_disk.specs.State.{State, Tells, Filled, IsImage, IsOneOf, ReadsAs, Holds, newest, written, settled, names}
 use Rattle.bfs_disk.specs.StateLaws.{newest_one}
 use Rattle.bfs_disk.specs.Blocks.{IsRead}
 use Rattle.bfs_disk.specs.Disk.{ReadsSectors, HasSectors}

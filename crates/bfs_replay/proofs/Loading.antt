@@ -1,5 +1,5 @@
 -- What the superblock's sector says of the image.
-use Rattle.std.proofs.Common.{◌≡◌, inl, inr, ℕ, ◌+◌, ◌*◌, ◌/◌, ◌<◌, ◌≤◌, List, length, refl, sym, ◌∙◌, ap, subst, arith}
+use Rattle.std.proofs.Common.{◌≡◌, inl, inr, ℕ, ◌*◌, ◌/◌, ◌<◌, ◌≤◌, List, length, refl, sym, ◌∙◌, ap, subst, arith}
 use Rattle.std.specs.Prelude.{Option, Some}
 use Rattle.std.specs.Option.{IfSome}
 use Rattle.std.proofs.lemmas.List.{take_all}
@@ -10,7 +10,7 @@ use Rattle.bfs_disk.proofs.Calls.{told_sized}
 use Rattle.bfs_super.specs.declared.sup.Super.{Super}
 use Rattle.bfs_super.specs.Conditions.{natural, IsValid, IsRefusal}
 use Rattle.bfs_super.specs.Layout.{super_at}
-use Rattle.bfs_log.specs.Replay.{Valid, super_of, block_sectors}
+use Rattle.bfs_log.specs.Replay.{super_of, block_sectors}
 use Rattle.bfs_replay.specs.Steps.{sectors_of}
 use Rattle.bfs_replay.specs.Recover.{IsShort, IsJudged, FindsIn, FitsDisk}
 use Rattle.bfs_replay.specs.declared.recovery.Loaded.{Loaded}

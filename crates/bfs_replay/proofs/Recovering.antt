@@ -1,10 +1,10 @@
 -- What a recovery leaves is replayed to the same.
-use Rattle.std.proofs.Common.{◌≡◌, ◌≢◌, ◌⊎◌, inl, inr, ⊎_elim, ℕ, ℤ, pos, negsuc, ◌+◌, ◌*◌, ◌<◌, ◌≤◌, ◌≤ℤ◌, List, [], length, refl, sym, ◌∙◌, ap, subst, arith}
-use Rattle.std.specs.Prelude.{Option, Some, if◌then◌else◌, ◌==◌}
+use Rattle.std.proofs.Common.{◌≡◌, ◌≢◌, inr, ⊎_elim, ℕ, ℤ, pos, negsuc, ◌*◌, ◌≤◌, ◌≤ℤ◌, List, length, refl, sym, ◌∙◌, ap, subst, arith}
+use Rattle.std.specs.Prelude.{Option, if◌then◌else◌, ◌==◌}
 use Rattle.std.proofs.lemmas.Int.{ints}
 use Rattle.std.proofs.lemmas.Bool.{cond-false, ne_eqb}
-use Rattle.bfs_base.specs.Images.{sector, overwritten}
-use Rattle.bfs_disk.specs.State.{State, IsImage, Tells, Holds}
+use Rattle.bfs_base.specs.Images.{overwritten}
+use Rattle.bfs_disk.specs.State.{State, Tells, Holds}
 use Rattle.bfs_disk.specs.Disk.{MayLeave}
 use Rattle.bfs_disk.proofs.Images.{quiet_image}
 use Rattle.bfs_super.specs.declared.sup.Super.{Super}
@@ -17,12 +17,11 @@ use Rattle.bfs_log.specs.declared.entry.EntryFault.{EntryFault}
 use Rattle.bfs_log.proofs.Logged.{logs_homes}
 use Rattle.bfs_log.proofs.Replays.{replayed_empty, replayed_size, replayed_super, stopped}
 use Rattle.bfs_log.proofs.Emptied.{emptied_valid}
-use Rattle.bfs_replay.specs.Homing.{Homing, IsLogOf, Closed, ClosedOrNot}
+use Rattle.bfs_replay.specs.Homing.{IsLogOf, Closed, ClosedOrNot}
 use Rattle.bfs_replay.specs.Steps.{HasEntriesIn, HasEntries, HasFaultIn}
 use Rattle.bfs_replay.specs.Recover.{GoesOn, IsRecovered}
 use Rattle.bfs_replay.specs.declared.log.Halt.{Halt}
 use Rattle.bfs_replay.specs.declared.log.Halt.TheVariants as halts
-use Rattle.bfs_replay.proofs.Homes.{homing_start}
 
 -- a crash of a quiet disk leaves its image
 pub held_image : (told : Option State) (image c : List ℕ) → Tells told (Holds image) → MayLeave told c → c ≡ image

@@ -1,5 +1,5 @@
 -- How a recovery ends, and what it leaves on the way.
-use Rattle.std.specs.Prelude.{◌≡◌, ◌⊎◌, ◌<◌, ◌≤◌, ℕ, ◌*◌, ◌/◌, List, length, Option}
+use Rattle.std.specs.Prelude.{◌≡◌, ◌⊎◌, ◌<◌, ◌≤◌, ℕ, ◌/◌, List, length, Option}
 use Rattle.bfs_base.specs.Counts.{Rose}
 use Rattle.bfs_disk.specs.State.{State, Tells, Holds}
 use Rattle.bfs_disk.specs.Disk.{HasSectors}

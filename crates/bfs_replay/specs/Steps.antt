@@ -1,5 +1,5 @@
 -- What the steps of a recovery read and find.
-use Rattle.std.specs.Prelude.{◌≡◌, ◌<◌, ℕ, ◌*◌, List, Option, IfSome}
+use Rattle.std.specs.Prelude.{ℕ, ◌*◌, List, Option, IfSome}
 use Rattle.bfs_base.specs.Counts.{Rose}
 use Rattle.bfs_disk.specs.State.{State}
 use Rattle.bfs_disk.specs.Blocks.{IsRead}

@@ -108,12 +108,7 @@ fn load<D: Disk>(disk: &mut D) -> Loaded
 }
 
 // Replays a log that isn't empty.
-fn replay_log<D: Disk>(
-    disk: &mut D,
-    sup: &Super,
-    array: &mut [u8],
-    buffer: &mut [u8],
-) -> Ending
+fn replay_log<D: Disk>(disk: &mut D, sup: &Super, array: &mut [u8], buffer: &mut [u8]) -> Ending
     requires valid { IsValid sup.now }
     requires full { sup.now.log_start ≢ sup.now.log_end }
     requires on_disk { HasSectors (D.size disk.old) (sectors_of sup.now) }

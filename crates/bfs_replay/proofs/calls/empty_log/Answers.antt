@@ -1,13 +1,12 @@
-use Rattle.std.proofs.Common.{◌≡◌, ℕ, List, length, rules, ◌∙◌, ap, sym, subst}
+use Rattle.std.proofs.Common.{◌≡◌, length, rules, ◌∙◌, ap}
 use Rattle.std.specs.Option.{option_map}
-use Rattle.std.proofs.lemmas.Result.{on_ok_weaker}
 use Rattle.bfs_base.proofs.Moments.{passed_on}
-use Rattle.bfs_disk.specs.State.{State, settled, written}
+use Rattle.bfs_disk.specs.State.{settled, written}
 use Rattle.bfs_disk.proofs.Calls.{passed_write, passed_quiet}
-use Rattle.bfs_super.specs.Layout.{super_at, sector_of}
+use Rattle.bfs_super.specs.Layout.{sector_of}
 use Rattle.bfs_log.specs.Replay.{emptied}
 use Rattle.bfs_replay.specs.Homing.{ClosedOrNot}
-use Rattle.bfs_replay.proofs.Closing.{first, told_settled, behind, told_closing, during, after}
+use Rattle.bfs_replay.proofs.Closing.{first, told_closing, during, after}
 use Rattle.bfs_replay.proofs.calls.empty_log.Goals as goal
 
 pub returns-in_err-barrier-clause-time : goal.returns-in_err-barrier-clause-time
@@ -59,7 +58,7 @@ returns-clause-done g c r image all known =
     let z = g.met.D.Disk.sized disk in (
       settled (written (settled known.0) 1 sector),
       c.in_ok-barrier-2.ensures.settled
-      ∙ ap (option_map settled) (told_closing r all image _ (g.D.Disk.size disk) f z c.requires s sector (c.print-sector.ensures.sector ∙ ap sector_of c.without_log-emptied.ensures) (c.print-sector.ensures.again ∙ c.without_log-emptied.ensures) long known _ _ c.in_ok-barrier.ensures.settled c.in_ok-write.ensures.written),
+          ∙ ap (option_map settled) (told_closing r all image _ (g.D.Disk.size disk) f z c.requires s sector (c.print-sector.ensures.sector ∙ ap sector_of c.without_log-emptied.ensures) (c.print-sector.ensures.again ∙ c.without_log-emptied.ensures) long known _ _ c.in_ok-barrier.ensures.settled c.in_ok-write.ensures.written),
       after r all image _ (g.D.Disk.size disk) f z c.requires s sector (c.print-sector.ensures.sector ∙ ap sector_of c.without_log-emptied.ensures) (c.print-sector.ensures.again ∙ c.without_log-emptied.ensures) long known,
     )
 

@@ -1,11 +1,11 @@
-use Rattle.std.proofs.Common.{◌≡◌, ◌∙◌, ◌+◌, ◌*◌, ◌/◌, ◌<◌, ◌≤◌, ◌++◌, [], ◌∷◌, ℕ, List, length, OnOk, sym, ap, subst, arith}
+use Rattle.std.proofs.Common.{◌≡◌, ◌∙◌, ◌+◌, ◌*◌, ◌/◌, ◌<◌, ◌≤◌, ◌++◌, [], ◌∷◌, ℕ, List, sym, ap, subst, arith}
 use Rattle.std.proofs.lemmas.Result.{on_ok_weaker}
 use Rattle.bfs_base.proofs.Moments.{passed_on}
 use Rattle.bfs_base.specs.Lists.{Has}
 use Rattle.bfs_base.specs.Moments.{Elapses}
-use Rattle.bfs_disk.specs.State.{State, Tells, written}
+use Rattle.bfs_disk.specs.State.{Tells, written}
 use Rattle.bfs_disk.specs.Disk.{InRange, MayLeave, told_written}
-use Rattle.bfs_disk.proofs.Calls.{passed_write, passed_quiet, tells_write}
+use Rattle.bfs_disk.proofs.Calls.{passed_write, passed_quiet}
 use Rattle.bfs_super.specs.Conditions.{natural}
 use Rattle.bfs_super.specs.Geometry.{geometry_of}
 use Rattle.bfs_log.specs.Entry.{log_first}

@@ -1,4 +1,4 @@
-use Rattle.std.proofs.Common.{◌≡◌, ◌∙◌, ◌<◌, ◌≤◌, [], ℕ, List, length, refl, sym, ap, subst, arith}
+use Rattle.std.proofs.Common.{◌∙◌, ℕ, refl, sym, ap, subst, arith}
 use Rattle.std.specs.Prelude.{All}
 use Rattle.bfs_base.proofs.Moments.{passed_none, passed_then, passed_on}
 use Rattle.bfs_disk.specs.Disk.{MayLeave, HasSectors}
@@ -64,27 +64,27 @@ loop-at-preserved g c = record {
   later = omega (arith, c.loop-at.invariant.later, c.in-Ok.ensures.later, c.in-Ok-write_runs.ensures.cause.later);
   size = c.in-Ok-write_runs.ensures.size ∙ c.in-Ok.ensures.size ∙ c.loop-at.invariant.size;
   way = λ image log is_log known.
-    let s = c.args.sup.now in
-    let l = c.loop-at in
-    let b = l.invariant.way image log is_log known in
-    goes_on image s log.0 is_log c.requires.valid l.at l.invariant.low (λ e. c.loop-at-test.true (e ∙ sym c.log_end-end.ensures.value)) (g.D.Disk.state l.disk) (g.D.Disk.size l.disk) (g.met.D.Disk.filled l.disk) (g.met.D.Disk.sized l.disk)
-    (subst (λ z. HasSectors z (sectors_of s)) (sym l.invariant.size) c.requires.on_disk) b c.read_entry.new.buffer c.in-Ok.ensures.read c.in-Ok.ensures.entry.0 c.in-Ok.found c.in-Ok.ensures.entry.1
-    c.ring_next.result c.place_behind-at.result (g.D.Disk.state c.write_runs.new.disk) (c.ring_next.ensures.value ∙ ap (λ (n : ℕ). next_place l.at 1 n) c.from-length.ensures) c.place_behind-at.ensures.value
-    (c.in-Ok-write_runs.ensures.next image (homes_of log.0) (homes_of b.front) is_log
-    (are_homes image s log.0 is_log c.requires.valid l.at l.invariant.low (λ e. c.loop-at-test.true (e ∙ sym c.log_end-end.ensures.value)) (g.D.Disk.state l.disk) (g.D.Disk.size l.disk) (g.met.D.Disk.filled l.disk) (g.met.D.Disk.sized l.disk)
-    (subst (λ z. HasSectors z (sectors_of s)) (sym l.invariant.size) c.requires.on_disk) b c.read_entry.new.buffer c.in-Ok.ensures.read c.in-Ok.ensures.entry.0 c.in-Ok.found c.in-Ok.ensures.entry.1)
-    (b.known.0, (c.in-Ok.ensures.state ∙ b.known.1), b.known.2));
+      let s = c.args.sup.now in
+      let l = c.loop-at in
+      let b = l.invariant.way image log is_log known in
+      goes_on image s log.0 is_log c.requires.valid l.at l.invariant.low (λ e. c.loop-at-test.true (e ∙ sym c.log_end-end.ensures.value)) (g.D.Disk.state l.disk) (g.D.Disk.size l.disk) (g.met.D.Disk.filled l.disk) (g.met.D.Disk.sized l.disk)
+      (subst (λ z. HasSectors z (sectors_of s)) (sym l.invariant.size) c.requires.on_disk) b c.read_entry.new.buffer c.in-Ok.ensures.read c.in-Ok.ensures.entry.0 c.in-Ok.found c.in-Ok.ensures.entry.1
+      c.ring_next.result c.place_behind-at.result (g.D.Disk.state c.write_runs.new.disk) (c.ring_next.ensures.value ∙ ap (λ (n : ℕ). next_place l.at 1 n) c.from-length.ensures) c.place_behind-at.ensures.value
+      (c.in-Ok-write_runs.ensures.next image (homes_of log.0) (homes_of b.front) is_log
+      (are_homes image s log.0 is_log c.requires.valid l.at l.invariant.low (λ e. c.loop-at-test.true (e ∙ sym c.log_end-end.ensures.value)) (g.D.Disk.state l.disk) (g.D.Disk.size l.disk) (g.met.D.Disk.filled l.disk) (g.met.D.Disk.sized l.disk)
+      (subst (λ z. HasSectors z (sectors_of s)) (sym l.invariant.size) c.requires.on_disk) b c.read_entry.new.buffer c.in-Ok.ensures.read c.in-Ok.ensures.entry.0 c.in-Ok.found c.in-Ok.ensures.entry.1)
+      (b.known.0, (c.in-Ok.ensures.state ∙ b.known.1), b.known.2));
   time = λ image log is_log known.
-    let s = c.args.sup.now in
-    let l = c.loop-at in
-    let b = l.invariant.way image log is_log known in
-    passed_on
-    (passed_then (AgreeBut (block_sectors s) (homes_of log.0) image) (l.invariant.time image log is_log known) c.in-Ok.ensures.time (λ i r. r)
-    (λ i left. homing_image (block_sectors s) (homes_of log.0) (homes_of b.front) image i b.known.0 b.known.2 (subst (λ o. MayLeave o i) b.known.1 left)))
-    (c.in-Ok-write_runs.ensures.time image (homes_of log.0) (homes_of b.front) is_log
-    (are_homes image s log.0 is_log c.requires.valid l.at l.invariant.low (λ e. c.loop-at-test.true (e ∙ sym c.log_end-end.ensures.value)) (g.D.Disk.state l.disk) (g.D.Disk.size l.disk) (g.met.D.Disk.filled l.disk) (g.met.D.Disk.sized l.disk)
-    (subst (λ z. HasSectors z (sectors_of s)) (sym l.invariant.size) c.requires.on_disk) b c.read_entry.new.buffer c.in-Ok.ensures.read c.in-Ok.ensures.entry.0 c.in-Ok.found c.in-Ok.ensures.entry.1)
-    (b.known.0, (c.in-Ok.ensures.state ∙ b.known.1), b.known.2));
+      let s = c.args.sup.now in
+      let l = c.loop-at in
+      let b = l.invariant.way image log is_log known in
+      passed_on
+      (passed_then (AgreeBut (block_sectors s) (homes_of log.0) image) (l.invariant.time image log is_log known) c.in-Ok.ensures.time (λ i r. r)
+      (λ i left. homing_image (block_sectors s) (homes_of log.0) (homes_of b.front) image i b.known.0 b.known.2 (subst (λ o. MayLeave o i) b.known.1 left)))
+      (c.in-Ok-write_runs.ensures.time image (homes_of log.0) (homes_of b.front) is_log
+      (are_homes image s log.0 is_log c.requires.valid l.at l.invariant.low (λ e. c.loop-at-test.true (e ∙ sym c.log_end-end.ensures.value)) (g.D.Disk.state l.disk) (g.D.Disk.size l.disk) (g.met.D.Disk.filled l.disk) (g.met.D.Disk.sized l.disk)
+      (subst (λ z. HasSectors z (sectors_of s)) (sym l.invariant.size) c.requires.on_disk) b c.read_entry.new.buffer c.in-Ok.ensures.read c.in-Ok.ensures.entry.0 c.in-Ok.found c.in-Ok.ensures.entry.1)
+      (b.known.0, (c.in-Ok.ensures.state ∙ b.known.1), b.known.2));
 }
 
 pub returns-clause-next : goal.returns-clause-next

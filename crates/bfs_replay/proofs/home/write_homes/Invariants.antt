@@ -1,8 +1,8 @@
 use Rattle.std.proofs.Common.{◌≡◌, ◌≤◌, ◌<◌, [], ℕ, List, length}
 use Rattle.bfs_base.specs.Moments.{Passed}
-use Rattle.bfs_disk.specs.State.{State, Tells}
+use Rattle.bfs_disk.specs.State.{Tells}
 use Rattle.bfs_log.specs.Ring.{in_use}
-use Rattle.bfs_log.specs.Replay.{Home, AgreeBut, block_sectors, homes_of, log_to}
+use Rattle.bfs_log.specs.Replay.{AgreeBut, block_sectors, homes_of, log_to}
 use Rattle.bfs_replay.specs.Homing.{Homing, IsLogOf, Between}
 use Rattle.bfs_replay.specs.Steps.{HasEntriesIn}
 use Rattle.bfs_replay.proofs.home.write_homes.Given as goal

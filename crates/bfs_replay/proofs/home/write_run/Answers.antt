@@ -1,11 +1,11 @@
-use Rattle.std.proofs.Common.{◌≡◌, ◌∙◌, ◌+◌, ◌<◌, ◌≤◌, ◌++◌, [], ◌∷◌, ℕ, List, length, refl, sym, ap, subst, arith}
+use Rattle.std.proofs.Common.{◌≡◌, ◌∙◌, ◌+◌, ◌<◌, ◌++◌, [], ◌∷◌, ℕ, List, refl, ap, subst, arith}
 use Rattle.bfs_base.proofs.Moments.{passed_on}
-use Rattle.bfs_base.specs.Lists.{Has, counted_from}
-use Rattle.bfs_disk.specs.State.{State, Tells}
+use Rattle.bfs_base.specs.Lists.{counted_from}
+use Rattle.bfs_disk.specs.State.{Tells}
 use Rattle.bfs_super.specs.Geometry.{geometry_of}
 use Rattle.bfs_log.specs.Ring.{next_place}
-use Rattle.bfs_log.specs.Replay.{Home, AgreeBut, block_sectors, blocks_of, home_places, homes_from, logged}
-use Rattle.bfs_replay.specs.Homing.{Homing, IsLogOf}
+use Rattle.bfs_log.specs.Replay.{Home, block_sectors, blocks_of, homes_from, logged}
+use Rattle.bfs_replay.specs.Homing.{Homing}
 use Rattle.bfs_replay.proofs.Further.{run_further}
 use Rattle.bfs_replay.proofs.home.write_run.Goals as goal
 

@@ -1,7 +1,7 @@
 use Rattle.std.proofs.Common.{◌≡◌, ◌≤◌, ◌<◌, ◌+◌, ◌++◌, ℕ, List, length}
 use Rattle.bfs_base.specs.Lists.{Has, counted_from}
 use Rattle.bfs_base.specs.Moments.{Passed}
-use Rattle.bfs_disk.specs.State.{State, Tells}
+use Rattle.bfs_disk.specs.State.{Tells}
 use Rattle.bfs_super.specs.Geometry.{geometry_of}
 use Rattle.bfs_log.specs.Replay.{Home, AgreeBut, block_sectors, blocks_of, home_places, homes_from}
 use Rattle.bfs_replay.specs.Homing.{Homing, IsLogOf}

@@ -1,17 +1,17 @@
 use Rattle.std.proofs.Common.{◌≡◌, ◌∙◌, ◌+◌, ◌<◌, ◌≤◌, ◌++◌, ℕ, List, length, take, get_or, refl, sym, ap, subst, arith}
 use Rattle.std.proofs.lemmas.List.{take_all}
 use Rattle.bfs_base.proofs.Moments.{passed_on}
-use Rattle.bfs_base.specs.Lists.{Has, counted_from}
+use Rattle.bfs_base.specs.Lists.{counted_from}
 use Rattle.bfs_bytes.specs.declared.Run.{Run}
-use Rattle.bfs_disk.specs.State.{State, Tells}
+use Rattle.bfs_disk.specs.State.{Tells}
 use Rattle.bfs_super.specs.Geometry.{geometry_of}
 use Rattle.bfs_log.specs.Entry.{blocks_in, first_of}
 use Rattle.bfs_log.specs.Found.{no_run}
 use Rattle.bfs_log.specs.Ring.{next_place}
-use Rattle.bfs_log.specs.Replay.{Home, AgreeBut, block_sectors, blocks_of, home_places, homes_from}
+use Rattle.bfs_log.specs.Replay.{Home, block_sectors, blocks_of, homes_from}
 use Rattle.bfs_log.proofs.Listed.{length-counted, length-blocks_more}
 use Rattle.bfs_log.proofs.Walks.{next_next}
-use Rattle.bfs_replay.specs.Homing.{Homing, IsLogOf}
+use Rattle.bfs_replay.specs.Homing.{Homing}
 use Rattle.bfs_replay.proofs.Further.{homes_further, blocks_more, len_within, homes_of_run}
 use Rattle.bfs_replay.proofs.home.write_runs.Goals as goal
 

@@ -1,7 +1,7 @@
-use Rattle.std.proofs.Common.{◌≡◌, ◌≤◌, ◌<◌, ◌+◌, ◌++◌, ℕ, List, length, take}
+use Rattle.std.proofs.Common.{◌≡◌, ◌≤◌, ◌<◌, ◌++◌, ℕ, List, length, take}
 use Rattle.bfs_base.specs.Lists.{Has}
 use Rattle.bfs_base.specs.Moments.{Passed}
-use Rattle.bfs_disk.specs.State.{State, Tells}
+use Rattle.bfs_disk.specs.State.{Tells}
 use Rattle.bfs_super.specs.Geometry.{geometry_of}
 use Rattle.bfs_log.specs.Entry.{blocks_in}
 use Rattle.bfs_log.specs.Ring.{next_place}

@@ -1,5 +1,4 @@
-use Rattle.std.proofs.Common.{◌≡◌, ◌<◌, ℕ, List, [], ◌∙◌, refl, sym, subst, arith}
-use Rattle.std.specs.Option.{IfSome}
+use Rattle.std.proofs.Common.{◌<◌, ℕ, List, [], ◌∙◌, refl, sym, subst, arith}
 use Rattle.bfs_base.specs.Moments.{Passed}
 use Rattle.bfs_base.proofs.Moments.{passed_none, passed_on}
 use Rattle.bfs_disk.specs.Disk.{MayLeave, HasSectors}
@@ -7,7 +6,7 @@ use Rattle.bfs_super.specs.Geometry.{geometry_of}
 use Rattle.bfs_log.specs.Ring.{in_use}
 use Rattle.bfs_log.specs.Replay.{Home, blocks_of, log_from, log_to}
 use Rattle.bfs_log.specs.Walk.{Reaches}
-use Rattle.bfs_replay.specs.Steps.{AreRead, IsFaultAt, sectors_of}
+use Rattle.bfs_replay.specs.Steps.{sectors_of}
 use Rattle.bfs_replay.proofs.Walking.{named_low, named_less, walked, stopped_by, all_walked}
 use Rattle.bfs_replay.proofs.log.check_log.Goals as goal
 

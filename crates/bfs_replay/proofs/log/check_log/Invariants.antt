@@ -1,6 +1,6 @@
 use Rattle.std.proofs.Common.{◌≡◌, ◌≤◌, ◌<◌, ℕ, List, length}
 use Rattle.bfs_base.specs.Moments.{Passed}
-use Rattle.bfs_disk.specs.State.{State, ReadsAs, Tells}
+use Rattle.bfs_disk.specs.State.{ReadsAs, Tells}
 use Rattle.bfs_disk.specs.Disk.{MayLeave}
 use Rattle.bfs_super.specs.Geometry.{geometry_of}
 use Rattle.bfs_log.specs.Ring.{in_use}

@@ -1,4 +1,4 @@
-use Rattle.std.proofs.Common.{◌≤◌, ◌⊎◌, inl, ⊎_elim, ℕ, List, arith}
+use Rattle.std.proofs.Common.{inl, ⊎_elim, arith}
 use Rattle.bfs_replay.proofs.Recovering.{held_image}
 use Rattle.bfs_replay.proofs.recovery.recover.Goals as goal
 

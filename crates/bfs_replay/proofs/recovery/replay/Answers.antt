@@ -1,6 +1,6 @@
-use Rattle.std.proofs.Common.{◌≡◌, ◌∙◌, rules, inl, ℕ, List, sym, ap, subst}
+use Rattle.std.proofs.Common.{◌≡◌, ◌∙◌, rules, inl, sym, ap, subst}
 use Rattle.bfs_base.proofs.Moments.{passed_none, passed_then}
-use Rattle.bfs_disk.specs.State.{State, Tells, Holds, ReadsAs}
+use Rattle.bfs_disk.specs.State.{Tells, Holds}
 use Rattle.bfs_super.specs.declared.sup.Super.{Super}
 use Rattle.bfs_super.specs.Conditions.{natural}
 use Rattle.bfs_log.specs.Replay.{log_from, log_to}

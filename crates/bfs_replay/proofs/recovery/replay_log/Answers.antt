@@ -1,11 +1,10 @@
-use Rattle.std.proofs.Common.{◌≡◌, ◌≢◌, ◌∙◌, inl, [], ℕ, List, refl, sym, ap, subst, arith}
+use Rattle.std.proofs.Common.{◌≡◌, ◌∙◌, inl, [], sym, subst}
 use Rattle.bfs_base.proofs.Moments.{passed_none, passed_then}
-use Rattle.bfs_disk.specs.State.{State, Tells, Holds, ReadsAs}
+use Rattle.bfs_disk.specs.State.{Tells}
 use Rattle.bfs_disk.specs.Disk.{HasSectors}
 use Rattle.bfs_super.specs.declared.sup.Super.{Super}
 use Rattle.bfs_super.specs.Layout.{super_at, sector_of}
 use Rattle.bfs_log.specs.Replay.{block_sectors, homes_of}
-use Rattle.bfs_replay.specs.declared.log.Halt.{Halt}
 use Rattle.bfs_replay.specs.Homing.{Homing}
 use Rattle.bfs_replay.specs.Steps.{HasFault}
 use Rattle.bfs_replay.specs.Recover.{GoesOn}

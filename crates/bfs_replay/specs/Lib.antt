@@ -1,0 +1,3 @@
+pub mod Homing
+pub mod Steps
+pub mod Recover

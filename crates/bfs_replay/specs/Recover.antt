@@ -1,0 +1,90 @@
+-- How a recovery ends, and what it leaves on the way.
+use Rattle.std.specs.Prelude.{◌≡◌, ◌⊎◌, ◌<◌, ◌≤◌, ℕ, ◌/◌, List, length, Option}
+use Rattle.bfs_base.specs.Counts.{Rose}
+use Rattle.bfs_disk.specs.State.{State, Tells, Holds}
+use Rattle.bfs_disk.specs.Disk.{HasSectors}
+use Rattle.bfs_super.specs.declared.sup.Super.{Super}
+use Rattle.bfs_super.specs.Conditions.{IsRefusal, IsValid}
+use Rattle.bfs_log.specs.Replay.{Replayed, Valid, super_of}
+use Rattle.bfs_log.specs.Replay.{Malformed as IsMalformed}
+use Rattle.bfs_replay.specs.Steps.{sectors_of}
+use Rattle.bfs_replay.specs.declared.recovery.Ending.{Ending}
+use Rattle.bfs_replay.specs.declared.recovery.Ending.TheVariants as endings
+use Rattle.bfs_replay.specs.declared.recovery.MountFault.{MountFault}
+use Rattle.bfs_replay.specs.declared.recovery.MountFault.TheVariants as faults
+use Rattle.bfs_replay.specs.declared.recovery.Loaded.{Loaded}
+use Rattle.bfs_replay.specs.declared.recovery.Loaded.TheVariants as loads
+
+-- the image, or one that is replayed to the same
+abbrev pub GoesOn : List ℕ → List ℕ → Type 0
+GoesOn image c = (c ≡ image) ⊎ ((result : List ℕ) × Replayed image result × Replayed c result)
+
+-- the disk holds what replay of the image gives, with this superblock
+abbrev pub IsRecovered : List ℕ → Option State → Super → Type 0
+IsRecovered image told s = (result : List ℕ) × Replayed image result × Tells told (Holds result) × (s ≡ super_of result)
+
+-- the image has fewer than two sectors, or its superblock meets its conditions and counts more sectors than there are
+abbrev pub IsShort : List ℕ → ℕ → ℕ → Type 0
+IsShort image sectors needed = (sectors ≡ length image / 512) × (sectors < needed)
+    × ((needed ≡ 2) ⊎ ((2 ≤ sectors) × IsValid (super_of image) × (needed ≡ sectors_of (super_of image))))
+
+-- why an image isn't recovered
+abbrev pub IsMountFault : List ℕ → MountFault → Type 0
+IsMountFault image (faults.Short sectors needed) = IsShort image sectors needed
+IsMountFault image (faults.Super fault) = (1024 ≤ length image) × IsRefusal (super_of image) fault
+IsMountFault image (faults.Entry fault) = IsMalformed image fault
+IsMountFault image (faults.Disk before after) = Unit {0}
+IsMountFault image faults.NoMemory = Unit {0}
+
+-- a fault that leaves the disk as it was
+abbrev pub LeavesDisk : MountFault → Type 0
+LeavesDisk (faults.Short sectors needed) = Unit {0}
+LeavesDisk (faults.Super fault) = Unit {0}
+LeavesDisk (faults.Entry fault) = Unit {0}
+LeavesDisk (faults.Disk before after) = ⊥
+LeavesDisk faults.NoMemory = Unit {0}
+
+-- a failed disk has its cause in a count that rose in this call
+abbrev pub HasCauseIn : ℕ → ℕ → MountFault → Type 0
+HasCauseIn old new (faults.Short sectors needed) = Unit {0}
+HasCauseIn old new (faults.Super fault) = Unit {0}
+HasCauseIn old new (faults.Entry fault) = Unit {0}
+HasCauseIn old new (faults.Disk before after) = (old ≤ before) × Rose before after × (after ≤ new)
+HasCauseIn old new faults.NoMemory = Unit {0}
+
+-- how the log of an image was replayed on a disk that held it
+abbrev pub EndsIn : List ℕ → Option State → Ending → Type 0
+EndsIn image told (endings.Done s) = IsRecovered image told s
+EndsIn image told (endings.Short sectors needed) = IsShort image sectors needed × Tells told (Holds image)
+EndsIn image told (endings.Refused fault) = (1024 ≤ length image) × IsRefusal (super_of image) fault × Tells told (Holds image)
+EndsIn image told (endings.Malformed fault) = IsMalformed image fault × Tells told (Holds image)
+EndsIn image told endings.Failed = Unit {0}
+
+-- what is known of the superblock at the end, whatever the disk tells
+abbrev pub IsSound : (Super → Type 0) → Ending → Type 0
+IsSound P (endings.Done s) = P s
+IsSound P (endings.Short sectors needed) = Unit {0}
+IsSound P (endings.Refused fault) = Unit {0}
+IsSound P (endings.Malformed fault) = Unit {0}
+IsSound P endings.Failed = Unit {0}
+
+-- what a superblock and the number of sectors say
+abbrev pub IsJudged : Super → ℕ → Loaded → Type 0
+IsJudged s sectors (loads.Volume found) = (found ≡ s) × IsValid s × (sectors_of s ≤ sectors)
+IsJudged s sectors (loads.Short count needed) = (count ≡ sectors) × IsValid s × (needed ≡ sectors_of s) × (sectors < needed)
+IsJudged s sectors (loads.Refused fault) = IsRefusal s fault
+IsJudged s sectors loads.Failed = ⊥
+
+-- what is found on a disk that reads as an image
+abbrev pub FindsIn : List ℕ → Loaded → Type 0
+FindsIn image (loads.Volume s) = (s ≡ super_of image) × Valid image
+FindsIn image (loads.Short sectors needed) = IsShort image sectors needed
+FindsIn image (loads.Refused fault) = (1024 ≤ length image) × IsRefusal (super_of image) fault
+FindsIn image loads.Failed = Unit {0}
+
+-- a volume that was found fits the disk
+abbrev pub FitsDisk : Option ℕ → Loaded → Type 0
+FitsDisk size (loads.Volume s) = IsValid s × HasSectors size (sectors_of s)
+FitsDisk size (loads.Short sectors needed) = Unit {0}
+FitsDisk size (loads.Refused fault) = Unit {0}
+FitsDisk size loads.Failed = Unit {0}

@@ -6,5 +6,7 @@ mod calls;
 mod home;
 mod log;
 mod recovery;
+#[cfg(test)]
+mod tests;
 
 pub use recovery::{MountFault, recover};

@@ -42,6 +42,13 @@ fn put(bytes: &mut [u8], at: usize, part: &[u8]) {
     }
 }
 
+// Puts a field of the superblock.
+fn put_field(bytes: &mut [u8], at: usize, field: &[u8]) {
+    if at <= 512 {
+        put(bytes, 512 + at, field);
+    }
+}
+
 fn fill(bytes: &mut [u8], block: usize, byte: u8) {
     if block < 16 {
         put(bytes, 1024 * block, &[byte; 1024]);
@@ -53,7 +60,7 @@ fn volume(alloc: Global, changes: &[(usize, &[u8])]) -> Result<Vec<u8>, AllocErr
     let mut bytes = vec![in alloc; 0x55u8; 16384]?;
     put(&mut bytes, 512, &[0; 512]);
     for (at, field) in SUPERBLOCK {
-        put(&mut bytes, 512 + at, field);
+        put_field(&mut bytes, at, field);
     }
     for (at, entry) in ENTRIES {
         put(&mut bytes, at, entry);
@@ -71,8 +78,8 @@ fn replayed(alloc: Global) -> Result<Vec<u8>, AllocError> {
     let mut bytes = volume(alloc, &[])?;
     fill(&mut bytes, 13, 0xaa);
     fill(&mut bytes, 14, 0xbb);
-    put(&mut bytes, 512 + 96, &[2]);
-    put(&mut bytes, 512 + 84, b"NELC");
+    put_field(&mut bytes, 96, &[2]);
+    put_field(&mut bytes, 84, b"NELC");
     Ok(bytes)
 }
 

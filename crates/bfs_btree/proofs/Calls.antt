@@ -1,16 +1,17 @@
 -- What the calls of an insert come to.
-use Rattle.std.proofs.Common.{◌≡◌, ◌≢◌, ◌≤◌, ◌<◌, ◌+◌, ◌-◌, ℕ, ℤ, suc, List, [], ◌∷◌, Some, None, cond, refl, ap, sym, ◌∙◌, subst, arith}
+use Rattle.std.proofs.Common.{Bool, ◌≡◌, ◌≢◌, ◌≤◌, ◌<◌, ◌-◌, ℕ, ℤ, suc, List, [], ◌∷◌, Some, None, cond, refl, ap, sym, ◌∙◌, subst, arith}
 use Rattle.bfs_base.specs.Lists.{times}
 use Rattle.bfs_base.specs.declared.kind.KeyKind.{KeyKind}
 use Rattle.bfs_btree.specs.Order.{Key, at_most}
 use Rattle.bfs_btree.specs.Maps.{assoc, put}
-use Rattle.bfs_btree.specs.Shapes.{leaf_body, Shape, leaf_shape, node_shape, last_shape, place, tree_rows, IsDeep, Stands}
-use Rattle.bfs_btree.specs.Changes.{child_in, Taken, SplitOff, RowPut, Rooted, StepsDown, Heightens, Inserts}
+use Rattle.bfs_btree.specs.Shapes.{leaf_body, Shape, leaf_shape, node_shape, last_shape, place, entries_of, AscendAll, IsDeep, Stands}
+use Rattle.bfs_btree.specs.Changes.{child_in, Taken, SplitOff, RowPut, Rooted, StepsDown, Heightens, Reaches, Inserts}
 use Rattle.bfs_btree.specs.Trees.{State, Holds}
 use Rattle.bfs_btree.specs.Ways.{under, instead}
 use Rattle.bfs_btree.proofs.Exchange.{stands-under}
 use Rattle.bfs_btree.proofs.Inner.{put-row, grow-root}
 use Rattle.bfs_btree.proofs.Looked.{leaf-value}
+use Rattle.bfs_btree.proofs.OfKind.{rows-ascend, under-ascends}
 use Rattle.bfs_btree.proofs.Steps.{deep-under, leaf-of, child-at, taken, split-step}
 
 pub heightens : (kind : KeyKind) → (st mid new : State) (q : ℕ) → Taken st mid q → Rooted mid new q → Heightens kind st new
@@ -29,11 +30,6 @@ steps-split kind st mid new q at k c sep next tk is s n loose t fs d h some l e 
     let a = taken kind st mid loose t fs q h some tk in
     let b = split-step kind mid new q loose t a.0 d k at c sep a.1 a.2 (subst (λ m. suc d ≤ m) (sym tk.2) l) e (child-at kind st loose t fs d k at c h l e is) s in
     (b.0, a.0, b.1, b.2, b.3 ∙ n, omega (arith, a.2, s.others.size))
-
--- so far down: the same map, and the key's way leads to this page
-abbrev pub Reaches : KeyKind → State → State → Key → ℕ → ℕ → Type 0
-Reaches kind st now k at left = (loose : List ℕ) (t : Shape) (fs : List ℕ) → Holds kind st loose t fs → 1 ≤ st.size
-    → (t2 : Shape) × (fs2 : List ℕ) × (d : ℕ) × Holds kind now loose t2 fs2 × (tree_rows t2 ≡ tree_rows t) × (1 ≤ now.size) × (d + left ≡ now.levels) × (place (under kind d t2 k) ≡ at)
 
 pub reaches-root : (kind : KeyKind) → (st now : State) (k : Key) (at left : ℕ) → Heightens kind st now → at ≡ now.root → left ≡ now.levels → Reaches kind st now k at left
 reaches-root kind st now k at left g e l loose t fs h some =
@@ -62,8 +58,22 @@ inserts kind st now new k v at r p loose t fs h some absent =
       levels = p.levels;
       free = p.free;
       size = p.size;
-    }) (p.leaf f.0 s) p.links in
+    }) (p.leaf f.0 s (rows-ascend kind f.0 (subst (λ u. AscendAll kind (entries_of u)) f.1 (under-ascends kind a.2 a.0 k a.3.ascends)))) p.links in
     (instead kind a.2 a.0 k (leaf_shape at (put kind f.0 k v)), a.1, b.0, b.1 ∙ ap (λ w. put kind w k v) a.4)
   where
     off : (x y : ℕ) → times x (y ∷ []) ≡ 0 → x ≢ y
     off x y i = λ e. grind (arith, i, e)
+
+-- a page was taken and the child split in it
+pub steps-halved : (kind : KeyKind) → (st mid new : State) (q at : ℕ) (k : Key) (c next : ℕ) (left : Bool) → Taken st mid q
+    → ((loose : List ℕ) (t : Shape) (fs : List ℕ) (d : ℕ) → Holds kind st loose t fs → suc d ≤ st.levels → place (under kind d t k) ≡ at → place (under kind (suc d) t k) ≡ c)
+    → ((loose : List ℕ) (t : Shape) (fs : List ℕ) (d : ℕ) → Holds kind mid (q ∷ loose) t fs → suc d ≤ mid.levels → place (under kind d t k) ≡ at → place (under kind (suc d) t k) ≡ c
+    → (sep : Key) × SplitOff kind mid new at c k q sep × (at_most kind k sep ≡ left))
+    → cond left c q ≡ next → StepsDown kind st new at k next
+steps-halved kind st mid new q at k c next left tk on cut n loose t fs d h some l e =
+    let a = taken kind st mid loose t fs q h some tk in
+    let l2 : suc d ≤ mid.levels = subst (λ m. suc d ≤ m) (sym tk.2) l in
+    let ec = on loose t fs d h l e in
+    let s = cut loose t a.0 d a.1 l2 e ec in
+    let b = split-step kind mid new q loose t a.0 d k at c s.0 a.1 a.2 l2 e ec s.1 in
+    (b.0, a.0, b.1, b.2, b.3 ∙ ap (λ z. cond z c q) s.2 ∙ n, omega (arith, a.2, s.1.others.size))

@@ -2,7 +2,7 @@
 use Rattle.std.proofs.Common.{◌≡◌, ◌≤◌, ◌<◌, ◌+◌, ℕ, zero, suc, List, length, Bool, true, false, ◌==◌, ◌&&◌, nat_le, refl, sym, subst, arith}
 use Rattle.bfs_base.specs.declared.kind.KeyKind.{KeyKind}
 use Rattle.bfs_node.specs.Faults.{IsPageRefusal}
-use Rattle.bfs_node.specs.Page.{HasLayout, IsPage, HasEnd, HasBounds, HasLastEnd, taken_by, count_at, key_bytes_at, start_at, end_at, least_key, most_key}
+use Rattle.bfs_node.specs.Page.{rows_of, HasLayout, HasKeys, IsPage, HasEnd, HasBounds, HasLastEnd, taken_by, count_at, key_bytes_at, start_at, end_at, least_key, most_key}
 use Rattle.bfs_node.specs.declared.fault.PageFault.{PageFault}
 use Rattle.bfs_node.specs.declared.fault.PageFault.TheVariants.{Magic, Size, Kind, Bounds, Ends}
 use Rattle.bfs_node.proofs.PageLayout.{keys-of_ends, ends-of_keys}
@@ -103,3 +103,7 @@ refused-page kind page fault r = by_test (is_page kind page) refl
     by_test : (c : Bool) → is_page kind page ≡ c → is_page kind page ≡ false
     by_test true e = absurd (contrary fault r (parts kind page e))
     by_test false e = e
+
+-- a page with another link
+pub linked-page : (kind : KeyKind) (page new : List ℕ) → IsPage kind page → rows_of new ≡ rows_of page → (HasLayout page → HasLayout new) → IsPage kind new
+linked-page kind page new p e l = record { layout = l p.layout; keys = subst (λ r. HasKeys kind r) (sym e) p.keys }

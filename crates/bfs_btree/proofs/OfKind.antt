@@ -1,12 +1,12 @@
 -- Pages of a tree are of their kinds.
-use Rattle.std.proofs.Common.{◌≡◌, ◌≤◌, ◌<◌, ◌+◌, ℕ, ℤ, pos, negsuc, zero, suc, List, [], ◌∷◌, ◌++◌, length, Option, Some, None, IfSome, Bool, true, false, cond, ◌==◌, refl, ap, ap₂, sym, ◌∙◌, subst, arith, inl, inr}
+use Rattle.std.proofs.Common.{◌≡◌, ◌≤◌, ◌<◌, ◌+◌, ℕ, ℤ, pos, negsuc, zero, suc, List, [], ◌∷◌, ◌++◌, length, Option, Some, None, IfSome, Bool, true, false, cond, ◌==◌, refl, ap, ap₂, sym, ◌∙◌, subst, arith, inl, inr, nat_le, ◌≢◌}
 use Rattle.std.specs.List.{AllByRecursion}
 use Rattle.bfs_base.specs.Lists.{times}
 use Rattle.bfs_base.specs.declared.kind.KeyKind.{KeyKind}
 use Rattle.bfs_node.specs.Page.{Row}
 use Rattle.bfs_btree.specs.Order.{Key, comes_before}
 use Rattle.bfs_btree.specs.Maps.{assoc}
-use Rattle.bfs_btree.specs.Shapes.{Body, leaf_body, inner_body, Shape, Shapes, leaf_shape, node_shape, last_shape, more_shapes, place, tree_rows, met_by, met_by_all, leaves_of, children_of, last_child, IsDeep, Stands, a_row, a_bound, entries_in, entries_of, entries_all, Precedes, AscendAll}
+use Rattle.bfs_btree.specs.Shapes.{Body, leaf_body, inner_body, Shape, Shapes, leaf_shape, node_shape, last_shape, more_shapes, place, tree_rows, met_by, met_by_all, leaves_of, children_of, last_child, IsDeep, Stands, a_row, a_bound, entries_in, entries_of, entries_all, Precedes, AscendAll, StandAll, leaves_all}
 use Rattle.bfs_btree.specs.Trees.{State, head_or, Linked, held, Built, Holds}
 use Rattle.bfs_btree.specs.Ways.{pick_of, under, before_way, behind_way, leaves_before_way, leaves_behind_way}
 use Rattle.bfs_node.specs.Page.{row_in, value_of, rows_of, links_of}
@@ -228,3 +228,54 @@ found-in-leaf kind b reached t fs k at page h l = (
   leaf-value kind (state_of kind b) reached t fs (state_of kind b).levels k at (rows_of page) h l.1,
   leaf-met kind (state_of kind b).levels t k at (rows_of page) l.1,
 )
+
+le_yes : (a b : ℕ) → nat_le a b ≡ true → a ≤ b
+le_yes a b e = grind (arith, e)
+
+le_no : (a b : ℕ) → nat_le a b ≡ false → b < a
+le_no a b e = grind (arith, e)
+
+only : (x at : ℕ) → 1 ≤ times x (at ∷ []) → x ≡ at
+only x at i = grind (arith, i)
+
+-- a leaf's right neighbour is a leaf
+pub next-in : (links : ℕ → ℕ × ℕ) (prev : ℕ) (xs : List ℕ) (x : ℕ) → Linked links prev xs 0 → 1 ≤ times x xs → (links x).1 ≢ 0 → 1 ≤ times (links x).1 xs
+next-in links prev [] x l i n = absurd (omega (arith, i))
+next-in links prev (y ∷ ys) x l i n = by_test (x == y) refl (λ m. next-in links y ys x l.1 m n)
+  where
+    eq_yes : (a b : ℕ) → (a == b) ≡ true → a ≡ b
+    eq_yes a b e = grind (arith, e)
+
+    off : (x == y) ≡ false → 1 ≤ times x ys
+    off e = grind (arith, e, i)
+
+    by_head : (zs : List ℕ) → (links x).1 ≡ head_or 0 zs → 1 ≤ times (links x).1 zs
+    by_head [] e = absurd (n e)
+    by_head (z ∷ zs) e = subst (λ w. 1 ≤ times w (z ∷ zs)) (sym e) (self z zs)
+
+    by_test : (c : Bool) → (x == y) ≡ c → (1 ≤ times x ys → 1 ≤ times (links x).1 ys) → 1 ≤ times (links x).1 (y ∷ ys)
+    by_test true e ih = let m = by_head ys (ap (λ z. (links z).1) (eq_yes x y e) ∙ ap (λ w. w.1) l.0) in omega (arith, m)
+    by_test false e ih = let m = ih (off e) in omega (arith, m)
+
+-- every leaf of a tree is a leaf page
+mutual
+  leaf-body : (bodies : ℕ → Option Body) (t : Shape) (x : ℕ) → Stands bodies t → 1 ≤ times x (leaves_of t) → (rows : List Row) × (bodies x ≡ Some (leaf_body rows))
+  leaf-body bodies (leaf_shape at rows) x s i = (rows, ap bodies (only x at i) ∙ s)
+  leaf-body bodies (node_shape at below) x s i = leaf-body_all bodies below x s.1 i
+
+  leaf-body_all : (bodies : ℕ → Option Body) (ts : Shapes) (x : ℕ) → StandAll bodies ts → 1 ≤ times x (leaves_all ts) → (rows : List Row) × (bodies x ≡ Some (leaf_body rows))
+  leaf-body_all bodies (last_shape t) x s i = leaf-body bodies t x s i
+  leaf-body_all bodies (more_shapes t key ts) x s i = by_test (nat_le 1 (times x (leaves_of t))) refl (leaf-body bodies t x s.0) (leaf-body_all bodies ts x s.1)
+    where
+      by_test : (c : Bool) → nat_le 1 (times x (leaves_of t)) ≡ c → (1 ≤ times x (leaves_of t) → (rows : List Row) × (bodies x ≡ Some (leaf_body rows)))
+          → (1 ≤ times x (leaves_all ts) → (rows : List Row) × (bodies x ≡ Some (leaf_body rows))) → (rows : List Row) × (bodies x ≡ Some (leaf_body rows))
+      by_test true e f g = f (le_yes 1 (times x (leaves_of t)) e)
+      by_test false e f g = g (let m = le_no 1 (times x (leaves_of t)) e in omega (arith, i, m, times-append x (leaves_of t) (leaves_all ts)))
+
+pub leaf-any : (kind : KeyKind) (b reached : List ℕ) (t : Shape) (fs : List ℕ) (x : ℕ) → Holds kind (state_of kind b) reached t fs → 1 ≤ times x (leaves_of t) → IsLeafPage kind (length b) (page_in b x)
+leaf-any kind b reached t fs x h i =
+    let n = leaf-body (state_of kind b).bodies t x h.built.stands i in
+    let f = leaf-fields kind (page_in b x) n.0 n.1 in
+    let links = linked-kinds (λ x. IsLink (length b) x) (state_of kind b).links 0 (leaves_of t) 0 (inl refl) (inl refl)
+    (λ x i. inr (met-child (state_of kind b) reached t fs x h.built (omega (arith, i, times-leaves x t)))) h.linked x i in
+    record { good = f.0; overflow = f.2; left = links.0; right = links.1 }

@@ -39,7 +39,7 @@ old-form a b l e r c d = simp append_assoc
 new-form : {A : Type 0} (a b l : List A) (e f : A) (r c d : List A) → a ++ ((b ++ (((l ++ (e ∷ [])) ++ (f ∷ r)) ++ c)) ++ d) ≡ (a ++ (b ++ l)) ++ (e ∷ f ∷ (r ++ (c ++ d)))
 new-form a b l e f r c d = simp append_assoc
 
-leaf-form : {A : Type 0} (a b : List A) (e : A) (c d : List A) → a ++ ((b ++ (e ∷ c)) ++ d) ≡ (a ++ b) ++ (e ∷ (c ++ d))
+pub leaf-form : {A : Type 0} (a b : List A) (e : A) (c d : List A) → a ++ ((b ++ (e ∷ c)) ++ d) ≡ (a ++ b) ++ (e ∷ (c ++ d))
 leaf-form a b e c d = simp append_assoc
 
 two-form : {A : Type 0} (a b : List A) (e f : A) (c d : List A) → a ++ ((b ++ (e ∷ f ∷ c)) ++ d) ≡ (a ++ b) ++ (e ∷ f ∷ (c ++ d))

@@ -22,6 +22,7 @@ pub taken-new : (kind : KeyKind) (b b1 c page : List ℕ) (h2 : Header) → Page
     → h2.root_pointer ≡ (header_in b).root_pointer → h2.levels ≡ (header_in b).levels → h2.free_pointer ≡ (header_in b).free_pointer → IsTaken kind b c (length b) h2
 taken-new kind b b1 c page h2 a s none even root levels free = record {
   header = s.header;
+  same_levels = ap (λ (z : Header). z.levels) s.header ∙ levels;
   taken = (
     same-pages kind b c (length b) pages,
     ap (λ h. place_of h.root_pointer) s.header ∙ ap place_of root,
@@ -38,6 +39,7 @@ pub taken-first : (kind : KeyKind) (b c : List ℕ) (q : ℕ) (h2 : Header) → 
     → h2.root_pointer ≡ (header_in b).root_pointer → h2.levels ≡ (header_in b).levels → IsTaken kind b c q h2
 taken-first kind b c q h2 s is some next root levels = record {
   header = s.header;
+  same_levels = ap (λ (z : Header). z.levels) s.header ∙ levels;
   taken = (
     same-pages kind b c q (λ x n. s.pages x),
     ap (λ h. place_of h.root_pointer) s.header ∙ ap place_of root,

@@ -1,5 +1,5 @@
 -- Which page is of which kind, and why a call on a tree is refused.
-use Rattle.std.specs.Prelude.{◌≡◌, ◌≤◌, ◌<◌, ◌⊎◌, ℕ, negsuc, List, length, Option, Some, None, IfSome, true}
+use Rattle.std.specs.Prelude.{◌≡◌, ◌≤◌, ◌<◌, ◌⊎◌, ℕ, ℤ, negsuc, List, length, Option, Some, None, IfSome, true}
 use Rattle.bfs_base.specs.declared.kind.KeyKind.{KeyKind}
 use Rattle.bfs_node.specs.Page.{rows_of, row_in, value_of, links_of}
 use Rattle.bfs_node.specs.declared.header.Header.{Header}
@@ -115,3 +115,21 @@ IsTurned cause Absent = ⊥
 IsTurned cause (Damaged page sort) = ⊥
 IsTurned cause (Pages fault) = cause fault
 IsTurned cause NoMemory = Unit {0}
+
+-- A row wasn't put into a tree: its key is there, or a call of the pages failed, or there is no room for a number. No page
+-- is damaged.
+abbrev pub IsNotPut : {F : Type 0} → KeyKind → Shape → Key → TreeFault F → Type 0
+IsNotPut kind t k Exists = (v : ℤ) × (assoc kind (tree_rows t) k ≡ Some v)
+IsNotPut kind t k Absent = ⊥
+IsNotPut kind t k (Damaged page sort) = ⊥
+IsNotPut kind t k (Pages fault) = Unit {0}
+IsNotPut kind t k NoMemory = assoc kind (tree_rows t) k ≡ None
+
+-- where the key is there, the stream stays; else a page isn't of its kind, a call of the pages failed, or there is no
+-- room for a number
+abbrev pub IsHindered : {F : Type 0} → KeyKind → Option (List ℕ) → Option (List ℕ) → (F → Type 0) → TreeFault F → Type 0
+IsHindered kind told now cause Exists = now ≡ told
+IsHindered kind told now cause Absent = ⊥
+IsHindered kind told now cause (Damaged page sort) = IfSome now (λ bytes. ¬ IsOfKind kind bytes page sort)
+IsHindered kind told now cause (Pages fault) = cause fault
+IsHindered kind told now cause NoMemory = Unit {0}

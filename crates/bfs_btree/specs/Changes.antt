@@ -5,7 +5,7 @@ use Rattle.bfs_node.specs.Page.{Row, taken_by}
 use Rattle.bfs_btree.specs.Order.{Key}
 use Rattle.bfs_btree.specs.Maps.{assoc, put}
 use Rattle.bfs_btree.specs.Shapes.{Body, leaf_body, inner_body, Shape, tree_rows, place}
-use Rattle.bfs_btree.specs.Ways.{pick_of, under, keys_split, last_split}
+use Rattle.bfs_btree.specs.Ways.{pick_of, under, keys_split, last_split, KeysAscend}
 use Rattle.bfs_btree.specs.Trees.{State, Holds}
 
 -- the child of an interior page that a key leads to
@@ -92,6 +92,7 @@ pub record SplitOff (kind : KeyKind) (st new : State) (at c : ℕ) (k : Key) (q 
   pub left_room : full_of (new.bodies c) ≡ false
   pub right_room : full_of (new.bodies q) ≡ false
 
+-- a row comes into a leaf, and all else that pages say stays
 pub record RowPut (kind : KeyKind) (st new : State) (at : ℕ) (k : Key) (v : ℤ) : Type 0 where
   pub bodies : (x : ℕ) → x ≢ at → new.bodies x ≡ st.bodies x
   pub frees : (x : ℕ) → x ≢ at → new.frees x ≡ st.frees x
@@ -100,7 +101,7 @@ pub record RowPut (kind : KeyKind) (st new : State) (at : ℕ) (k : Key) (v : �
   pub levels : new.levels ≡ st.levels
   pub free : new.free ≡ st.free
   pub size : new.size ≡ st.size
-  pub leaf : (rows : List Row) → st.bodies at ≡ Some (leaf_body rows) → new.bodies at ≡ Some (leaf_body (put kind rows k v))
+  pub leaf : (rows : List Row) → st.bodies at ≡ Some (leaf_body rows) → KeysAscend kind rows → new.bodies at ≡ Some (leaf_body (put kind rows k v))
 
 -- a page becomes the root above the old one, without keys
 pub record Rooted (st new : State) (q : ℕ) : Type 0 where
@@ -119,6 +120,11 @@ StepsDown kind st new at k next = (reached : List ℕ) (t : Shape) (fs : List �
 abbrev pub Heightens : KeyKind → State → State → Type 0
 Heightens kind st new = (reached : List ℕ) (t : Shape) (fs : List ℕ) → Holds kind st reached t fs → 1 ≤ st.size
     → (t2 : Shape) × (fs2 : List ℕ) × Holds kind new reached t2 fs2 × (tree_rows t2 ≡ tree_rows t) × (1 ≤ new.size)
+
+-- the tree is the same map, and a key's way leads to this page, from which it goes down so many levels
+abbrev pub Reaches : KeyKind → State → State → Key → ℕ → ℕ → Type 0
+Reaches kind st now k at left = (reached : List ℕ) (t : Shape) (fs : List ℕ) → Holds kind st reached t fs → 1 ≤ st.size
+    → (t2 : Shape) × (fs2 : List ℕ) × (d : ℕ) × Holds kind now reached t2 fs2 × (tree_rows t2 ≡ tree_rows t) × (1 ≤ now.size) × (d + left ≡ now.levels) × (place (under kind d t2 k) ≡ at)
 
 abbrev pub Inserts : KeyKind → State → State → Key → ℤ → Type 0
 Inserts kind st new k v = (reached : List ℕ) (t : Shape) (fs : List ℕ) → Holds kind st reached t fs → 1 ≤ st.size → assoc kind (tree_rows t) k ≡ None

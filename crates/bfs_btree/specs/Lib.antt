@@ -1,5 +1,6 @@
 pub mod Answers
 pub mod Changes
+pub mod Divided
 pub mod Maps
 pub mod Order
 pub mod Shapes

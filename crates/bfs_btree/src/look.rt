@@ -36,7 +36,7 @@ pub fn look_up(page: &[u8], kind: KeyKind, key: &[u8]) -> Option<i64>
 }
 
 /// The link to a child of an interior page: of the row at a place, or behind the last row the overflow link.
-fn child_link(page: &[u8], i: usize) -> i64
+pub fn child_link(page: &[u8], i: usize) -> i64
     requires page { HasLayout page.now }
     ensures { result ≡ link_at (rows_of page.now) (links_of page.now).overflow i }
 {

@@ -1,7 +1,9 @@
 // Trees of pages in memory.
-ghost use Rattle.std.specs.Prelude.{◌≡◌};
+ghost use Rattle.std.specs.Prelude.{◌≡◌, ◌≤◌};
+ghost use Rattle.bfs_base.specs.Keys.{IsKey};
+ghost use Rattle.bfs_base.specs.declared.kind.KeyKind.TheVariants.{Text};
 
-use crate::{Found, MemPages, find};
+use crate::{Found, MemPages, find, insert};
 use bfs_node::{
     Header, KeyKind, TreeFault, blank, has_room, insert_row, row_count, set_left_link,
     set_overflow_link, set_right_link,
@@ -98,6 +100,150 @@ fn found_at(pages: &mut MemPages, wants: &[(&[u8], Option<(u64, i64)>)]) -> bool
         }
     }
     true
+}
+
+fn put_one<L: Ledger>(
+    pages: &mut MemPages,
+    key: &[u8],
+    value: i64,
+    ledger: Blank,
+) -> Result<(), TreeFault<AllocError>>
+    requires key { IsKey Text key.now }
+    requires name { ledger.name ≡ L.name }
+    requires parts { ledger.parts ≡ L.parts }
+    requires some { L.parts ≡ 1 }
+{
+    let mut steps = Steps::<L>::begin(ledger);
+    insert(pages, KeyKind::Text, key, value, &mut steps)
+}
+
+/// What an insert answers.
+#[derive(Clone, Copy, Debug, PartialEq, Eq)]
+enum Reply {
+    Done,
+    Exists,
+    Else,
+}
+
+/// Puts a row into a tree, and tells what was said.
+fn said(pages: &mut MemPages, key: &[u8], value: i64) -> Reply
+    requires key { IsKey Text key.now }
+{
+    match put_one::<Brand>(pages, key, value, Blank::new(1)) {
+        Ok(()) => Reply::Done,
+        Err(TreeFault::Exists) => Reply::Exists,
+        Err(_) => Reply::Else,
+    }
+}
+
+/// The key of a number, of which the first two bytes differ from other keys'. A page has room for nine rows with keys
+/// of 100 bytes, so a tree with a hundred of them has three levels or more.
+fn key_of(i: u8) -> [u8; 255] {
+    let mut key = [b'k'; 255];
+    key[0] = b'a' + i % 16;
+    key[1] = b'a' + i / 16;
+    key
+}
+
+/// The keys of the numbers below 100, of so many bytes, each put in once, and again.
+fn puts_all(pages: &mut MemPages, length: usize) -> bool
+    requires { (2 ≤ length) × (length ≤ 255) }
+{
+    for i in 0..100u8 {
+        let key = key_of(i);
+        if said(pages, &key[..length], i as i64) != Reply::Done {
+            return false;
+        }
+        if said(pages, &key[..length], 7) != Reply::Exists {
+            return false;
+        }
+    }
+    true
+}
+
+/// Whether the keys of the numbers below 100, of so many bytes, have their values.
+fn has_all(pages: &mut MemPages, length: usize) -> bool
+    requires { length ≤ 255 }
+{
+    for i in 0..100u8 {
+        let key = key_of(i);
+        match found(pages, &key[..length]) {
+            Some(at) => {
+                if at.1 != i as i64 {
+                    return false;
+                }
+            }
+            None => return false,
+        }
+    }
+    true
+}
+
+/// The levels that the header of a stream tells.
+fn levels_of(pages: &MemPages) -> Option<u32> {
+    let bytes = pages.bytes();
+    if bytes.len() < 1024 {
+        return None;
+    }
+    match Header::of(&bytes[..1024]) {
+        Ok(header) => Some(header.levels),
+        Err(_) => None,
+    }
+}
+
+#[test]
+fn rows_are_put_into_a_tree_that_grows(rt: HostRuntime) -> Result<(), Fail> {
+    let mut bytes = Vec::new(rt.alloc());
+    bytes.extend_from_slice(&header_of(1, 2048))?;
+    bytes.extend_from_slice(&page_of(&[], (-1, -1, -1)))?;
+    match stream_of(bytes) {
+        Some(mut pages) => {
+            assert!(rt; puts_all(&mut pages, 100));
+            assert!(rt; has_all(&mut pages, 100));
+            assert_eq!(rt; levels_of(&pages), Some(3));
+        }
+        None => assert!(rt; false),
+    }
+    Ok(())
+}
+
+#[test]
+fn keys_of_255_bytes_are_put(rt: HostRuntime) -> Result<(), Fail> {
+    let mut bytes = Vec::new(rt.alloc());
+    bytes.extend_from_slice(&header_of(1, 2048))?;
+    bytes.extend_from_slice(&page_of(&[], (-1, -1, -1)))?;
+    match stream_of(bytes) {
+        Some(mut pages) => {
+            assert!(rt; puts_all(&mut pages, 255));
+            assert!(rt; has_all(&mut pages, 255));
+        }
+        None => assert!(rt; false),
+    }
+    Ok(())
+}
+
+#[test]
+fn rows_are_put_into_a_tree_of_another_maker(rt: HostRuntime) -> Result<(), Fail> {
+    let mut bytes = Vec::new(rt.alloc());
+    other_maker(&mut bytes)?;
+    let wants: [(&[u8], Option<(u64, i64)>); 5] = [
+        (b"a", Some((3072, 1))),
+        (b"c", Some((3072, 3))),
+        (b"m", Some((3072, 5))),
+        (b"n", Some((4096, 6))),
+        (b"x", Some((4096, 9))),
+    ];
+    match stream_of(bytes) {
+        Some(mut pages) => {
+            assert_eq!(rt; said(&mut pages, b"m", 5), Reply::Done);
+            assert_eq!(rt; said(&mut pages, b"n", 6), Reply::Done);
+            assert_eq!(rt; said(&mut pages, b"x", 7), Reply::Exists);
+            assert!(rt; found_at(&mut pages, &wants));
+            assert_eq!(rt; pages.bytes().len(), 6144);
+        }
+        None => assert!(rt; false),
+    }
+    Ok(())
 }
 
 #[test]

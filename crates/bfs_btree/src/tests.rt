@@ -3,10 +3,10 @@ ghost use Rattle.std.specs.Prelude.{◌≡◌, ◌≤◌};
 ghost use Rattle.bfs_base.specs.Keys.{IsKey};
 ghost use Rattle.bfs_base.specs.declared.kind.KeyKind.TheVariants.{Text};
 
-use crate::{Found, MemPages, find, insert};
+use crate::{Found, MemPages, find, insert, remove};
 use bfs_node::{
-    Header, KeyKind, TreeFault, blank, has_room, insert_row, row_count, set_left_link,
-    set_overflow_link, set_right_link,
+    Header, KeyKind, TreeFault, blank, has_room, insert_row, left_link, overflow_link, right_link,
+    row_count, set_left_link, set_overflow_link, set_right_link,
 };
 use bfs_txn::Steps;
 use std::alloc::AllocError;
@@ -136,6 +136,36 @@ fn said(pages: &mut MemPages, key: &[u8], value: i64) -> Reply
     }
 }
 
+fn take_one<L: Ledger>(
+    pages: &mut MemPages,
+    key: &[u8],
+    ledger: Blank,
+) -> Result<i64, TreeFault<AllocError>>
+    requires name { ledger.name ≡ L.name }
+    requires parts { ledger.parts ≡ L.parts }
+    requires some { L.parts ≡ 1 }
+{
+    let mut steps = Steps::<L>::begin(ledger);
+    remove(pages, KeyKind::Text, key, &mut steps)
+}
+
+/// What a removal answers.
+#[derive(Clone, Copy, Debug, PartialEq, Eq)]
+enum Removal {
+    Value(i64),
+    Absent,
+    Else,
+}
+
+/// Takes a row out of a tree, and tells what was said.
+fn taken(pages: &mut MemPages, key: &[u8]) -> Removal {
+    match take_one::<Brand>(pages, key, Blank::new(1)) {
+        Ok(value) => Removal::Value(value),
+        Err(TreeFault::Absent) => Removal::Absent,
+        Err(_) => Removal::Else,
+    }
+}
+
 /// The key of a number, of which the first two bytes differ from other keys'. A page has room for nine rows with keys
 /// of 100 bytes, so a tree with a hundred of them has three levels or more.
 fn key_of(i: u8) -> [u8; 255] {
@@ -179,16 +209,34 @@ fn has_all(pages: &mut MemPages, length: usize) -> bool
     true
 }
 
-/// The levels that the header of a stream tells.
-fn levels_of(pages: &MemPages) -> Option<u32> {
+/// The header of a stream.
+fn header_in(pages: &MemPages) -> Option<Header> {
     let bytes = pages.bytes();
     if bytes.len() < 1024 {
         return None;
     }
     match Header::of(&bytes[..1024]) {
-        Ok(header) => Some(header.levels),
+        Ok(header) => Some(header),
         Err(_) => None,
     }
+}
+
+/// The levels that the header of a stream tells.
+fn levels_of(pages: &MemPages) -> Option<u32> {
+    match header_in(pages) {
+        Some(header) => Some(header.levels),
+        None => None,
+    }
+}
+
+/// The links of a page to the left and to the right, and its overflow link.
+fn sides_of(pages: &MemPages, at: usize) -> Option<Sides> {
+    let bytes = pages.bytes();
+    if at > bytes.len() || bytes.len() - at < 1024 {
+        return None;
+    }
+    let page = &bytes[at..at + 1024];
+    Some((left_link(page), right_link(page), overflow_link(page)))
 }
 
 #[test]
@@ -239,6 +287,53 @@ fn rows_are_put_into_a_tree_of_another_maker(rt: HostRuntime) -> Result<(), Fail
             assert_eq!(rt; said(&mut pages, b"n", 6), Reply::Done);
             assert_eq!(rt; said(&mut pages, b"x", 7), Reply::Exists);
             assert!(rt; found_at(&mut pages, &wants));
+            assert_eq!(rt; pages.bytes().len(), 6144);
+        }
+        None => assert!(rt; false),
+    }
+    Ok(())
+}
+
+/// The links of the pages of a stream of six.
+fn has_sides(pages: &MemPages, wants: &[(usize, Sides)]) -> bool {
+    for (at, want) in wants {
+        if sides_of(pages, *at) != Some(*want) {
+            return false;
+        }
+    }
+    true
+}
+
+/// The root, the levels and the first free page that the header of a stream tells.
+fn heads(pages: &MemPages) -> Option<(i64, u32, i64)> {
+    match header_in(pages) {
+        Some(header) => Some((header.root_pointer, header.levels, header.free_pointer)),
+        None => None,
+    }
+}
+
+#[test]
+fn rows_are_taken_out_of_a_tree_of_another_maker(rt: HostRuntime) -> Result<(), Fail> {
+    let mut bytes = Vec::new(rt.alloc());
+    other_maker(&mut bytes)?;
+    let free: [(usize, Sides); 5] = [
+        (4096, (-1, -1, -1)),
+        (2048, (-1, -1, -2)),
+        (3072, (2048, -1, -2)),
+        (1024, (3072, -1, -2)),
+        (5120, (1024, -1, -2)),
+    ];
+    match stream_of(bytes) {
+        Some(mut pages) => {
+            assert_eq!(rt; taken(&mut pages, b"m"), Removal::Absent);
+            assert_eq!(rt; taken(&mut pages, b"a"), Removal::Value(1));
+            assert_eq!(rt; heads(&pages), Some((1024, 3, -1)));
+            assert_eq!(rt; taken(&mut pages, b"c"), Removal::Value(3));
+            assert_eq!(rt; heads(&pages), Some((4096, 1, 5120)));
+            assert!(rt; has_sides(&pages, &free));
+            assert_eq!(rt; found(&mut pages, b"x"), Some((4096, 9)));
+            assert_eq!(rt; taken(&mut pages, b"x"), Removal::Value(9));
+            assert_eq!(rt; found(&mut pages, b"x"), None);
             assert_eq!(rt; pages.bytes().len(), 6144);
         }
         None => assert!(rt; false),

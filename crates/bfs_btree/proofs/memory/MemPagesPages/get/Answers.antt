@@ -1,7 +1,0 @@
-use Rattle.std.proofs.Common.{arith, ap, ◌∙◌, take, drop, ◌≡◌, ◌-◌, ◌+◌}
-use Rattle.bfs_btree.proofs.memory.MemPagesPages.get.Goals as goal
-
-pub returns-clause-page : goal.returns-clause-page
-returns-clause-page g c =
-    let n : c.args.at + 1024 - c.args.at ≡ 1024 = omega arith in
-    c.copy_from_slice.ensures.after ∙ ap (λ l. take (c.args.at + 1024 - c.args.at) (drop c.args.at l)) c.deref.ensures.value ∙ ap (λ k. take k (drop c.args.at c.args.self.now.bytes.items)) n

@@ -1,0 +1,14 @@
+pub mod Calls
+pub mod Descending
+pub mod Dividing
+pub mod Grown
+pub mod Halved
+pub mod Halving
+pub mod Inner
+pub mod InnerCut
+pub mod LeafCut
+pub mod Raised
+pub mod RowPuts
+pub mod Split
+pub mod Steps
+pub mod WayDown

@@ -1,0 +1,3 @@
+pub mod Divided
+pub mod Growth
+pub mod Puts

@@ -1,0 +1,5 @@
+mod Between
+mod LeafLists
+mod Least
+mod Rest
+mod Walk

@@ -1,0 +1,14 @@
+-- The numbers that rows mean.
+use Rattle.std.specs.Prelude.{ℕ, ◌+◌, List, [], ◌∷◌}
+use Rattle.std.specs.List.{AllByRecursion}
+use Rattle.bfs_node.specs.Page.{Row}
+use Rattle.bfs_values.specs.Values.{HasValues, pages_for}
+
+-- each row has a value that means numbers
+abbrev pub AllMean : List ℕ → List Row → Type 0
+AllMean bytes rows = AllByRecursion (λ r. HasValues bytes r.1) rows
+
+-- how many pages have the numbers of all rows: each fragment's page and the pages of each chain
+abbrev pub pages_of : List ℕ → List Row → ℕ
+pages_of bytes [] = 0
+pages_of bytes (r ∷ rs) = pages_for bytes r.1 + pages_of bytes rs

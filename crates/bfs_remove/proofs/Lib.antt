@@ -1,0 +1,9 @@
+pub mod Cutting
+pub mod Dropping
+pub mod Filled
+pub mod Giving
+pub mod Less
+pub mod Losing
+pub mod Lowered
+pub mod Marking
+pub mod Mending

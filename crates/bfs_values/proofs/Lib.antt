@@ -1,0 +1,5 @@
+mod Chains
+pub mod Ending
+pub mod Lasting
+mod Orders
+pub mod Stacked

@@ -86,3 +86,37 @@ module _ (old new : ℕ → List ℕ) where
         let same = levels_same id (agree_left (frame_at s old id) (places_at s old id) agree) in
         ap (λ (l : Levels). take (natural l.stream.size) (flat_map new (places_of s l))) same
         ∙ ap (take (natural (fields s old id).size)) (joined_same (λ bytes. bytes) (places_at s old id) (agree_right (frame_at s old id) (places_at s old id) agree))
+
+    -- where only the inode changes and names the same arrays, only the fields do
+    module _ (id : ℕ) (agree : Agree old new (arrays_at s old id)) (indirect : (fields s new id).indirect ≡ (fields s old id).indirect) (double : (fields s new id).double_indirect ≡ (fields s old id).double_indirect) where
+      apart : Agree old new (run_blocks s (fields s old id).indirect ++ (run_blocks s (fields s old id).double_indirect ++ blocks_of s (second_arrays s old id)))
+      unfolding arrays_of
+      apart = agree
+
+      behind_it : Agree old new (run_blocks s (fields s old id).double_indirect ++ blocks_of s (second_arrays s old id))
+      behind_it = agree_right (run_blocks s (fields s old id).indirect) (run_blocks s (fields s old id).double_indirect ++ blocks_of s (second_arrays s old id)) apart
+
+      table_is : array_runs s new (fields s new id).indirect ≡ array_runs s old (fields s old id).indirect
+      table_is = ap (array_runs s new) indirect ∙ array_same (fields s old id).indirect (agree_left (run_blocks s (fields s old id).indirect) (run_blocks s (fields s old id).double_indirect ++ blocks_of s (second_arrays s old id)) apart)
+
+      second_is : array_runs s new (fields s new id).double_indirect ≡ array_runs s old (fields s old id).double_indirect
+      second_is = ap (array_runs s new) double ∙ array_same (fields s old id).double_indirect (agree_left (run_blocks s (fields s old id).double_indirect) (blocks_of s (second_arrays s old id)) behind_it)
+
+      runs_is : flat_map (array_runs s new) (second_arrays s new id) ≡ flat_map (array_runs s old) (second_arrays s old id)
+      runs_is = ap (λ l. flat_map (array_runs s new) (used_runs l)) second_is ∙ arrays_same (second_arrays s old id) (agree_right (run_blocks s (fields s old id).double_indirect) (blocks_of s (second_arrays s old id)) behind_it)
+
+      pub levels_but : levels_at s new id ≡ record (levels_at s old id) { stream = stream_at (new id) }
+      levels_but = let b = table_is in let c = second_is in let d = runs_is in λ i. record { stream = stream_at (new id); table = b i; arrays = c i; runs = d i }
+
+    -- where only the fields and the table of the indirect level change
+    module _ (id : ℕ) (table : List Run) (agree : Agree old new (run_blocks s (fields s old id).double_indirect ++ blocks_of s (second_arrays s old id)))
+        (double : (fields s new id).double_indirect ≡ (fields s old id).double_indirect) (is : array_runs s new (fields s new id).indirect ≡ table) where
+      two_is : array_runs s new (fields s new id).double_indirect ≡ array_runs s old (fields s old id).double_indirect
+      two_is = ap (array_runs s new) double ∙ array_same (fields s old id).double_indirect (agree_left (run_blocks s (fields s old id).double_indirect) (blocks_of s (second_arrays s old id)) agree)
+
+      pub levels_table : levels_at s new id ≡ record (levels_at s old id) { stream = stream_at (new id); table = table }
+      levels_table =
+          let d : flat_map (array_runs s new) (second_arrays s new id) ≡ flat_map (array_runs s old) (second_arrays s old id) =
+          ap (λ l. flat_map (array_runs s new) (used_runs l)) two_is ∙ arrays_same (second_arrays s old id) (agree_right (run_blocks s (fields s old id).double_indirect) (blocks_of s (second_arrays s old id)) agree) in
+          let c = two_is in
+          λ i. record { stream = stream_at (new id); table = is i; arrays = c i; runs = d i }

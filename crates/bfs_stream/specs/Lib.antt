@@ -2,4 +2,5 @@ pub mod Sizes
 pub mod Places
 pub mod Told
 pub mod Scans
+pub mod Grown
 pub mod Faults

@@ -1,12 +1,13 @@
 -- What looks through tables of runs answer.
 use Rattle.std.specs.List.{flat_map}
-use Rattle.std.specs.Prelude.{◌≡◌, ◌<◌, ℕ, ◌/◌, List, ◌++◌, length, Option, Some, None, slice_get, max, All}
+use Rattle.std.specs.Prelude.{◌≡◌, ◌<◌, ◌≤◌, ◌⊎◌, ℕ, ◌+◌, ◌*◌, ◌/◌, List, ◌++◌, length, Option, Some, None, slice_get, max, All}
 use Rattle.bfs_bytes.specs.declared.Run.{Run}
+use Rattle.bfs_bytes.specs.Fields.{run_in}
 use Rattle.bfs_txn.specs.declared.fault.BlockFault.{BlockFault}
 use Rattle.bfs_txn.specs.declared.fault.BlockFault.TheVariants.{Disk, Stopped, Damaged, NoMemory}
 use Rattle.bfs_super.specs.Conditions.{natural}
 use Rattle.bfs_inode.specs.Inode.{Stream}
-use Rattle.bfs_stream.specs.Sizes.{Sizes, IsInVolume, IsWhole}
+use Rattle.bfs_stream.specs.Sizes.{Sizes, IsInVolume, IsWhole, runs_per_block}
 use Rattle.bfs_stream.specs.Places.{used_runs, run_blocks, blocks_of, array_runs}
 use Rattle.bfs_stream.specs.Told.{contents, AreTold}
 use Rattle.bfs_stream.specs.declared.lookup.Ends.{Ends}
@@ -36,6 +37,32 @@ IsDamage (Disk before after) = ⊥
 IsDamage (Stopped durable faults) = ⊥
 IsDamage (Damaged block) = Unit {0}
 IsDamage NoMemory = ⊥
+
+-- a run with blocks, all of the volume
+abbrev pub IsUsed : Sizes → Run → Type 0
+IsUsed s run = (0 < run.len) × IsInVolume s run
+
+-- some run that stands in the bytes of a block isn't so
+abbrev pub HasOther : Sizes → (Run → Type 0) → List ℕ → Type 0
+HasOther s P bytes = (i : ℕ) × (i < runs_per_block s) × ¬ P (run_in bytes (8 * i))
+
+-- among these runs, where the scan ends at one, is one that isn't used
+abbrev pub IsBrokenAt : Sizes → List ℕ → ℕ → ℕ → Scan → Type 0
+IsBrokenAt s bytes at runs (Found block) = Unit {0}
+IsBrokenAt s bytes at runs (Past n) = Unit {0}
+IsBrokenAt s bytes at runs Broken = (i : ℕ) × (i < runs) × ¬ IsUsed s (run_in bytes (at + 8 * i))
+
+-- a damaged block is the inode, or, where it is told, holds a run that isn't so
+abbrev pub IsDamagedBy : Sizes → (ℕ → Option (List ℕ)) → ℕ → (Run → Type 0) → BlockFault → Type 0
+IsDamagedBy s m id P (Disk before after) = Unit {0}
+IsDamagedBy s m id P (Stopped durable faults) = Unit {0}
+IsDamagedBy s m id P (Damaged block) = (block ≡ id) ⊎ ((bytes : List ℕ) → m block ≡ Some bytes → HasOther s P bytes)
+IsDamagedBy s m id P NoMemory = Unit {0}
+
+-- what each run of a level at this place has to be: one with blocks, or, from where the double indirect level begins, a
+-- whole one
+abbrev pub IsLevelRun : Sizes → ℕ → ℕ → Run → Type 0
+IsLevelRun s end place run = (place < end → IsUsed s run) × (end ≤ place → IsWhole s run)
 
 -- A double indirect level whose arrays are told, with whole arrays and runs, has a block at this place.
 pub record HasDouble (s : Sizes) (m : ℕ → Option (List ℕ)) (array : Run) (i : ℕ) : Type 0 where

@@ -34,6 +34,10 @@ runs_per_block s = s.block_size / 8
 abbrev pub array_length : Sizes → ℕ
 array_length s = max 1 (4096 / s.block_size)
 
+-- the runs that an array has room for
+abbrev pub table_length : Sizes → ℕ
+table_length s = array_length s * runs_per_block s
+
 -- the first block of a run
 abbrev pub first_block : Sizes → Run → ℕ
 first_block s run = natural run.group * s.group_blocks + run.start

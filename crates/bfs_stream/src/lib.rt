@@ -2,15 +2,20 @@
 // bytes are, and when it keeps the format, stands in specs/Places.antt.
 #![tactic(auto)]
 
+mod count;
 mod fault;
+mod grow;
 mod laws;
 mod lookup;
+mod next;
 mod scan;
 mod stream;
 
-pub use fault::StreamFault;
-pub use laws::streams_stay;
+pub use fault::{GrowFault, StreamFault};
+pub use laws::{others_stay, streams_stay};
 pub use stream::Stream;
 
+#[cfg(test)]
+mod grow_tests;
 #[cfg(test)]
 mod tests;

@@ -1,13 +1,13 @@
 // Looks one place up.
-ghost use Rattle.std.specs.Prelude.{◌≡◌, ◌<◌, ◌≤◌, ◌↔◌, IsTrue, ◌+◌, ◌*◌, ◌/◌, ◌%◌, ℕ, List, length, get_or, Option, Some, None, OnOk, OnErr, IfOk, IfErr, max, slice_get, All};
+ghost use Rattle.std.specs.Prelude.{◌≡◌, ◌<◌, ◌≤◌, ◌↔◌, IsTrue, ◌+◌, ◌*◌, ◌/◌, ◌%◌, ℕ, List, length, get_or, Option, Some, None, OnOk, OnErr, IfOk, IfErr, IsSome, max, slice_get, All};
 ghost use Rattle.std.specs.List.{flat_map};
 ghost use Rattle.bfs_inode.specs.Inode.{stream_at};
 ghost use Rattle.bfs_txn.specs.Faults.{AreLater};
 ghost use Rattle.bfs_stream.specs.Sizes.{Sizes, IsInVolume, IsWhole, HasSizes, array_length, runs_per_block};
 ghost use Rattle.bfs_stream.specs.Places.{run_blocks, used_runs, array_runs, places_at};
 ghost use Rattle.bfs_stream.specs.Told.{AreTold, Stands, contents};
-ghost use Rattle.bfs_stream.specs.Scans.{IsDamage, HasDouble, block_in, ends_of, last_end};
-ghost use Rattle.bfs_stream.specs.Faults.{IsCauseIn, IsStreamCause, HasNoBlock};
+ghost use Rattle.bfs_stream.specs.Scans.{IsDamage, IsDamagedBy, IsLevelRun, IsUsed, HasDouble, block_in, ends_of, last_end};
+ghost use Rattle.bfs_stream.specs.Faults.{IsCauseIn, IsStreamCause, IsDamagedAt, HasNoBlock};
 
 use crate::scan::Scan;
 use crate::stream::natural_long;
@@ -17,7 +17,7 @@ use bfs_inode::InodeView;
 use bfs_txn::{BlockFault, Blocks};
 
 /// Where the direct runs stand in an inode's block.
-const DIRECT: usize = 72;
+pub(crate) const DIRECT: usize = 72;
 
 /// Up to which block of the stream each level reaches, or 0.
 #[derive(Clone, Copy)]
@@ -29,7 +29,7 @@ pub struct Ends {
 
 impl Ends {
     /// Up to which block the stream reaches.
-    fn last(&self) -> u64
+    pub(crate) fn last(&self) -> u64
         ensures { result ≡ last_end self.now }
     {
         self.direct.max(self.indirect).max(self.double)
@@ -84,6 +84,7 @@ impl Stream {
         requires array { IsInVolume self.now.sizes array }
         ensures found { (m : ℕ → Option (List ℕ)) → B.told under.old ≡ Some m → AreTold m (run_blocks self.now.sizes array) → IfOk result (λ block. block_in self.now.sizes (array_runs self.now.sizes (contents m) array) place ≡ Some block) }
         ensures none { (m : ℕ → Option (List ℕ)) → B.told under.old ≡ Some m → AreTold m (run_blocks self.now.sizes array) → All (IsInVolume self.now.sizes) (used_runs (array_runs self.now.sizes (contents m) array)) → IfErr result (λ fault. IsDamage fault → block_in self.now.sizes (array_runs self.now.sizes (contents m) array) place ≡ None) }
+        ensures damaged { (m : ℕ → Option (List ℕ)) → B.told under.old ≡ Some m → IfErr result (IsDamagedBy self.now.sizes m self.now.id (IsUsed self.now.sizes)) }
         ensures below { IfOk result (λ block. block < self.now.sizes.blocks) }
         ensures length { length bytes.new ≡ self.now.sizes.block_size }
         ensures told { B.told under.new ≡ B.told under.old }
@@ -112,7 +113,7 @@ impl Stream {
     }
 
     /// The run at a place in an array under double indirect.
-    fn whole_run<B: Blocks>(
+    pub(crate) fn whole_run<B: Blocks>(
         &self,
         under: &mut B,
         bytes: &mut [u8],
@@ -125,6 +126,7 @@ impl Stream {
         requires place { place < array_length self.now.sizes * runs_per_block self.now.sizes }
         ensures found { (m : ℕ → Option (List ℕ)) → B.told under.old ≡ Some m → AreTold m (run_blocks self.now.sizes array) → IfOk result (λ run. slice_get (array_runs self.now.sizes (contents m) array) place ≡ Some run) }
         ensures none { (m : ℕ → Option (List ℕ)) → B.told under.old ≡ Some m → AreTold m (run_blocks self.now.sizes array) → IfErr result (λ fault. IsDamage fault → (run : Run) × (slice_get (array_runs self.now.sizes (contents m) array) place ≡ Some run) × (¬ IsWhole self.now.sizes run)) }
+        ensures damaged { (m : ℕ → Option (List ℕ)) → B.told under.old ≡ Some m → IfErr result (IsDamagedBy self.now.sizes m self.now.id (IsWhole self.now.sizes)) }
         ensures whole { IfOk result (IsWhole self.now.sizes) }
         ensures length { length bytes.new ≡ self.now.sizes.block_size }
         ensures told { B.told under.new ≡ B.told under.old }
@@ -178,6 +180,7 @@ impl Stream {
         requires array { IsWhole self.now.sizes array }
         ensures found { (m : ℕ → Option (List ℕ)) → B.told under.old ≡ Some m → HasDouble self.now.sizes m array place → IfOk result (λ block. block_in self.now.sizes (flat_map (array_runs self.now.sizes (contents m)) (used_runs (array_runs self.now.sizes (contents m) array))) place ≡ Some block) }
         ensures sound { (m : ℕ → Option (List ℕ)) → B.told under.old ≡ Some m → HasDouble self.now.sizes m array place → IfErr result (λ fault. ¬ IsDamage fault) }
+        ensures damaged { (m : ℕ → Option (List ℕ)) → B.told under.old ≡ Some m → IfErr result (IsDamagedBy self.now.sizes m self.now.id (IsWhole self.now.sizes)) }
         ensures below { IfOk result (λ block. block < self.now.sizes.blocks) }
         ensures told { B.told under.new ≡ B.told under.old }
         ensures changed { B.changed under.new ≡ B.changed under.old }
@@ -205,7 +208,7 @@ impl Stream {
     }
 
     /// Up to which block each level reaches, by the ranges in the inode.
-    fn ends(&self, bytes: &[u8]) -> Ends
+    pub(crate) fn ends(&self, bytes: &[u8]) -> Ends
         requires { 1024 ≤ length bytes.now }
         ensures { result ≡ ends_of self.now.sizes (stream_at bytes.now) }
     {
@@ -230,6 +233,7 @@ impl Stream {
         requires inside { place < last_end (ends_of self.now.sizes (stream_at bytes.old)) }
         ensures found { (m : ℕ → Option (List ℕ)) → B.told under.old ≡ Some m → Stands self.now m → bytes.old ≡ contents m self.now.id → IfOk result (λ block. slice_get (places_at self.now.sizes (contents m) self.now.id) place ≡ Some block) }
         ensures sound { (m : ℕ → Option (List ℕ)) → B.told under.old ≡ Some m → Stands self.now m → bytes.old ≡ contents m self.now.id → IfErr result (λ fault. ¬ IsDamage fault) }
+        ensures damaged { (m : ℕ → Option (List ℕ)) → B.told under.old ≡ Some m → IfErr result (IsDamagedBy self.now.sizes m self.now.id (IsLevelRun self.now.sizes (ends_of self.now.sizes (stream_at bytes.old)).indirect place)) }
         ensures below { IfOk result (λ block. block < self.now.sizes.blocks) }
         ensures told { B.told under.new ≡ B.told under.old }
         ensures changed { B.changed under.new ≡ B.changed under.old }
@@ -264,6 +268,7 @@ impl Stream {
         requires { B.size under.old ≡ self.old.sizes.block_size }
         ensures found { (m : ℕ → Option (List ℕ)) → B.told under.old ≡ Some m → Stands self.old m → IfOk result (λ block. slice_get (places_at self.old.sizes (contents m) self.old.id) index ≡ Some block) }
         ensures none { (m : ℕ → Option (List ℕ)) → B.told under.old ≡ Some m → Stands self.old m → IfErr result (HasNoBlock (places_at self.old.sizes (contents m) self.old.id) index) }
+        ensures damaged { (m : ℕ → Option (List ℕ)) → B.told under.old ≡ Some m → IsSome (m self.old.id) → IfErr result (IsDamagedAt self.old m index) }
         ensures below { IfOk result (λ block. block < self.old.sizes.blocks) }
         ensures same { self.new ≡ self.old }
         ensures told { B.told under.new ≡ B.told under.old }

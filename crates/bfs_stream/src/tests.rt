@@ -11,7 +11,7 @@ use std::alloc::{AllocError, Global};
 use std::test::Fail;
 
 /// The superblock of a volume with blocks of this size, 4,096 of them behind two whole groups.
-fn superblock(size: u32, shift: u32) -> Result<Super, SuperFault>
+pub(crate) fn superblock(size: u32, shift: u32) -> Result<Super, SuperFault>
     requires small { size ≤ 8192 }
     requires low { shift ≤ 13 }
     ensures valid { IfOk result IsValid }

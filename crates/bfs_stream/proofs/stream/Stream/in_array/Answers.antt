@@ -1,12 +1,16 @@
-use Rattle.std.proofs.Common.{◌≡◌, ◌+◌, ◌++◌, ◌∙◌, List, ap, sym, subst, arith}
+use Rattle.std.proofs.Common.{◌≡◌, ◌<◌, ◌+◌, ◌*◌, ℕ, inr, ◌++◌, ◌∙◌, List, ap, sym, subst, arith}
 use Rattle.std.specs.Prelude.{All}
 use Rattle.bfs_bytes.specs.declared.Run.{Run}
+use Rattle.bfs_bytes.specs.Fields.{run_in}
 use Rattle.bfs_txn.specs.Told.{AreOfBlock}
 use Rattle.bfs_stream.specs.Sizes.{IsInVolume, first_block}
 use Rattle.bfs_stream.specs.Places.{used_runs}
 use Rattle.bfs_stream.specs.Told.{contents}
 use Rattle.bfs_stream.specs.Scans.{block_in}
 use Rattle.bfs_stream.proofs.Arrays.{has_counted, read_is, runs_are, array_is, later_twice, walked_more, walked_found, walked_broken, walked_all}
+use Rattle.bfs_stream.specs.Sizes.{runs_per_block}
+use Rattle.bfs_stream.specs.Scans.{IsUsed}
+use Rattle.bfs_stream.proofs.Damages.{read_other}
 use Rattle.bfs_stream.proofs.stream.Stream.in_array.Goals as goal
 
 pub returns-in-Found-clause-found : goal.returns-in-Found-clause-found
@@ -66,3 +70,11 @@ returns-clause-none g c m is told all t =
     let end = c.from-i-end.ensures in
     ap (λ l. block_in s l c.args.place) (array_is s (contents m) c.args.array)
     ∙ walked_all s (contents m) (first_block s c.args.array) c.args.array.len c.args.place c.loop-i.i c.loop-i.left (omega arith) (c.loop-i.invariant.walked m is told)
+
+pub returns-in-Broken-clause-damaged : goal.returns-in-Broken-clause-damaged
+returns-in-Broken-clause-damaged g c m is =
+    let s = c.args.self.now.sizes in
+    let bad = c.in-Broken.ensures.broken in
+    let few : bad.0 < runs_per_block s = let e = c.runs_per_block-runs.ensures.value in let lt = bad.1 in omega (arith, e, lt) in
+    inr (read_other s (IsUsed s) m (g.B.Blocks.told c.loop-i.under) (c.first_block-first.result + c.loop-i.i) c.get.new.into (c.loop-i.invariant.told ∙ is) c.in-Ok.ensures.bytes
+    (bad.0, few, let e : 0 + 8 * bad.0 ≡ 8 * bad.0 = omega arith in subst (λ (n : ℕ). ¬ IsUsed s (run_in c.get.new.into n)) e bad.2))

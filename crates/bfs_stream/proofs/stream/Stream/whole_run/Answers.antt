@@ -1,4 +1,4 @@
-use Rattle.std.proofs.Common.{◌≡◌, ◌<◌, ◌≤◌, ◌+◌, ◌*◌, ◌/◌, ◌%◌, ◌∙◌, ℕ, List, Option, Some, ap, sym, subst, arith, true, false}
+use Rattle.std.proofs.Common.{◌≡◌, ◌<◌, ◌≤◌, ◌+◌, ◌*◌, ◌/◌, ◌%◌, ◌∙◌, inr, ℕ, List, Option, Some, ap, sym, subst, arith, true, false}
 use Rattle.std.specs.Prelude.{slice_get}
 use Rattle.std.proofs.Math.Nat.{div-lt_iff_lt-mul}
 use Rattle.bfs_bytes.specs.declared.Run.{Run}
@@ -8,6 +8,8 @@ use Rattle.bfs_stream.specs.Sizes.{Sizes, runs_per_block, array_length, first_bl
 use Rattle.bfs_stream.specs.Places.{array_runs, run_blocks}
 use Rattle.bfs_stream.specs.Told.{contents, AreTold}
 use Rattle.bfs_stream.proofs.Arrays.{array_at, has_counted, read_is}
+use Rattle.std.proofs.Math.Nat.{mod-lt}
+use Rattle.bfs_stream.proofs.Damages.{read_other}
 use Rattle.bfs_stream.proofs.stream.Stream.whole_run.Goals as goal
 
 -- what was read at a place of an array is the run there
@@ -32,3 +34,12 @@ returns-else-is_whole-clause-none g c m is told t =
     let read = run_read c.args.self.now.sizes m (g.B.Blocks.told c.args.under.now) c.args.array c.run_at-run.result c.args.place c.first_block.result c.runs_per_block-runs.result c.get.new.into is told c.requires.array c.requires.place
     c.runs_per_block-runs.ensures.value c.runs_per_block-runs.ensures.some c.first_block.ensures.value c.in-Ok.ensures.bytes c.run_at-run.ensures in
     (c.run_at-run.result, read, λ whole. let bad : false ≡ true = c.if-is_whole.ensures.1 whole in cc)
+
+pub returns-else-is_whole-clause-damaged : goal.returns-else-is_whole-clause-damaged
+returns-else-is_whole-clause-damaged g c m is =
+    let s = c.args.self.now.sizes in
+    let runs = c.runs_per_block-runs.result in
+    let some : 0 < runs = let e = c.runs_per_block-runs.ensures.some in omega (arith, e) in
+    let few : c.args.place % runs < runs_per_block s = let e = c.runs_per_block-runs.ensures.value in let lt = mod-lt c.args.place some in omega (arith, e, lt) in
+    inr (read_other s (IsWhole s) m (g.B.Blocks.told c.args.under.now) (c.first_block.result + c.args.place / runs) c.get.new.into is c.in-Ok.ensures.bytes
+    (c.args.place % runs, few, λ whole. let bad : false ≡ true = c.if-is_whole.ensures.1 (subst (IsWhole s) (sym c.run_at-run.ensures) whole) in cc))

@@ -1,0 +1,152 @@
+-- Which blocks several calls have changed.
+use Rattle.std.proofs.Common.{◌≡◌, ◌<◌, ◌+◌, ◌*◌, ◌/◌, ◌∙◌, ◌⊎◌, inl, inr, ℕ, List, [], ◌∷◌, ◌++◌, Bool, true, false, ◌||◌, refl, sym, ap, subst, arith}
+use Rattle.std.specs.Prelude.{◌==◌}
+use Rattle.std.proofs.Math.Nat.{div-lt_iff_lt-mul}
+use Rattle.bfs_base.specs.Lists.{Has}
+use Rattle.bfs_bytes.specs.declared.Run.{Run}
+use Rattle.bfs_txn.specs.Told.{with_number}
+use Rattle.bfs_txn.specs.Faults.{Counts, AreLater}
+use Rattle.bfs_bitmap.specs.Runs.{Room}
+use Rattle.bfs_bitmap.specs.Fills.{IsBitmapBlock}
+use Rattle.bfs_inode.specs.Inode.{Inode, inode_at}
+use Rattle.bfs_stream.specs.Sizes.{Sizes, IsInVolume, first_block, runs_per_block}
+use Rattle.bfs_stream.specs.Places.{run_blocks}
+use Rattle.bfs_stream.specs.Grown.{AreWritten, KeepsRest}
+use Rattle.bfs_stream.proofs.Arrays.{has_counted}
+use Rattle.bfs_stream.proofs.Frames.{has_first, has_rest, has_left, has_right}
+use Rattle.bfs_stream.proofs.Taking.{counted_in}
+
+-- nothing was changed
+pub wrote_none : (v : Room) (a b : ℕ → Bool) (xs : List ℕ) → b ≡ a → AreWritten v a b xs
+wrote_none v a b xs e k is = inl (sym (ap (λ (f : ℕ → Bool). f k) e) ∙ is)
+
+-- blocks with bits alone were changed
+pub wrote_bits : (v : Room) (a b : ℕ → Bool) (xs : List ℕ) → ((k : ℕ) → b k ≡ true → (a k ≡ true) ⊎ IsBitmapBlock v k) → AreWritten v a b xs
+wrote_bits v a b xs h k e = by_side (h k e)
+  where
+    by_side : (a k ≡ true) ⊎ IsBitmapBlock v k → (a k ≡ true) ⊎ (IsBitmapBlock v k ⊎ Has xs k)
+    by_side (inl before) = inl before
+    by_side (inr bits) = inr (inl bits)
+
+-- blocks of a list alone were changed
+pub wrote_these : (v : Room) (a b : ℕ → Bool) (xs : List ℕ) → ((k : ℕ) → b k ≡ true → (a k ≡ true) ⊎ Has xs k) → AreWritten v a b xs
+wrote_these v a b xs h k e = by_side (h k e)
+  where
+    by_side : (a k ≡ true) ⊎ Has xs k → (a k ≡ true) ⊎ (IsBitmapBlock v k ⊎ Has xs k)
+    by_side (inl before) = inl before
+    by_side (inr has) = inr (inr has)
+
+pub has_only : (k x : ℕ) → k ≡ x → Has (x ∷ []) k
+has_only k x e = subst (λ (n : ℕ). Has (x ∷ []) n) (sym e) (has_first x [])
+
+-- one block alone was changed
+pub wrote_one : (v : Room) (a b : ℕ → Bool) (x : ℕ) → ((k : ℕ) → b k ≡ true → (a k ≡ true) ⊎ (k ≡ x)) → AreWritten v a b (x ∷ [])
+wrote_one v a b x h k e = by_side (h k e)
+  where
+    by_side : (a k ≡ true) ⊎ (k ≡ x) → (a k ≡ true) ⊎ (IsBitmapBlock v k ⊎ Has (x ∷ []) k)
+    by_side (inl before) = inl before
+    by_side (inr is) = inr (inr (has_only k x is))
+
+-- a block was set
+pub number_set : (x : ℕ) (a : ℕ → Bool) (k : ℕ) → with_number x a k ≡ true → (a k ≡ true) ⊎ (k ≡ x)
+number_set x a k e = by_test (k == x) refl e
+  where
+    by_test : (t : Bool) → (k == x) ≡ t → (t || a k) ≡ true → (a k ≡ true) ⊎ (k ≡ x)
+    by_test true is f = inr (grind (arith, is))
+    by_test false is f = inl f
+
+pub wrote_more : (v : Room) (a b : ℕ → Bool) (xs ys : List ℕ) → ((k : ℕ) → Has xs k → Has ys k) → AreWritten v a b xs → AreWritten v a b ys
+wrote_more v a b xs ys more h k e = by_side (h k e)
+  where
+    by_side : (a k ≡ true) ⊎ (IsBitmapBlock v k ⊎ Has xs k) → (a k ≡ true) ⊎ (IsBitmapBlock v k ⊎ Has ys k)
+    by_side (inl before) = inl before
+    by_side (inr (inl bits)) = inr (inl bits)
+    by_side (inr (inr has)) = inr (inr (more k has))
+
+pub wrote_twice : (v : Room) (a b c : ℕ → Bool) (xs : List ℕ) → AreWritten v a b xs → AreWritten v b c xs → AreWritten v a c xs
+wrote_twice v a b c xs one two k e = by_side (two k e)
+  where
+    by_side : (b k ≡ true) ⊎ (IsBitmapBlock v k ⊎ Has xs k) → (a k ≡ true) ⊎ (IsBitmapBlock v k ⊎ Has xs k)
+    by_side (inl before) = one k before
+    by_side (inr now) = inr now
+
+-- into the left or the right part of a joined list
+pub wrote_left : (v : Room) (a b : ℕ → Bool) (xs ys : List ℕ) → AreWritten v a b xs → AreWritten v a b (xs ++ ys)
+wrote_left v a b xs ys h = wrote_more v a b xs (xs ++ ys) (λ k has. has_left xs ys k has) h
+
+pub wrote_right : (v : Room) (a b : ℕ → Bool) (xs ys : List ℕ) → AreWritten v a b ys → AreWritten v a b (xs ++ ys)
+wrote_right v a b xs ys h = wrote_more v a b ys (xs ++ ys) (λ k has. has_right xs ys k has) h
+
+-- a block of a run in the volume lies in the volume
+pub run_low : (s : Sizes) (run : Run) (k : ℕ) → IsInVolume s run → Has (run_blocks s run) k → k < s.blocks
+run_low s run k inside has = let at = counted_in (first_block s run) run.len k has in let le = inside.inside in let lt = at.1 in omega (arith, le, lt)
+
+-- the inode alone, or blocks behind it alone
+pub wrote_first : (v : Room) (a b : ℕ → Bool) (x : ℕ) (ys : List ℕ) → ((k : ℕ) → b k ≡ true → (a k ≡ true) ⊎ (k ≡ x)) → AreWritten v a b (x ∷ ys)
+wrote_first v a b x ys h = wrote_more v a b (x ∷ []) (x ∷ ys) (λ k has. has_left (x ∷ []) ys k has) (wrote_one v a b x h)
+
+pub wrote_behind : (v : Room) (a b : ℕ → Bool) (x : ℕ) (ys : List ℕ) → ((k : ℕ) → b k ≡ true → (a k ≡ true) ⊎ Has ys k) → AreWritten v a b (x ∷ ys)
+wrote_behind v a b x ys h = wrote_more v a b ys (x ∷ ys) (λ k has. has_rest x ys k has) (wrote_these v a b ys h)
+
+pub wrote_set : (v : Room) (a b : ℕ → Bool) (x y : ℕ) → x ≡ y → ((k : ℕ) → b k ≡ with_number x a k) → AreWritten v a b (y ∷ [])
+wrote_set v a b x y same h = wrote_one v a b y (λ k e. by_side k (number_set x a k (sym (h k) ∙ e)))
+  where
+    by_side : (k : ℕ) → (a k ≡ true) ⊎ (k ≡ x) → (a k ≡ true) ⊎ (k ≡ y)
+    by_side k (inl before) = inl before
+    by_side k (inr is) = inr (is ∙ same)
+
+-- three calls, and four
+pub wrote_thrice : (v : Room) (a b c d : ℕ → Bool) (xs : List ℕ) → AreWritten v a b xs → AreWritten v b c xs → AreWritten v c d xs → AreWritten v a d xs
+wrote_thrice v a b c d xs one two three = wrote_twice v a c d xs (wrote_twice v a b c xs one two) three
+
+pub wrote_four : (v : Room) (a b c d e : ℕ → Bool) (xs : List ℕ) → AreWritten v a b xs → AreWritten v b c xs → AreWritten v c d xs → AreWritten v d e xs → AreWritten v a e xs
+wrote_four v a b c d e xs one two three four = wrote_twice v a d e xs (wrote_thrice v a b c d xs one two three) four
+
+-- and with blocks of the volume in the place of a list
+pub changed_twice : (s : Sizes) (v now : Room) (a b c : ℕ → Bool) → now ≡ record v { low = now.low } → ((k : ℕ) → b k ≡ true → (a k ≡ true) ⊎ (IsBitmapBlock v k ⊎ (k < s.blocks)))
+    → ((k : ℕ) → c k ≡ true → (b k ≡ true) ⊎ (IsBitmapBlock now k ⊎ (k < s.blocks))) → (k : ℕ) → c k ≡ true → (a k ≡ true) ⊎ (IsBitmapBlock v k ⊎ (k < s.blocks))
+changed_twice s v now a b c rest one two k e = by_side (two k e)
+  where
+    by_side : (b k ≡ true) ⊎ (IsBitmapBlock now k ⊎ (k < s.blocks)) → (a k ≡ true) ⊎ (IsBitmapBlock v k ⊎ (k < s.blocks))
+    by_side (inl before) = one k before
+    by_side (inr (inl bits)) = inr (inl (subst (λ (x : Room). IsBitmapBlock x k) rest bits))
+    by_side (inr (inr low)) = inr (inr low)
+
+pub later_none : (c : Counts) → AreLater c c
+later_none c = record { faults = omega arith; stops = refl; stop = refl }
+
+-- the block of a place in an array was set
+pub put_written : (s : Sizes) (array : Run) (place first runs block : ℕ) (a b c : ℕ → Bool) → first ≡ first_block s array → runs ≡ runs_per_block s → 0 < runs → place < array.len * runs_per_block s → block ≡ first + place / runs
+    → b ≡ a → ((k : ℕ) → c k ≡ with_number block b k) → (k : ℕ) → c k ≡ true → (a k ≡ true) ⊎ Has (run_blocks s array) k
+put_written s array place first runs block a b c first_is runs_is some inside block_is same set k e = by_side (number_set block b k (sym (set k) ∙ e))
+  where
+    below : place / runs < array.len
+    below = let iff = div-lt_iff_lt-mul {k = runs} {x = place} {y = array.len} some in iff.1 (subst (λ (n : ℕ). place < array.len * n) (sym runs_is) inside)
+
+    by_side : (b k ≡ true) ⊎ (k ≡ block) → (a k ≡ true) ⊎ Has (run_blocks s array) k
+    by_side (inl before) = inl (sym (ap (λ (f : ℕ → Bool). f k) same) ∙ before)
+    by_side (inr is) = inr (has_counted (first_block s array) array.len k (omega (arith, is, block_is, first_is)) (omega (arith, is, block_is, first_is, below)))
+
+-- one more block of an array was set
+pub clear_written : (s : Sizes) (array : Run) (first i : ℕ) (a b c : ℕ → Bool) → first ≡ first_block s array → i < array.len → ((k : ℕ) → b k ≡ true → (a k ≡ true) ⊎ Has (run_blocks s array) k) → ((k : ℕ) → c k ≡ with_number (first + i) b k)
+    → (k : ℕ) → c k ≡ true → (a k ≡ true) ⊎ Has (run_blocks s array) k
+clear_written s array first i a b c first_is low before set k e = by_side (number_set (first + i) b k (sym (set k) ∙ e))
+  where
+    by_side : (b k ≡ true) ⊎ (k ≡ first + i) → (a k ≡ true) ⊎ Has (run_blocks s array) k
+    by_side (inl h) = before k h
+    by_side (inr is) = inr (has_counted (first_block s array) array.len k (omega (arith, is, first_is)) (omega (arith, is, first_is, low)))
+
+-- blocks of an array in the volume lie in the volume
+pub written_low : (s : Sizes) (array : Run) (a b : ℕ → Bool) → IsInVolume s array → ((k : ℕ) → b k ≡ true → (a k ≡ true) ⊎ Has (run_blocks s array) k) → (k : ℕ) → b k ≡ true → (a k ≡ true) ⊎ (k < s.blocks)
+written_low s array a b inside h k e = by_side (h k e)
+  where
+    by_side : (a k ≡ true) ⊎ Has (run_blocks s array) k → (a k ≡ true) ⊎ (k < s.blocks)
+    by_side (inl before) = inl before
+    by_side (inr has) = inr (run_low s array k inside has)
+
+-- the inode's other fields stay where nothing was written, and through two writes
+pub keeps_none : (bytes : List ℕ) → KeepsRest bytes bytes
+keeps_none bytes = (refl, refl)
+
+pub keeps_twice : (a b c : List ℕ) → KeepsRest a b → KeepsRest b c → KeepsRest a c
+keeps_twice a b c one two = (two.0 ∙ ap (λ (x : Inode). record x { stream_bytes = (inode_at c).stream_bytes }) one.0, two.1 ∙ one.1)

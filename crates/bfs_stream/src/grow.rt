@@ -1,0 +1,691 @@
+// Adds runs to a stream.
+ghost use Rattle.std.specs.Prelude.{◌≡◌, ◌<◌, ◌≤◌, ◌⊎◌, ◌+◌, ◌*◌, ◌/◌, ℕ, List, [], length, Option, Some, OnOk, IfOk, IfErr, IsSome, true, pos, ◌^◌, slice_set};
+ghost use Rattle.bfs_base.specs.Lists.{Has};
+ghost use Rattle.bfs_inode.specs.Inode.{stream_at};
+ghost use Rattle.bfs_txn.specs.Faults.{AreLater, IsCaused};
+ghost use Rattle.bfs_bitmap.specs.Runs.{Fits};
+ghost use Rattle.bfs_bitmap.specs.Fills.{IsBitmapBlock};
+ghost use Rattle.bfs_stream.specs.Sizes.{IsInVolume, IsWhole, runs_per_block, array_length};
+ghost use Rattle.bfs_stream.specs.Places.{used_runs, run_blocks, blocks_of, array_runs, fields};
+ghost use Rattle.bfs_stream.specs.Told.{contents, AreTold};
+ghost use Rattle.bfs_stream.specs.Grown.{IsOfVolume, Took, Owns, HasGrown, HasPut, HasFields, HasCleared, IsTable, HasTables, HasPutBelow, table_runs, AreTables, HasTable, HasArray, UsesDouble, KeepsRest};
+ghost use Rattle.bfs_stream.specs.Faults.{IsCauseIn, IsGrowCause, IsNoRunFor, IsStepFault};
+ghost use Rattle.bfs_stream.specs.Scans.{IsDamage};
+
+use crate::{GrowFault, Stream};
+use bfs_bitmap::{Bitmap, RunFault};
+use bfs_bytes::{Run, put_run};
+use bfs_inode::InodeMut;
+use bfs_txn::{BlockFault, Edits};
+use std::alloc::AllocError;
+
+/// What ends a table of runs.
+const NO_RUN: Run = Run {
+    group: 0,
+    start: 0,
+    len: 0,
+};
+
+/// More blocks than any level has.
+pub(crate) const MOST_BLOCKS: u64 = 1 << 44;
+
+/// The table of the indirect level: its array, how many of its runs are used, and how many blocks the stream has.
+#[derive(Clone, Copy)]
+pub struct Table {
+    pub array: Run,
+    pub used: u64,
+    pub blocks: u64,
+}
+
+/// The tables of the double indirect level: the array that lists them, how many it lists, how many of their runs are
+/// used, and how many blocks the stream has.
+#[derive(Clone, Copy)]
+pub struct Tables {
+    pub array: Run,
+    pub listed: u64,
+    pub used: u64,
+    pub blocks: u64,
+}
+
+impl Stream {
+    /// Takes a run of at least `wanted` blocks, and at most `longest`.
+    fn take<E: Edits>(
+        &self,
+        bitmap: &mut Bitmap,
+        edits: &mut E,
+        wanted: u16,
+        longest: u16,
+    ) -> Result<Run, GrowFault>
+        requires size { E.size edits.old ≡ bitmap.old.block_size }
+        requires volume { IsOfVolume self.now.sizes bitmap.old }
+        requires some { 1 ≤ wanted }
+        requires order { wanted ≤ longest }
+        ensures inside { IfOk result (IsInVolume self.now.sizes) }
+        ensures long { IfOk result (λ run. (wanted ≤ run.len) × (run.len ≤ longest)) }
+        ensures took { (m : ℕ → Option (List ℕ)) → E.told edits.old ≡ Some m → Fits bitmap.old m → IfOk result (λ run. Took self.now.sizes bitmap.old bitmap.new run m (E.told edits.new)) }
+        ensures no_run { (m : ℕ → Option (List ℕ)) → E.told edits.old ≡ Some m → Fits bitmap.old m → IfErr result (IsNoRunFor bitmap.old m wanted) }
+        ensures rest { bitmap.new ≡ record bitmap.old { low = bitmap.new.low } }
+        ensures changed { (k : ℕ) → E.changed edits.new k ≡ true → (E.changed edits.old k ≡ true) ⊎ IsBitmapBlock bitmap.old k }
+        ensures size { E.size edits.new ≡ E.size edits.old }
+        ensures frame { E.frame edits.new ≡ E.frame edits.old }
+        ensures later { AreLater (E.counts edits.old) (E.counts edits.new) }
+        ensures cause { IfErr result (IsGrowCause 1 (E.counts edits.old) (E.counts edits.new)) }
+    {
+        match bitmap.take_run(edits, wanted, longest) {
+            Ok(run) => Ok(run),
+            Err(RunFault::NoRun { wanted, free }) => Err(GrowFault::NoRun { wanted, free }),
+            Err(RunFault::Block(fault)) => Err(GrowFault::Block(fault)),
+        }
+    }
+
+    /// Ends the direct runs before a place, where there is that place.
+    fn end_direct(bytes: &mut [u8], place: usize)
+        requires { 1024 ≤ length bytes.old }
+        ensures stream { stream_at bytes.new ≡ record (stream_at bytes.old) { direct = slice_set (stream_at bytes.old).direct place NO_RUN } }
+        ensures rest { KeepsRest bytes.old bytes.new }
+    {
+        if place < 12 {
+            let mut inode = InodeMut::over(bytes);
+            inode.set_direct(place, NO_RUN);
+        }
+    }
+
+    /// Writes a run behind the direct runs that are used, which then reach so many blocks, and ends them there.
+    fn put_direct(&self, bytes: &mut [u8], used: usize, run: Run, blocks: u64)
+        requires length { 1024 ≤ length bytes.old }
+        requires room { used < 12 }
+        requires few { blocks < 2 ^ 45 }
+        ensures stream { stream_at bytes.new ≡ record (stream_at bytes.old) { direct = slice_set (slice_set (stream_at bytes.old).direct (used + 1) NO_RUN) used run; max_direct_range = pos (self.now.sizes.block_size * blocks) } }
+        ensures rest { KeepsRest bytes.old bytes.new }
+    {
+        self.sizes();
+        let range = i64::from(self.block_size) * blocks as i64;
+        Self::end_direct(bytes, used + 1);
+        let mut inode = InodeMut::over(bytes);
+        inode.set_direct(used, run);
+        inode.set_max_direct_range(range);
+    }
+
+    /// Adds a run behind the direct runs that are used, and answers how many blocks it has.
+    pub(crate) fn add_direct<E: Edits>(
+        &self,
+        bitmap: &mut Bitmap,
+        edits: &mut E,
+        bytes: &mut [u8],
+        used: usize,
+        longest: u16,
+    ) -> Result<u64, GrowFault>
+        requires size { E.size edits.old ≡ self.now.sizes.block_size }
+        requires length { length bytes.old ≡ self.now.sizes.block_size }
+        requires volume { IsOfVolume self.now.sizes bitmap.old }
+        requires room { used < 12 }
+        requires some { 1 ≤ longest }
+        ensures grown { (m : ℕ → Option (List ℕ)) → E.told edits.old ≡ Some m → Owns self.now bitmap.old [] m → bytes.old ≡ contents m self.now.id → used ≡ length (used_runs (stream_at bytes.old).direct) → IfOk result (λ n. HasGrown self.now bitmap.old bitmap.new m n (E.told edits.new) (E.changed edits.old) (E.changed edits.new)) }
+        ensures faults { (m : ℕ → Option (List ℕ)) → E.told edits.old ≡ Some m → Owns self.now bitmap.old [] m → bytes.old ≡ contents m self.now.id → used ≡ length (used_runs (stream_at bytes.old).direct) → IfErr result (IsStepFault self.now bitmap.old m) }
+        ensures most { IfOk result (λ n. n ≤ longest) }
+        ensures some { IfOk result (λ n. 1 ≤ n) }
+        ensures rest { bitmap.new ≡ record bitmap.old { low = bitmap.new.low } }
+        ensures changed { (k : ℕ) → E.changed edits.new k ≡ true → (E.changed edits.old k ≡ true) ⊎ (IsBitmapBlock bitmap.old k ⊎ (k < self.now.sizes.blocks)) }
+        ensures size { E.size edits.new ≡ E.size edits.old }
+        ensures frame { E.frame edits.new ≡ E.frame edits.old }
+        ensures later { AreLater (E.counts edits.old) (E.counts edits.new) }
+        ensures cause { IfErr result (IsGrowCause 1 (E.counts edits.old) (E.counts edits.new)) }
+    {
+        self.sizes();
+        let blocks = self.ends(bytes).direct;
+        if blocks > MOST_BLOCKS {
+            return Err(GrowFault::Block(BlockFault::Damaged { block: self.inode }));
+        }
+        let run = match self.take(bitmap, edits, 1, longest) {
+            Ok(run) => run,
+            Err(fault) => return Err(fault),
+        };
+        let len = u64::from(run.len);
+        self.put_direct(bytes, used, run, blocks + len);
+        match edits.set(self.inode, bytes) {
+            Ok(()) => Ok(len),
+            Err(_) => Err(GrowFault::Block(BlockFault::NoMemory)),
+        }
+    }
+
+    /// Writes a run at a place of an array.
+    fn put_in_array<E: Edits>(
+        &self,
+        edits: &mut E,
+        bytes: &mut [u8],
+        array: Run,
+        place: u64,
+        run: Run,
+    ) -> Result<(), BlockFault>
+        requires size { E.size edits.old ≡ self.now.sizes.block_size }
+        requires length { length bytes.old ≡ self.now.sizes.block_size }
+        requires array { IsInVolume self.now.sizes array }
+        requires inside { place < array.len * runs_per_block self.now.sizes }
+        ensures put { (m : ℕ → Option (List ℕ)) → E.told edits.old ≡ Some m → AreTold m (run_blocks self.now.sizes array) → OnOk result (HasPut self.now.sizes array place run m (E.told edits.new)) }
+        ensures length { length bytes.new ≡ self.now.sizes.block_size }
+        ensures written { (k : ℕ) → E.changed edits.new k ≡ true → (E.changed edits.old k ≡ true) ⊎ Has (run_blocks self.now.sizes array) k }
+        ensures changed { (k : ℕ) → E.changed edits.new k ≡ true → (E.changed edits.old k ≡ true) ⊎ (k < self.now.sizes.blocks) }
+        ensures size { E.size edits.new ≡ E.size edits.old }
+        ensures frame { E.frame edits.new ≡ E.frame edits.old }
+        ensures cause { IsCaused (E.counts edits.old) (E.counts edits.new) result }
+    {
+        let runs = self.runs_per_block();
+        let block = self.first_block(array) + place / runs;
+        match edits.get(block, bytes) {
+            Ok(()) => {}
+            Err(fault) => return Err(fault),
+        }
+        put_run(bytes, (8 * (place % runs)) as usize, run);
+        match edits.set(block, bytes) {
+            Ok(()) => Ok(()),
+            Err(_) => Err(BlockFault::NoMemory),
+        }
+    }
+
+    /// Ends the runs of an array before a place, where there is that place.
+    fn end_in_array<E: Edits>(
+        &self,
+        edits: &mut E,
+        bytes: &mut [u8],
+        array: Run,
+        place: u64,
+    ) -> Result<(), BlockFault>
+        requires size { E.size edits.old ≡ self.now.sizes.block_size }
+        requires length { length bytes.old ≡ self.now.sizes.block_size }
+        requires array { IsInVolume self.now.sizes array }
+        ensures put { (m : ℕ → Option (List ℕ)) → E.told edits.old ≡ Some m → AreTold m (run_blocks self.now.sizes array) → OnOk result (HasPut self.now.sizes array place NO_RUN m (E.told edits.new)) }
+        ensures length { length bytes.new ≡ self.now.sizes.block_size }
+        ensures written { (k : ℕ) → E.changed edits.new k ≡ true → (E.changed edits.old k ≡ true) ⊎ Has (run_blocks self.now.sizes array) k }
+        ensures changed { (k : ℕ) → E.changed edits.new k ≡ true → (E.changed edits.old k ≡ true) ⊎ (k < self.now.sizes.blocks) }
+        ensures size { E.size edits.new ≡ E.size edits.old }
+        ensures frame { E.frame edits.new ≡ E.frame edits.old }
+        ensures cause { IsCaused (E.counts edits.old) (E.counts edits.new) result }
+    {
+        if place < u64::from(array.len) * self.runs_per_block() {
+            return self.put_in_array(edits, bytes, array, place, NO_RUN);
+        }
+        Ok(())
+    }
+
+    /// The bytes of so many blocks.
+    fn range(&self, blocks: u64) -> i64
+        requires { blocks < 2 ^ 45 }
+        ensures { result ≡ pos (self.now.sizes.block_size * blocks) }
+    {
+        self.sizes();
+        i64::from(self.block_size) * blocks as i64
+    }
+
+    /// Writes up to which block the indirect level reaches.
+    fn put_indirect_range<E: Edits>(
+        &self,
+        edits: &mut E,
+        bytes: &mut [u8],
+        blocks: u64,
+    ) -> Result<(), BlockFault>
+        requires size { E.size edits.old ≡ self.now.sizes.block_size }
+        requires length { length bytes.old ≡ self.now.sizes.block_size }
+        requires few { blocks < 2 ^ 45 }
+        ensures put { (m : ℕ → Option (List ℕ)) → E.told edits.old ≡ Some m → IsSome (m self.now.id) → OnOk result (HasFields self.now (record (stream_at (contents m self.now.id)) { max_indirect_range = pos (self.now.sizes.block_size * blocks) }) m (E.told edits.new)) }
+        ensures length { length bytes.new ≡ self.now.sizes.block_size }
+        ensures written { (k : ℕ) → E.changed edits.new k ≡ true → (E.changed edits.old k ≡ true) ⊎ (k ≡ self.now.id) }
+        ensures changed { (k : ℕ) → E.changed edits.new k ≡ true → (E.changed edits.old k ≡ true) ⊎ (k < self.now.sizes.blocks) }
+        ensures size { E.size edits.new ≡ E.size edits.old }
+        ensures frame { E.frame edits.new ≡ E.frame edits.old }
+        ensures cause { IsCaused (E.counts edits.old) (E.counts edits.new) result }
+    {
+        self.sizes();
+        let range = self.range(blocks);
+        match edits.get(self.inode, bytes) {
+            Ok(()) => {}
+            Err(fault) => return Err(fault),
+        }
+        put_indirect_end(bytes, range);
+        match edits.set(self.inode, bytes) {
+            Ok(()) => Ok(()),
+            Err(_) => Err(BlockFault::NoMemory),
+        }
+    }
+
+    /// Adds a run behind the used ones of the indirect level's table, and answers how many blocks it has. The stream has
+    /// so many blocks before.
+    pub(crate) fn add_indirect<E: Edits>(
+        &self,
+        bitmap: &mut Bitmap,
+        edits: &mut E,
+        bytes: &mut [u8],
+        table: Table,
+        longest: u16,
+    ) -> Result<u64, GrowFault>
+        requires size { E.size edits.old ≡ self.now.sizes.block_size }
+        requires length { length bytes.old ≡ self.now.sizes.block_size }
+        requires volume { IsOfVolume self.now.sizes bitmap.old }
+        requires array { IsInVolume self.now.sizes table.array }
+        requires room { table.used < table.array.len * runs_per_block self.now.sizes }
+        requires few { table.blocks ≤ 2 ^ 44 }
+        requires few_runs { table.used < 2 ^ 45 }
+        requires some { 1 ≤ longest }
+        ensures grown { (m : ℕ → Option (List ℕ)) → E.told edits.old ≡ Some m → Owns self.now bitmap.old [] m → IsTable self.now m table → IfOk result (λ n. HasGrown self.now bitmap.old bitmap.new m n (E.told edits.new) (E.changed edits.old) (E.changed edits.new)) }
+        ensures faults { (m : ℕ → Option (List ℕ)) → E.told edits.old ≡ Some m → Owns self.now bitmap.old [] m → IsTable self.now m table → IfErr result (IsStepFault self.now bitmap.old m) }
+        ensures length { length bytes.new ≡ self.now.sizes.block_size }
+        ensures most { IfOk result (λ n. n ≤ longest) }
+        ensures some { IfOk result (λ n. 1 ≤ n) }
+        ensures rest { bitmap.new ≡ record bitmap.old { low = bitmap.new.low } }
+        ensures changed { (k : ℕ) → E.changed edits.new k ≡ true → (E.changed edits.old k ≡ true) ⊎ (IsBitmapBlock bitmap.old k ⊎ (k < self.now.sizes.blocks)) }
+        ensures size { E.size edits.new ≡ E.size edits.old }
+        ensures frame { E.frame edits.new ≡ E.frame edits.old }
+        ensures later { AreLater (E.counts edits.old) (E.counts edits.new) }
+        ensures cause { IfErr result (IsGrowCause 1 (E.counts edits.old) (E.counts edits.new)) }
+    {
+        let run = match self.take(bitmap, edits, 1, longest) {
+            Ok(run) => run,
+            Err(fault) => return Err(fault),
+        };
+        let len = u64::from(run.len);
+        match self.end_in_array(edits, bytes, table.array, table.used + 1) {
+            Ok(()) => {}
+            Err(fault) => return Err(GrowFault::Block(fault)),
+        }
+        match self.put_in_array(edits, bytes, table.array, table.used, run) {
+            Ok(()) => {}
+            Err(fault) => return Err(GrowFault::Block(fault)),
+        }
+        match self.put_indirect_range(edits, bytes, table.blocks + len) {
+            Ok(()) => Ok(len),
+            Err(fault) => Err(GrowFault::Block(fault)),
+        }
+    }
+
+    /// Writes zeros into each block of an array.
+    fn clear_array<E: Edits>(
+        &self,
+        edits: &mut E,
+        bytes: &mut [u8],
+        array: Run,
+    ) -> Result<(), AllocError>
+        requires size { E.size edits.old ≡ self.now.sizes.block_size }
+        requires length { length bytes.old ≡ self.now.sizes.block_size }
+        requires array { IsInVolume self.now.sizes array }
+        ensures cleared { (m : ℕ → Option (List ℕ)) → E.told edits.old ≡ Some m → OnOk result (HasCleared self.now.sizes array m (E.told edits.new)) }
+        ensures length { length bytes.new ≡ self.now.sizes.block_size }
+        ensures written { (k : ℕ) → E.changed edits.new k ≡ true → (E.changed edits.old k ≡ true) ⊎ Has (run_blocks self.now.sizes array) k }
+        ensures changed { (k : ℕ) → E.changed edits.new k ≡ true → (E.changed edits.old k ≡ true) ⊎ (k < self.now.sizes.blocks) }
+        ensures size { E.size edits.new ≡ E.size edits.old }
+        ensures frame { E.frame edits.new ≡ E.frame edits.old }
+        ensures counts { E.counts edits.new ≡ E.counts edits.old }
+    {
+        let first = self.first_block(array);
+        bytes.fill(0);
+        for i in 0..u64::from(array.len) {
+            match edits.set(first + i, bytes) {
+                Ok(()) => {}
+                Err(fault) => return Err(fault),
+            }
+        }
+        Ok(())
+    }
+
+    /// Writes the array of the indirect level into the inode.
+    fn put_indirect<E: Edits>(
+        &self,
+        edits: &mut E,
+        bytes: &mut [u8],
+        array: Run,
+    ) -> Result<(), BlockFault>
+        requires size { E.size edits.old ≡ self.now.sizes.block_size }
+        requires length { length bytes.old ≡ self.now.sizes.block_size }
+        ensures put { (m : ℕ → Option (List ℕ)) → E.told edits.old ≡ Some m → IsSome (m self.now.id) → OnOk result (HasFields self.now (record (stream_at (contents m self.now.id)) { indirect = array }) m (E.told edits.new)) }
+        ensures length { length bytes.new ≡ self.now.sizes.block_size }
+        ensures written { (k : ℕ) → E.changed edits.new k ≡ true → (E.changed edits.old k ≡ true) ⊎ (k ≡ self.now.id) }
+        ensures changed { (k : ℕ) → E.changed edits.new k ≡ true → (E.changed edits.old k ≡ true) ⊎ (k < self.now.sizes.blocks) }
+        ensures size { E.size edits.new ≡ E.size edits.old }
+        ensures frame { E.frame edits.new ≡ E.frame edits.old }
+        ensures cause { IsCaused (E.counts edits.old) (E.counts edits.new) result }
+    {
+        self.sizes();
+        match edits.get(self.inode, bytes) {
+            Ok(()) => {}
+            Err(fault) => return Err(fault),
+        }
+        put_indirect_run(bytes, array);
+        match edits.set(self.inode, bytes) {
+            Ok(()) => Ok(()),
+            Err(_) => Err(BlockFault::NoMemory),
+        }
+    }
+
+    /// Gives the indirect level an array that has no runs yet.
+    pub(crate) fn open_indirect<E: Edits>(
+        &self,
+        bitmap: &mut Bitmap,
+        edits: &mut E,
+        bytes: &mut [u8],
+    ) -> Result<Run, GrowFault>
+        requires size { E.size edits.old ≡ self.now.sizes.block_size }
+        requires length { length bytes.old ≡ self.now.sizes.block_size }
+        requires volume { IsOfVolume self.now.sizes bitmap.old }
+        ensures grown { (m : ℕ → Option (List ℕ)) → E.told edits.old ≡ Some m → Owns self.now bitmap.old [] m → length (used_runs (fields self.now.sizes (contents m) self.now.id).direct) ≡ 12 → (fields self.now.sizes (contents m) self.now.id).indirect.len ≡ 0 → OnOk result (HasGrown self.now bitmap.old bitmap.new m 0 (E.told edits.new) (E.changed edits.old) (E.changed edits.new)) }
+        ensures faults { (m : ℕ → Option (List ℕ)) → E.told edits.old ≡ Some m → Owns self.now bitmap.old [] m → length (used_runs (fields self.now.sizes (contents m) self.now.id).direct) ≡ 12 → (fields self.now.sizes (contents m) self.now.id).indirect.len ≡ 0 → IfErr result (IsStepFault self.now bitmap.old m) }
+        ensures ready { (m : ℕ → Option (List ℕ)) → E.told edits.old ≡ Some m → Owns self.now bitmap.old [] m → length (used_runs (fields self.now.sizes (contents m) self.now.id).direct) ≡ 12 → (fields self.now.sizes (contents m) self.now.id).indirect.len ≡ 0 → OnOk result ((n : ℕ → Option (List ℕ)) → E.told edits.new ≡ Some n → HasTable self.now n) }
+        ensures length { length bytes.new ≡ self.now.sizes.block_size }
+        ensures rest { bitmap.new ≡ record bitmap.old { low = bitmap.new.low } }
+        ensures changed { (k : ℕ) → E.changed edits.new k ≡ true → (E.changed edits.old k ≡ true) ⊎ (IsBitmapBlock bitmap.old k ⊎ (k < self.now.sizes.blocks)) }
+        ensures size { E.size edits.new ≡ E.size edits.old }
+        ensures frame { E.frame edits.new ≡ E.frame edits.old }
+        ensures later { AreLater (E.counts edits.old) (E.counts edits.new) }
+        ensures cause { IfErr result (IsGrowCause 1 (E.counts edits.old) (E.counts edits.new)) }
+    {
+        let whole = self.array_length() as u16;
+        let array = match self.take(bitmap, edits, whole, whole) {
+            Ok(array) => array,
+            Err(fault) => return Err(fault),
+        };
+        match self.clear_array(edits, bytes, array) {
+            Ok(()) => {}
+            Err(_) => return Err(GrowFault::Block(BlockFault::NoMemory)),
+        }
+        match self.put_indirect(edits, bytes, array) {
+            Ok(()) => Ok(array),
+            Err(fault) => Err(GrowFault::Block(fault)),
+        }
+    }
+}
+
+/// Writes the array of the indirect level into an inode.
+fn put_indirect_run(bytes: &mut [u8], array: Run)
+    requires { 1024 ≤ length bytes.old }
+    ensures stream { stream_at bytes.new ≡ record (stream_at bytes.old) { indirect = array } }
+    ensures rest { KeepsRest bytes.old bytes.new }
+{
+    let mut inode = InodeMut::over(bytes);
+    inode.set_indirect(array);
+}
+
+/// Writes the range of the indirect level into an inode.
+fn put_indirect_end(bytes: &mut [u8], range: i64)
+    requires { 1024 ≤ length bytes.old }
+    ensures stream { stream_at bytes.new ≡ record (stream_at bytes.old) { max_indirect_range = range } }
+    ensures rest { KeepsRest bytes.old bytes.new }
+{
+    let mut inode = InodeMut::over(bytes);
+    inode.set_max_indirect_range(range);
+}
+
+impl Stream {
+    /// Writes the array of the double indirect level into the inode.
+    fn put_double<E: Edits>(
+        &self,
+        edits: &mut E,
+        bytes: &mut [u8],
+        array: Run,
+    ) -> Result<(), BlockFault>
+        requires size { E.size edits.old ≡ self.now.sizes.block_size }
+        requires length { length bytes.old ≡ self.now.sizes.block_size }
+        ensures put { (m : ℕ → Option (List ℕ)) → E.told edits.old ≡ Some m → IsSome (m self.now.id) → OnOk result (HasFields self.now (record (stream_at (contents m self.now.id)) { double_indirect = array }) m (E.told edits.new)) }
+        ensures length { length bytes.new ≡ self.now.sizes.block_size }
+        ensures written { (k : ℕ) → E.changed edits.new k ≡ true → (E.changed edits.old k ≡ true) ⊎ (k ≡ self.now.id) }
+        ensures changed { (k : ℕ) → E.changed edits.new k ≡ true → (E.changed edits.old k ≡ true) ⊎ (k < self.now.sizes.blocks) }
+        ensures size { E.size edits.new ≡ E.size edits.old }
+        ensures frame { E.frame edits.new ≡ E.frame edits.old }
+        ensures cause { IsCaused (E.counts edits.old) (E.counts edits.new) result }
+    {
+        self.sizes();
+        match edits.get(self.inode, bytes) {
+            Ok(()) => {}
+            Err(fault) => return Err(fault),
+        }
+        put_double_run(bytes, array);
+        match edits.set(self.inode, bytes) {
+            Ok(()) => Ok(()),
+            Err(_) => Err(BlockFault::NoMemory),
+        }
+    }
+
+    /// Gives the double indirect level an array that lists no arrays yet.
+    pub(crate) fn open_double<E: Edits>(
+        &self,
+        bitmap: &mut Bitmap,
+        edits: &mut E,
+        bytes: &mut [u8],
+    ) -> Result<Run, GrowFault>
+        requires size { E.size edits.old ≡ self.now.sizes.block_size }
+        requires length { length bytes.old ≡ self.now.sizes.block_size }
+        requires volume { IsOfVolume self.now.sizes bitmap.old }
+        ensures grown { (m : ℕ → Option (List ℕ)) → E.told edits.old ≡ Some m → Owns self.now bitmap.old [] m → 0 < length (used_runs (array_runs self.now.sizes (contents m) (fields self.now.sizes (contents m) self.now.id).indirect)) → length (used_runs (array_runs self.now.sizes (contents m) (fields self.now.sizes (contents m) self.now.id).indirect)) ≡ length (array_runs self.now.sizes (contents m) (fields self.now.sizes (contents m) self.now.id).indirect) → (fields self.now.sizes (contents m) self.now.id).double_indirect.len ≡ 0 → OnOk result (HasGrown self.now bitmap.old bitmap.new m 0 (E.told edits.new) (E.changed edits.old) (E.changed edits.new)) }
+        ensures faults { (m : ℕ → Option (List ℕ)) → E.told edits.old ≡ Some m → Owns self.now bitmap.old [] m → 0 < length (used_runs (array_runs self.now.sizes (contents m) (fields self.now.sizes (contents m) self.now.id).indirect)) → length (used_runs (array_runs self.now.sizes (contents m) (fields self.now.sizes (contents m) self.now.id).indirect)) ≡ length (array_runs self.now.sizes (contents m) (fields self.now.sizes (contents m) self.now.id).indirect) → (fields self.now.sizes (contents m) self.now.id).double_indirect.len ≡ 0 → IfErr result (IsStepFault self.now bitmap.old m) }
+        ensures ready { (m : ℕ → Option (List ℕ)) → E.told edits.old ≡ Some m → Owns self.now bitmap.old [] m → 0 < length (used_runs (array_runs self.now.sizes (contents m) (fields self.now.sizes (contents m) self.now.id).indirect)) → length (used_runs (array_runs self.now.sizes (contents m) (fields self.now.sizes (contents m) self.now.id).indirect)) ≡ length (array_runs self.now.sizes (contents m) (fields self.now.sizes (contents m) self.now.id).indirect) → (fields self.now.sizes (contents m) self.now.id).double_indirect.len ≡ 0 → OnOk result ((n : ℕ → Option (List ℕ)) → E.told edits.new ≡ Some n → HasArray self.now n) }
+        ensures length { length bytes.new ≡ self.now.sizes.block_size }
+        ensures rest { bitmap.new ≡ record bitmap.old { low = bitmap.new.low } }
+        ensures changed { (k : ℕ) → E.changed edits.new k ≡ true → (E.changed edits.old k ≡ true) ⊎ (IsBitmapBlock bitmap.old k ⊎ (k < self.now.sizes.blocks)) }
+        ensures size { E.size edits.new ≡ E.size edits.old }
+        ensures frame { E.frame edits.new ≡ E.frame edits.old }
+        ensures later { AreLater (E.counts edits.old) (E.counts edits.new) }
+        ensures cause { IfErr result (IsGrowCause 1 (E.counts edits.old) (E.counts edits.new)) }
+    {
+        let whole = self.array_length() as u16;
+        let array = match self.take(bitmap, edits, whole, whole) {
+            Ok(array) => array,
+            Err(fault) => return Err(fault),
+        };
+        match self.clear_array(edits, bytes, array) {
+            Ok(()) => {}
+            Err(_) => return Err(GrowFault::Block(BlockFault::NoMemory)),
+        }
+        match self.put_double(edits, bytes, array) {
+            Ok(()) => Ok(array),
+            Err(fault) => Err(GrowFault::Block(fault)),
+        }
+    }
+}
+
+impl Stream {
+    /// Lists one more array in that of the double indirect level, which lists so many. It has no runs yet.
+    pub(crate) fn open_table<E: Edits>(
+        &self,
+        bitmap: &mut Bitmap,
+        edits: &mut E,
+        bytes: &mut [u8],
+        array: Run,
+        listed: u64,
+    ) -> Result<(), GrowFault>
+        requires size { E.size edits.old ≡ self.now.sizes.block_size }
+        requires length { length bytes.old ≡ self.now.sizes.block_size }
+        requires volume { IsOfVolume self.now.sizes bitmap.old }
+        requires array { IsInVolume self.now.sizes array }
+        requires room { listed < array.len * runs_per_block self.now.sizes }
+        requires few { listed < 2 ^ 45 }
+        ensures grown { (m : ℕ → Option (List ℕ)) → E.told edits.old ≡ Some m → Owns self.now bitmap.old [] m → array ≡ (fields self.now.sizes (contents m) self.now.id).double_indirect → listed ≡ length (used_runs (array_runs self.now.sizes (contents m) array)) → OnOk result (HasGrown self.now bitmap.old bitmap.new m 0 (E.told edits.new) (E.changed edits.old) (E.changed edits.new)) }
+        ensures faults { (m : ℕ → Option (List ℕ)) → E.told edits.old ≡ Some m → Owns self.now bitmap.old [] m → array ≡ (fields self.now.sizes (contents m) self.now.id).double_indirect → listed ≡ length (used_runs (array_runs self.now.sizes (contents m) array)) → IfErr result (IsStepFault self.now bitmap.old m) }
+        ensures ready { (m : ℕ → Option (List ℕ)) → E.told edits.old ≡ Some m → Owns self.now bitmap.old [] m → (used blocks : ℕ) → AreTables self.now m (record { array = array; listed = listed; used = used; blocks = blocks }) → OnOk result ((n : ℕ → Option (List ℕ)) → E.told edits.new ≡ Some n → AreTables self.now n (record { array = array; listed = listed + 1; used = used; blocks = blocks })) }
+        ensures length { length bytes.new ≡ self.now.sizes.block_size }
+        ensures rest { bitmap.new ≡ record bitmap.old { low = bitmap.new.low } }
+        ensures changed { (k : ℕ) → E.changed edits.new k ≡ true → (E.changed edits.old k ≡ true) ⊎ (IsBitmapBlock bitmap.old k ⊎ (k < self.now.sizes.blocks)) }
+        ensures size { E.size edits.new ≡ E.size edits.old }
+        ensures frame { E.frame edits.new ≡ E.frame edits.old }
+        ensures later { AreLater (E.counts edits.old) (E.counts edits.new) }
+        ensures cause { IfErr result (IsGrowCause 1 (E.counts edits.old) (E.counts edits.new)) }
+    {
+        let whole = self.array_length() as u16;
+        let table = match self.take(bitmap, edits, whole, whole) {
+            Ok(table) => table,
+            Err(fault) => return Err(fault),
+        };
+        match self.clear_array(edits, bytes, table) {
+            Ok(()) => {}
+            Err(_) => return Err(GrowFault::Block(BlockFault::NoMemory)),
+        }
+        match self.end_in_array(edits, bytes, array, listed + 1) {
+            Ok(()) => {}
+            Err(fault) => return Err(GrowFault::Block(fault)),
+        }
+        match self.put_in_array(edits, bytes, array, listed, table) {
+            Ok(()) => Ok(()),
+            Err(fault) => Err(GrowFault::Block(fault)),
+        }
+    }
+}
+
+impl Stream {
+    /// Writes a run at a place of the tables that an array lists.
+    fn put_below<E: Edits>(
+        &self,
+        edits: &mut E,
+        bytes: &mut [u8],
+        array: Run,
+        place: u64,
+        run: Run,
+    ) -> Result<(), BlockFault>
+        requires size { E.size edits.old ≡ self.now.sizes.block_size }
+        requires length { length bytes.old ≡ self.now.sizes.block_size }
+        requires array { IsWhole self.now.sizes array }
+        requires few { place / (array_length self.now.sizes * runs_per_block self.now.sizes) < array_length self.now.sizes * runs_per_block self.now.sizes }
+        ensures put { (m : ℕ → Option (List ℕ)) → E.told edits.old ≡ Some m → HasTables self.now.sizes array m → place < length (table_runs self.now.sizes (contents m) array) → OnOk result (HasPutBelow self.now.sizes array place run m (E.told edits.new)) }
+        ensures sound { (m : ℕ → Option (List ℕ)) → E.told edits.old ≡ Some m → HasTables self.now.sizes array m → place < length (table_runs self.now.sizes (contents m) array) → IfErr result (λ fault. ¬ IsDamage fault) }
+        ensures length { length bytes.new ≡ self.now.sizes.block_size }
+        ensures written { (m : ℕ → Option (List ℕ)) → E.told edits.old ≡ Some m → HasTables self.now.sizes array m → place < length (table_runs self.now.sizes (contents m) array) → (k : ℕ) → E.changed edits.new k ≡ true → (E.changed edits.old k ≡ true) ⊎ Has (blocks_of self.now.sizes (used_runs (array_runs self.now.sizes (contents m) array))) k }
+        ensures changed { (k : ℕ) → E.changed edits.new k ≡ true → (E.changed edits.old k ≡ true) ⊎ (k < self.now.sizes.blocks) }
+        ensures size { E.size edits.new ≡ E.size edits.old }
+        ensures frame { E.frame edits.new ≡ E.frame edits.old }
+        ensures later { AreLater (E.counts edits.old) (E.counts edits.new) }
+        ensures cause { IfErr result (IsCauseIn (E.counts edits.old) (E.counts edits.new)) }
+    {
+        let per_table = self.array_length() * self.runs_per_block();
+        let table = match self.whole_run(edits, bytes, array, place / per_table) {
+            Ok(table) => table,
+            Err(fault) => return Err(fault),
+        };
+        self.put_in_array(edits, bytes, table, place % per_table, run)
+    }
+}
+
+impl Stream {
+    /// Ends the runs of the tables that an array lists before a place, where there is that place. It lists so many.
+    fn end_below<E: Edits>(
+        &self,
+        edits: &mut E,
+        bytes: &mut [u8],
+        array: Run,
+        listed: u64,
+        place: u64,
+    ) -> Result<(), BlockFault>
+        requires size { E.size edits.old ≡ self.now.sizes.block_size }
+        requires length { length bytes.old ≡ self.now.sizes.block_size }
+        requires array { IsWhole self.now.sizes array }
+        requires few { listed ≤ array_length self.now.sizes * runs_per_block self.now.sizes }
+        ensures put { (m : ℕ → Option (List ℕ)) → E.told edits.old ≡ Some m → HasTables self.now.sizes array m → listed ≡ length (used_runs (array_runs self.now.sizes (contents m) array)) → OnOk result (HasPutBelow self.now.sizes array place NO_RUN m (E.told edits.new)) }
+        ensures sound { (m : ℕ → Option (List ℕ)) → E.told edits.old ≡ Some m → HasTables self.now.sizes array m → listed ≡ length (used_runs (array_runs self.now.sizes (contents m) array)) → IfErr result (λ fault. ¬ IsDamage fault) }
+        ensures length { length bytes.new ≡ self.now.sizes.block_size }
+        ensures written { (m : ℕ → Option (List ℕ)) → E.told edits.old ≡ Some m → HasTables self.now.sizes array m → listed ≡ length (used_runs (array_runs self.now.sizes (contents m) array)) → (k : ℕ) → E.changed edits.new k ≡ true → (E.changed edits.old k ≡ true) ⊎ Has (blocks_of self.now.sizes (used_runs (array_runs self.now.sizes (contents m) array))) k }
+        ensures changed { (k : ℕ) → E.changed edits.new k ≡ true → (E.changed edits.old k ≡ true) ⊎ (k < self.now.sizes.blocks) }
+        ensures size { E.size edits.new ≡ E.size edits.old }
+        ensures frame { E.frame edits.new ≡ E.frame edits.old }
+        ensures later { AreLater (E.counts edits.old) (E.counts edits.new) }
+        ensures cause { IfErr result (IsCauseIn (E.counts edits.old) (E.counts edits.new)) }
+    {
+        let per_table = self.array_length() * self.runs_per_block();
+        if place < listed * per_table {
+            return self.put_below(edits, bytes, array, place, NO_RUN);
+        }
+        Ok(())
+    }
+
+    /// Writes up to which block the double indirect level reaches.
+    fn put_double_range<E: Edits>(
+        &self,
+        edits: &mut E,
+        bytes: &mut [u8],
+        blocks: u64,
+    ) -> Result<(), BlockFault>
+        requires size { E.size edits.old ≡ self.now.sizes.block_size }
+        requires length { length bytes.old ≡ self.now.sizes.block_size }
+        requires few { blocks < 2 ^ 45 }
+        ensures put { (m : ℕ → Option (List ℕ)) → E.told edits.old ≡ Some m → IsSome (m self.now.id) → OnOk result (HasFields self.now (record (stream_at (contents m self.now.id)) { max_double_indirect_range = pos (self.now.sizes.block_size * blocks) }) m (E.told edits.new)) }
+        ensures length { length bytes.new ≡ self.now.sizes.block_size }
+        ensures written { (k : ℕ) → E.changed edits.new k ≡ true → (E.changed edits.old k ≡ true) ⊎ (k ≡ self.now.id) }
+        ensures changed { (k : ℕ) → E.changed edits.new k ≡ true → (E.changed edits.old k ≡ true) ⊎ (k < self.now.sizes.blocks) }
+        ensures size { E.size edits.new ≡ E.size edits.old }
+        ensures frame { E.frame edits.new ≡ E.frame edits.old }
+        ensures cause { IsCaused (E.counts edits.old) (E.counts edits.new) result }
+    {
+        self.sizes();
+        let range = self.range(blocks);
+        match edits.get(self.inode, bytes) {
+            Ok(()) => {}
+            Err(fault) => return Err(fault),
+        }
+        put_double_end(bytes, range);
+        match edits.set(self.inode, bytes) {
+            Ok(()) => Ok(()),
+            Err(_) => Err(BlockFault::NoMemory),
+        }
+    }
+
+    /// Adds a run behind the used ones of the double indirect level's tables, and answers how many blocks it has.
+    pub(crate) fn add_double<E: Edits>(
+        &self,
+        bitmap: &mut Bitmap,
+        edits: &mut E,
+        bytes: &mut [u8],
+        tables: Tables,
+    ) -> Result<u64, GrowFault>
+        requires size { E.size edits.old ≡ self.now.sizes.block_size }
+        requires length { length bytes.old ≡ self.now.sizes.block_size }
+        requires volume { IsOfVolume self.now.sizes bitmap.old }
+        requires array { IsWhole self.now.sizes tables.array }
+        requires listed { tables.listed ≤ array_length self.now.sizes * runs_per_block self.now.sizes }
+        requires room { tables.used < tables.listed * (array_length self.now.sizes * runs_per_block self.now.sizes) }
+        requires few { tables.blocks ≤ 2 ^ 44 }
+        requires few_runs { tables.used < 2 ^ 45 }
+        ensures grown { (m : ℕ → Option (List ℕ)) → E.told edits.old ≡ Some m → Owns self.now bitmap.old [] m → AreTables self.now m tables → IfOk result (λ n. HasGrown self.now bitmap.old bitmap.new m n (E.told edits.new) (E.changed edits.old) (E.changed edits.new)) }
+        ensures uses { (m : ℕ → Option (List ℕ)) → E.told edits.old ≡ Some m → Owns self.now bitmap.old [] m → AreTables self.now m tables → OnOk result ((n : ℕ → Option (List ℕ)) → E.told edits.new ≡ Some n → UsesDouble self.now n) }
+        ensures faults { (m : ℕ → Option (List ℕ)) → E.told edits.old ≡ Some m → Owns self.now bitmap.old [] m → AreTables self.now m tables → IfErr result (IsStepFault self.now bitmap.old m) }
+        ensures length { length bytes.new ≡ self.now.sizes.block_size }
+        ensures most { IfOk result (λ n. n ≤ array_length self.now.sizes) }
+        ensures some { IfOk result (λ n. 1 ≤ n) }
+        ensures rest { bitmap.new ≡ record bitmap.old { low = bitmap.new.low } }
+        ensures changed { (k : ℕ) → E.changed edits.new k ≡ true → (E.changed edits.old k ≡ true) ⊎ (IsBitmapBlock bitmap.old k ⊎ (k < self.now.sizes.blocks)) }
+        ensures size { E.size edits.new ≡ E.size edits.old }
+        ensures frame { E.frame edits.new ≡ E.frame edits.old }
+        ensures later { AreLater (E.counts edits.old) (E.counts edits.new) }
+        ensures cause { IfErr result (IsGrowCause 1 (E.counts edits.old) (E.counts edits.new)) }
+    {
+        let whole = self.array_length() as u16;
+        let run = match self.take(bitmap, edits, whole, whole) {
+            Ok(run) => run,
+            Err(fault) => return Err(fault),
+        };
+        let len = u64::from(run.len);
+        match self.end_below(edits, bytes, tables.array, tables.listed, tables.used + 1) {
+            Ok(()) => {}
+            Err(fault) => return Err(GrowFault::Block(fault)),
+        }
+        match self.put_below(edits, bytes, tables.array, tables.used, run) {
+            Ok(()) => {}
+            Err(fault) => return Err(GrowFault::Block(fault)),
+        }
+        match self.put_double_range(edits, bytes, tables.blocks + len) {
+            Ok(()) => Ok(len),
+            Err(fault) => Err(GrowFault::Block(fault)),
+        }
+    }
+}
+
+/// Writes the range of the double indirect level into an inode.
+fn put_double_end(bytes: &mut [u8], range: i64)
+    requires { 1024 ≤ length bytes.old }
+    ensures stream { stream_at bytes.new ≡ record (stream_at bytes.old) { max_double_indirect_range = range } }
+    ensures rest { KeepsRest bytes.old bytes.new }
+{
+    let mut inode = InodeMut::over(bytes);
+    inode.set_max_double_indirect_range(range);
+}
+
+/// Writes the array of the double indirect level into an inode.
+fn put_double_run(bytes: &mut [u8], array: Run)
+    requires { 1024 ≤ length bytes.old }
+    ensures stream { stream_at bytes.new ≡ record (stream_at bytes.old) { double_indirect = array } }
+    ensures rest { KeepsRest bytes.old bytes.new }
+{
+    let mut inode = InodeMut::over(bytes);
+    inode.set_double_indirect(array);
+}

@@ -26,7 +26,7 @@ use Rattle.bfs_device.proofs.Right.{Reading, one_of, at, reading}
 
 -- ---- blocks that a write doesn't name
 
-joined_same : (n : ℕ) (f g : ℕ → List ℕ) → ((j : ℕ) → j < n → f j ≡ g j) → joined n f ≡ joined n g
+pub joined_same : (n : ℕ) (f g : ℕ → List ℕ) → ((j : ℕ) → j < n → f j ≡ g j) → joined n f ≡ joined n g
 joined_same zero f g same = refl
 joined_same (suc n) f g same = ap (λ (x : List ℕ). x ++ joined n (λ j. f (suc j))) (same 0 (omega arith)) ∙ ap (λ (xs : List ℕ). g 0 ++ xs) (joined_same n (λ j. f (suc j)) (λ j. g (suc j)) (λ j lt. same (suc j) (omega arith)))
 
@@ -36,7 +36,7 @@ block_others r a b j bytes long other lt =
     (λ ge. names_after (r * a) (r * b + j) bytes (let le : r * (a + 1) ≤ r * b = mul-le-mul_left r (let l : a + 1 ≤ b = omega (arith, ge, other) in l) in omega (arith, le, long)))
     (cases_lt b a)
 
-super_others : (r b j : ℕ) (bytes : List ℕ) → 2 ≤ r → 1 ≤ b → length bytes ≡ 512 → names 1 bytes (r * b + j) ≡ false
+pub super_others : (r b j : ℕ) (bytes : List ℕ) → 2 ≤ r → 1 ≤ b → length bytes ≡ 512 → names 1 bytes (r * b + j) ≡ false
 super_others r b j bytes two pos long = names_after 1 (r * b + j) bytes (let le : r * 1 ≤ r * b = mul-le-mul_left r pos in omega (arith, long, two, le))
 
 pub half_others : (st new : State) (at r b : ℕ) (bytes : List ℕ) → IsHalfWritten st at bytes new → ((j : ℕ) → j < r → names at bytes (r * b + j) ≡ false) → contents_of new r b ≡ contents_of st r b

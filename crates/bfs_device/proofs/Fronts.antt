@@ -9,6 +9,7 @@ use Rattle.bfs_device.specs.declared.journal.Phase.{Phase}
 use Rattle.bfs_device.specs.declared.journal.Phase.TheVariants.{TailSafe}
 use Rattle.bfs_device.specs.Layouts.{Layout, layout_of, closed_of}
 use Rattle.bfs_device.specs.Phases.{none}
+use Rattle.bfs_device.specs.Orders.{AllAscend}
 use Rattle.bfs_device.specs.Books.{IsNext, Follow, IsPhaseOf, IsPhaseFor, Ready, waiting, is_durable}
 use Rattle.bfs_device.specs.Steps.{front_phase, first_phase}
 use Rattle.bfs_device.proofs.Going.{closed_valid}
@@ -39,9 +40,9 @@ front_waiting (g ∷ gs) = ap (λ (b : Bool). cond b gs (g ∷ gs)) (not_durable
 
 -- the first group has left the log
 pub left_ready : (j new : Journal) (g : Group) (gs : List Group) → Ready j → j.groups.items ≡ g ∷ gs → j.phase ≡ TailSafe
-    → new.sup ≡ closed_of j.sup g → new.groups.items ≡ gs → new.phase ≡ front_phase gs → new.left ≡ g.last → vec_capacity new.groups ≡ vec_capacity j.groups → new.marks ≡ j.marks → new.spare ≡ j.spare → new.buffer ≡ j.buffer
+    → new.sup ≡ closed_of j.sup g → new.ordered ≡ j.ordered → new.groups.items ≡ gs → new.phase ≡ front_phase gs → new.left ≡ g.last → vec_capacity new.groups ≡ vec_capacity j.groups → new.marks ≡ j.marks → new.spare ≡ j.spare → new.buffer ≡ j.buffer
     → Ready new
-left_ready j new g gs ready groups phase sup items next left room marks spare buffer =
+left_ready j new g gs ready groups phase sup ordered items next left room marks spare buffer =
     let follow : Follow (layout_of j.sup) j.sup.block_size j.left (natural j.sup.used_blocks) (g ∷ gs) = subst (Follow (layout_of j.sup) j.sup.block_size j.left (natural j.sup.used_blocks)) groups ready.follow in
     let same : j.sup.log_start ≡ j.sup.log_end = ready.empty in
     let valid : IsValid (closed_of j.sup g) = closed_valid j.sup g (λ _. []) none ready.valid follow.0.sealed (ap natural same) in
@@ -52,6 +53,7 @@ left_ready j new g gs ready groups phase sup items next left room marks spare bu
           (subst (λ (n : ℕ). Follow (layout_of j.sup) j.sup.block_size n g.used new.groups.items) (sym left)
           (subst (Follow (layout_of j.sup) j.sup.block_size g.last g.used) (sym items) follow.1));
       phase = subst (λ (xs : List Group). IsPhaseFor xs new.phase) (sym items) (subst (IsPhaseFor gs) (sym next) (front_for gs));
+      ordered = λ is. subst AllAscend (sym items) (subst AllAscend groups (ready.ordered (sym ordered ∙ is))).1;
       few = let long = ap length groups in let now = ap length items in omega (arith, ready.few, long, now);
       room = omega (arith, ready.room, room);
       marks =

@@ -1,3 +1,5 @@
+pub mod Maps
+pub mod Ordered
 pub mod Homes
 pub mod Entries
 pub mod Sizes
@@ -11,3 +13,4 @@ pub mod Stepping
 pub mod Telling
 pub mod Sealing
 pub mod Reading
+pub mod Keeping

@@ -26,7 +26,7 @@ use Rattle.bfs_device.specs.Layouts.{Layout, IsData, layout_of, homes_in, ring_c
 use Rattle.bfs_device.specs.Versions.{upto}
 use Rattle.bfs_device.specs.Phases.{IsHomeOf, none, Keeps, Plain, Rests, Stands}
 use Rattle.bfs_device.specs.Books.{Books, Follow, IsPhaseOf, IsSealed, IsOnDisk, IsRight, IsRightAs, RecoversOne, version, sealed_of, last_in}
-use Rattle.bfs_device.specs.Data.{newest_in, AreRead, touching, AreSameBut, AllAscend}
+use Rattle.bfs_device.specs.Data.{newest_in, AreRead, touching, AreSameBut}
 use Rattle.bfs_device.specs.Steps.{halted}
 use Rattle.bfs_device.proofs.Homes.{over_same, over_out, over_joined, home_of}
 use Rattle.bfs_device.proofs.Sizes.{good, sizes, fits_sectors, from_low}
@@ -270,10 +270,6 @@ pub read_moments : {T E : Type 0} (b : Books) → Known b → (size : Option ℕ
     → (result : Result T E) (before now : ℕ) (past since : ℕ → List ℕ → Type 0) → Elapses told result before now past since (MayLeave told) → Passed before now past since (λ c. Tells told (λ s. RecoversOne b t s c))
 read_moments b know size on t told law right result before now past since time =
     passed_one _ time (λ c left. (right.0, right.1, now_right b know size on t told law right c left))
-
-pub all_ascend : (l : Layout) (size left used : ℕ) (gs : List Group) → Follow l size left used gs → AllAscend gs
-all_ascend l size left used [] follow = tt
-all_ascend l size left used (g ∷ gs) follow = (follow.0.sealed.once, all_ascend l size g.last g.used gs follow.1)
 
 -- more is touched
 more_touched : (b : Books) (t : ℕ → Bool) (st : State) (k : ℕ) (image : List ℕ) → RecoversOne b t st image → RecoversOne b (touching k t) st image

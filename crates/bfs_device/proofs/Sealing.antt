@@ -16,6 +16,9 @@ use Rattle.bfs_txn.specs.declared.group.Group.{Group}
 use Rattle.bfs_device.specs.declared.journal.Journal.{Journal}
 use Rattle.bfs_device.specs.declared.journal.Phase.{Phase}
 use Rattle.bfs_device.specs.declared.journal.Stop.{Stop}
+use Rattle.bfs_txn.specs.Changed.{Ascends}
+use Rattle.bfs_device.specs.Orders.{AllAscend}
+use Rattle.bfs_device.proofs.Ordered.{ascend_more}
 use Rattle.bfs_device.specs.Layouts.{Layout, IsData, layout_of, homes_in}
 use Rattle.bfs_device.specs.Versions.{upto, used_upto}
 use Rattle.bfs_device.specs.Phases.{none, Plain, Rests, Stands}
@@ -56,9 +59,9 @@ waiting_more (x ∷ gs) g p = either (is_durable p)
     either false = omega (arith, length-more gs g)
 
 pub sealed_ready : (j new : Journal) (g : Group) → Ready j → length j.groups.items < 16 → 1 ≤ j.spare → IsNext (layout_of j.sup) j.sup.block_size (last_in j.left j.groups.items) (used_behind (natural j.sup.used_blocks) j.groups.items) g
-    → new.sup ≡ j.sup → new.groups.items ≡ j.groups.items ++ g ∷ [] → new.phase ≡ phase_with g j.groups.items j.phase → new.left ≡ j.left → vec_capacity j.groups ≤ vec_capacity new.groups → new.marks ≡ j.marks → new.spare ≡ j.spare - 1 → new.buffer ≡ j.buffer
+    → new.sup ≡ j.sup → (new.ordered ≡ true → (j.ordered ≡ true) × Ascends g.blocks) → new.groups.items ≡ j.groups.items ++ g ∷ [] → new.phase ≡ phase_with g j.groups.items j.phase → new.left ≡ j.left → vec_capacity j.groups ≤ vec_capacity new.groups → new.marks ≡ j.marks → new.spare ≡ j.spare - 1 → new.buffer ≡ j.buffer
     → Ready new
-sealed_ready j new g ready may some next sup items phase left room marks spare buffer =
+sealed_ready j new g ready may some next sup ordered items phase left room marks spare buffer =
     record {
       valid = subst IsValid (sym sup) ready.valid;
       empty = subst (λ (s : Super). s.log_start ≡ s.log_end) (sym sup) ready.empty;
@@ -66,6 +69,7 @@ sealed_ready j new g ready may some next sup items phase left room marks spare b
           (subst (λ (n : ℕ). Follow (layout_of j.sup) j.sup.block_size n (natural j.sup.used_blocks) new.groups.items) (sym left)
           (subst (Follow (layout_of j.sup) j.sup.block_size j.left (natural j.sup.used_blocks)) (sym items) (follow_more (layout_of j.sup) j.sup.block_size j.left (natural j.sup.used_blocks) j.groups.items g ready.follow next)));
       phase = subst (λ (xs : List Group). IsPhaseFor xs new.phase) (sym items) (subst (IsPhaseFor (j.groups.items ++ g ∷ [])) (sym phase) (phase_more j.groups.items g j.phase ready.phase));
+      ordered = λ is. subst AllAscend (sym items) (ascend_more j.groups.items g (ready.ordered (ordered is).0) (ordered is).1);
       few = let now = ap length items in omega (arith, may, now, length-more j.groups.items g);
       room = omega (arith, ready.room, room);
       marks =
@@ -214,3 +218,19 @@ adopted_rests s st image valid filled sized holds is =
     let known = known_quiet st r image holds.quiet holds.reads some in
     let plain : (b : ℕ) (c : List ℕ) → c ≡ block r b image → Plain (layout_of s) none (contents_of st r) b c = λ b c e d. inr (e ∙ sym (known.reads b (contents_of st r b) d.0 (fits b d) (contents_read st r b filled (fits b d)))) in
     known_less _ _ _ _ known (λ c e. ap super_at e ∙ is) (λ c e. ap super_at e ∙ is) plain plain
+
+-- ---- what the next group follows
+
+end_more : (left : ℕ) (gs : List Group) (g : Group) → last_in left (gs ++ g ∷ []) ≡ g.last
+end_more left [] g = refl
+end_more left (x ∷ gs) g = end_more x.last gs g
+
+used_more : (used : ℕ) (gs : List Group) (g : Group) → used_behind used (gs ++ g ∷ []) ≡ g.used
+used_more used [] g = refl
+used_more used (x ∷ gs) g = used_more x.used gs g
+
+pub sealed_last : (b : Books) (g : Group) → sealed_of (sealed_with b g) ≡ g.last
+sealed_last b g = end_more b.left b.groups g
+
+pub sealed_used : (b : Books) (g : Group) → last_used (sealed_with b g) ≡ g.used
+sealed_used b g = used_more (natural b.sup.used_blocks) b.groups g

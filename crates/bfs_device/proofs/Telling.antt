@@ -6,7 +6,7 @@ use Rattle.bfs_log.specs.Replay.{log_from}
 use Rattle.bfs_txn.specs.declared.group.Group.{Group}
 use Rattle.bfs_device.specs.declared.journal.Phase.{Phase}
 use Rattle.bfs_device.specs.declared.journal.Phase.TheVariants.{Log, LogSafe, Open, OpenSafe, Home as GoHome, HomeSafe, Tail, TailSafe, Pass}
-use Rattle.bfs_device.specs.Layouts.{layout_of, slot, ring_count}
+use Rattle.bfs_device.specs.Layouts.{IsSameVolume, layout_of, slot, ring_count}
 use Rattle.bfs_device.specs.Books.{Books, IsPhaseOf, is_durable, IsVersion, used_of}
 use Rattle.bfs_device.specs.Steps.{PrintsBack, ReadFront, told_front, stepped, after_phase, next_phase, front_phase, progress_to, progress_in, calls_left, calls_in, calls_from, calls_of, counted as counted_to}
 use Rattle.bfs_device.specs.Told.{HasCalled, HasMarked, HasCounted}
@@ -79,16 +79,16 @@ module _ (b : Books) (g : Group) (gs : List Group) (know : (let c : Books = reco
   counted_in TailSafe fits = omega (arith, front_calls gs)
   counted_in Pass fits = omega (arith, front_calls gs)
 
-  same_layout_in : (p : Phase) → layout_of (after_phase g gs (at p) p).sup ≡ layout_of b.sup
-  same_layout_in (Log i) = refl
-  same_layout_in LogSafe = refl
-  same_layout_in Open = refl
-  same_layout_in OpenSafe = refl
-  same_layout_in (GoHome i) = refl
-  same_layout_in HomeSafe = refl
-  same_layout_in Tail = refl
-  same_layout_in TailSafe = refl
-  same_layout_in Pass = refl
+  same_volume_in : (p : Phase) → IsSameVolume b.sup (after_phase g gs (at p) p).sup
+  same_volume_in (Log i) = record { layout = refl; block_size = refl }
+  same_volume_in LogSafe = record { layout = refl; block_size = refl }
+  same_volume_in Open = record { layout = refl; block_size = refl }
+  same_volume_in OpenSafe = record { layout = refl; block_size = refl }
+  same_volume_in (GoHome i) = record { layout = refl; block_size = refl }
+  same_volume_in HomeSafe = record { layout = refl; block_size = refl }
+  same_volume_in Tail = record { layout = refl; block_size = refl }
+  same_volume_in TailSafe = record { layout = refl; block_size = refl }
+  same_volume_in Pass = record { layout = refl; block_size = refl }
 
   moment_in : (p : Phase) → (after_phase g gs (at p) p).moment ≡ counted_to b.moment
   moment_in (Log i) = refl
@@ -121,9 +121,9 @@ counted : (b : Books) (groups : List Group) → (let c : Books = record b { grou
 counted b [] know = (refl, refl)
 counted b (g ∷ gs) know = counted_in b g gs know b.phase know.phase
 
-same_layout : (b : Books) (groups : List Group) → (let c : Books = record b { groups = groups } in Known c) → (let c : Books = record b { groups = groups } in layout_of (stepped c).sup ≡ layout_of b.sup)
-same_layout b [] know = refl
-same_layout b (g ∷ gs) know = same_layout_in b g gs know b.phase
+same_volume : (b : Books) (groups : List Group) → (let c : Books = record b { groups = groups } in Known c) → (let c : Books = record b { groups = groups } in IsSameVolume b.sup (stepped c).sup)
+same_volume b [] know = record { layout = refl; block_size = refl }
+same_volume b (g ∷ gs) know = same_volume_in b g gs know b.phase
 
 pub step_called : (b : Books) → Known b → ReadFront b.sup b.groups b.phase → (old new : Option State) → new ≡ told_front b.sup b.groups b.phase old → HasCalled (layout_of b.sup) old new (progress_to b.groups b.phase)
 step_called b know read old new is = called b b.groups know read old new is
@@ -134,8 +134,8 @@ step_marked b know = marked b b.groups know
 pub step_counted : (b : Books) → Known b → HasCounted (calls_left b) (calls_left (stepped b)) (progress_to b.groups b.phase)
 step_counted b know = counted b b.groups know
 
-pub step_layout : (b : Books) → Known b → layout_of (stepped b).sup ≡ layout_of b.sup
-step_layout b know = same_layout b b.groups know
+pub step_volume : (b : Books) → Known b → IsSameVolume b.sup (stepped b).sup
+step_volume b know = same_volume b b.groups know
 
 used_kept : (b : Books) (groups : List Group) → (let c : Books = record b { groups = groups } in Known c) → (let c : Books = record b { groups = groups } in (n : ℕ) → IsVersion (stepped c) n → used_of (stepped c) n ≡ used_of c n)
 used_kept b [] know n is = refl

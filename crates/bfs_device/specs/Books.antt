@@ -6,7 +6,7 @@ use Rattle.bfs_disk.specs.Blocks.{contents_of}
 use Rattle.bfs_super.specs.declared.sup.Super.{Super}
 use Rattle.bfs_super.specs.Conditions.{natural, IsValid}
 use Rattle.bfs_log.specs.Replay.{over}
-use Rattle.bfs_txn.specs.Changed.{Ascends, AreOfSize, number_at}
+use Rattle.bfs_txn.specs.Changed.{AreOfSize, number_at}
 use Rattle.bfs_txn.specs.declared.group.Group.{Group}
 use Rattle.bfs_device.specs.declared.journal.Journal.{Journal}
 use Rattle.bfs_device.specs.declared.journal.Mark.{Mark}
@@ -16,6 +16,7 @@ use Rattle.bfs_device.specs.declared.journal.Phase.TheVariants.{Log, LogSafe, Op
 use Rattle.bfs_device.specs.Layouts.{Layout, layout_of, IsData, ring_count}
 use Rattle.bfs_device.specs.Versions.{upto, used_upto, RecoversTo}
 use Rattle.bfs_device.specs.Phases.{Rests, Stands}
+use Rattle.bfs_device.specs.Orders.{IsOnce, AllAscend}
 
 -- is the first group durable before the call of this phase?
 abbrev pub is_durable : Phase → Bool
@@ -94,7 +95,7 @@ pub record RecoversOne (b : Books) (touched : ℕ → Bool) (state : State) (ima
 -- a group that may be sealed on such a volume
 pub record IsSealed (l : Layout) (size : ℕ) (g : Group) : Type 0 where
   pub order : g.first ≤ g.last
-  pub once : Ascends g.blocks
+  pub once : IsOnce g.blocks
   pub sized : AreOfSize size g.blocks
   pub places : (i : ℕ) → i < length g.blocks → IsData l (number_at g.blocks i)
   pub used : g.used ≤ l.blocks
@@ -133,6 +134,7 @@ pub record Ready (j : Journal) : Type 0 where
   pub empty : j.sup.log_start ≡ j.sup.log_end
   pub follow : Follow (layout_of j.sup) j.sup.block_size j.left (natural j.sup.used_blocks) j.groups.items
   pub phase : IsPhaseFor j.groups.items j.phase
+  pub ordered : j.ordered ≡ true → AllAscend j.groups.items
   pub few : length j.groups.items ≤ 16
   pub room : 16 ≤ vec_capacity j.groups
   pub marks : length j.marks.items + length (waiting j.groups.items j.phase) + j.spare ≤ vec_capacity j.marks

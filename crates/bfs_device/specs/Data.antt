@@ -3,7 +3,7 @@ use Rattle.std.specs.Prelude.{◌≡◌, ◌≢◌, ℕ, ◌==◌, ◌||◌, Lis
 use Rattle.bfs_base.specs.Counts.{Rose}
 use Rattle.bfs_disk.specs.State.{State}
 use Rattle.bfs_disk.specs.Blocks.{contents_of}
-use Rattle.bfs_txn.specs.Changed.{or_else, newest, Ascends}
+use Rattle.bfs_txn.specs.Changed.{or_else, newest}
 use Rattle.bfs_txn.specs.declared.group.Group.{Group}
 use Rattle.bfs_device.specs.declared.journal.DeviceFault.{DeviceFault}
 use Rattle.bfs_device.specs.declared.journal.DeviceFault.TheVariants.{Disk, Stopped}
@@ -16,14 +16,13 @@ abbrev pub newest_in : List Group → ℕ → Option (List ℕ)
 newest_in [] k = None
 newest_in (g ∷ gs) k = or_else (newest_in gs k) (newest g.blocks k)
 
--- in each group each block is there once, in order
-abbrev pub AllAscend : List Group → Type 0
-AllAscend [] = Unit {0}
-AllAscend (g ∷ gs) = Ascends g.blocks × AllAscend gs
-
 -- a call was made, and nothing else has changed
 abbrev pub moved_on : Books → Books
 moved_on b = record b { moment = counted b.moment }
+
+-- the books are as before, but for the count of calls
+abbrev pub IsRested : Books → Books → Type 0
+IsRested old new = new ≡ record old { moment = new.moment }
 
 -- the bytes are those that the disk reads at this block
 abbrev pub AreRead : Option State → ℕ → ℕ → List ℕ → Type 0

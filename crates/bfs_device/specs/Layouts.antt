@@ -1,5 +1,5 @@
 -- How a group of changed blocks stands in the ring of the log.
-use Rattle.std.specs.Prelude.{◌⊎◌, ◌<◌, ◌≤◌, ℕ, pos, ◌+◌, ◌-◌, ◌*◌, ◌/◌, ◌%◌, ◌==◌, List, length, take, drop, map, if◌then◌else◌}
+use Rattle.std.specs.Prelude.{◌≡◌, ◌⊎◌, ◌<◌, ◌≤◌, ℕ, pos, ◌+◌, ◌-◌, ◌*◌, ◌/◌, ◌%◌, ◌==◌, List, length, take, drop, map, if◌then◌else◌}
 use Rattle.std.specs.Int.{w32, cast_signed}
 use Rattle.bfs_super.specs.declared.sup.Super.{Super}
 use Rattle.bfs_super.specs.Conditions.{natural, ceil}
@@ -26,6 +26,11 @@ pub record IsGood (l : Layout) : Type 0 where
 
 abbrev pub layout_of : Super → Layout
 layout_of s = record { sectors = block_sectors s; blocks = natural s.num_blocks; first = log_first (geometry_of s); len = s.log_blocks.len }
+
+-- the superblocks are of one volume, with its blocks where they were
+pub record IsSameVolume (old new : Super) : Type 0 where
+  pub layout : layout_of new ≡ layout_of old
+  pub block_size : new.block_size ≡ old.block_size
 
 -- a block of the volume that is neither block 0 nor one of the log
 abbrev pub IsData : Layout → ℕ → Type 0

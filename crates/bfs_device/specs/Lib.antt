@@ -2,8 +2,10 @@ pub mod Layouts
 pub mod Versions
 pub mod Calls
 pub mod Phases
+pub mod Orders
 pub mod Books
 pub mod Steps
 pub mod Seals
 pub mod Told
 pub mod Data
+pub mod Kept

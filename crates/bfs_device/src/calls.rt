@@ -15,6 +15,7 @@ ghost use Rattle.bfs_device.specs.Layouts.{IsGood, IsData, layout_of, slot, ring
 ghost use Rattle.bfs_device.specs.Calls.{Call, Write, Barrier, told_after, IsFailed, LeftDuring, HasTwo};
 ghost use Rattle.bfs_device.specs.Books.{IsOnDisk, IsSealed, IsPhaseOf};
 ghost use Rattle.bfs_device.specs.Steps.{call_of, ReadsBack, PrintsBack};
+ghost use Rattle.bfs_device.specs.Kept.{written_in};
 
 use crate::journal::Phase;
 use bfs_disk::{Disk, Failed};
@@ -194,6 +195,21 @@ fn write_log<D: Disk>(
             place,
             group.blocks.bytes(126 * entry + (inside - 1)),
         )
+    }
+}
+
+//// The block that the disk call of a phase writes.
+pub fn written_block(sup: &Super, group: &Group, phase: Phase) -> Option<u64>
+    requires valid { IsValid sup.now }
+    requires sealed { IsSealed (layout_of sup.now) sup.now.block_size group.now }
+    requires phase { IsPhaseOf group.now.blocks phase }
+    ensures { result ≡ written_in sup.now group.now phase }
+{
+    match phase {
+        Phase::Log(at) => Some(log_place(sup, at)),
+        Phase::Home(at) => Some(group.blocks.block(at)),
+        Phase::Open | Phase::Tail => Some(0),
+        Phase::LogSafe | Phase::OpenSafe | Phase::HomeSafe | Phase::TailSafe | Phase::Pass => None,
     }
 }
 

@@ -1,5 +1,5 @@
 // Reads and writes of single blocks beside the groups.
-ghost use Rattle.std.specs.Prelude.{◌≡◌, ◌⊎◌, ◌≤◌, ◌<◌, ◌+◌, ◌*◌, ◌/◌, ◌^◌, ℕ, List, [], length, Bool, OnOk, OnErr, IfOk, IfErr, IfSome, IsSome, MatchOption, Option, Some, None};
+ghost use Rattle.std.specs.Prelude.{◌≡◌, ◌⊎◌, ◌≤◌, ◌<◌, ◌+◌, ◌*◌, ◌/◌, ◌^◌, ℕ, List, [], length, Bool, OnOk, OnErr, IfOk, IfErr, IfSome, IsSome, IsTrue, MatchOption, Option, Some, None};
 ghost use Rattle.bfs_base.specs.Counts.{HasCause, Rose};
 ghost use Rattle.bfs_base.specs.Moments.{Elapses, Passed};
 ghost use Rattle.bfs_disk.specs.State.{State, Tells};
@@ -8,10 +8,14 @@ ghost use Rattle.bfs_super.specs.Conditions.{IsValid};
 ghost use Rattle.bfs_device.specs.Layouts.{IsData, layout_of};
 ghost use Rattle.bfs_device.specs.Books.{Ready, IsOnDisk, IsRight, RecoversOne, Books, books_of, version, sealed_of};
 ghost use Rattle.bfs_device.specs.Steps.{IsStepFault, HasMoved};
-ghost use Rattle.bfs_device.specs.Data.{newest_in, moved_on, AllAscend, AreRead, IsReadFault, touching, AreSameBut};
+ghost use Rattle.bfs_device.specs.Data.{newest_in, moved_on, IsRested, AreRead, IsReadFault, touching, AreSameBut};
+ghost use Rattle.bfs_device.specs.Kept.{AreKept, ReadsBut, kept_by};
+ghost use Rattle.bfs_device.specs.Orders.{AllAscend};
 
 use crate::calls::write_block;
 use crate::journal::{DeviceFault, Journal};
+use crate::look_up::find_in;
+use crate::read_blocks::ReadBlocks;
 use crate::step::{halt, stopped};
 use bfs_disk::{Disk, Failed};
 use bfs_super::Super;
@@ -35,15 +39,15 @@ fn read_block<D: Disk>(disk: &mut D, sup: &Super, place: u64, into: &mut [u8]) -
 }
 
 // The bytes of the newest group that has a block.
-fn newest_bytes(groups: &[Group], block: u64) -> Option<&[u8]>
-    requires { AllAscend groups.now }
+fn newest_bytes(groups: &[Group], block: u64, ordered: bool) -> Option<&[u8]>
+    requires { IsTrue ordered → AllAscend groups.now }
     ensures { MatchOption result (newest_in groups.now block ≡ None) (λ r. newest_in groups.now block ≡ Some r.now) }
 {
     match groups {
         [] => None,
-        [group, rest @ ..] => match newest_bytes(rest, block) {
+        [group, rest @ ..] => match newest_bytes(rest, block, ordered) {
             Some(bytes) => Some(bytes),
-            None => group.blocks.find(block),
+            None => find_in(&group.blocks, block, ordered),
         },
     }
 }
@@ -60,7 +64,8 @@ pub fn read_data<D: Disk>(
     requires place { block < (layout_of journal.old.sup).blocks }
     requires long { length into.old ≡ journal.old.sup.block_size }
     ensures ready { Ready journal.new }
-    ensures layout { layout_of journal.new.sup ≡ layout_of journal.old.sup }
+    ensures rests { IsRested (books_of journal.old) (books_of journal.new) }
+    ensures sup { journal.new.sup ≡ journal.old.sup }
     ensures size { D.size disk.new ≡ D.size disk.old }
     ensures ok { OnOk result ((journal.old.stop ≡ None) × (books_of journal.new ≡ moved_on (books_of journal.old))) }
     ensures bytes { OnOk result (AreRead (D.state disk.old) (layout_of journal.old.sup).sectors block into.new) }
@@ -102,10 +107,11 @@ pub fn write_data<D: Disk>(
     requires apart { newest_in journal.old.groups.items block ≡ None }
     requires long { length from.now ≡ journal.old.sup.block_size }
     ensures ready { Ready journal.new }
-    ensures layout { layout_of journal.new.sup ≡ layout_of journal.old.sup }
+    ensures sup { journal.new.sup ≡ journal.old.sup }
     ensures size { D.size disk.new ≡ D.size disk.old }
     ensures ok { OnOk result ((journal.old.stop ≡ None) × (books_of journal.new ≡ moved_on (books_of journal.old))) }
     ensures call { OnOk result (D.state disk.new ≡ told_written (D.state disk.old) ((layout_of journal.old.sup).sectors * block) from.now) }
+    ensures others { ReadsBut (Some block) (layout_of journal.old.sup).sectors (D.state disk.old) (D.state disk.new) }
     ensures fault { IfErr result (IsStepFault (books_of journal.old) (books_of journal.new) (D.faults disk.old) (D.faults disk.new) (D.stops disk.old) (D.stops disk.new)) }
     ensures unmoved { IsSome journal.old.stop → disk.new ≡ disk.old }
     ensures faults { D.faults disk.old ≤ D.faults disk.new }
@@ -131,21 +137,70 @@ pub fn write_data<D: Disk>(
     }
 }
 
-/// Reads a block as the groups leave it.
-pub fn read_newest<D: Disk>(
+// Reads a block that no group has: from those that are kept, else from the disk, and keeps it then.
+fn read_kept<D: Disk>(
     disk: &mut D,
     journal: &mut Journal,
+    kept: &mut ReadBlocks,
     block: u64,
     into: &mut [u8],
 ) -> Result<(), DeviceFault>
     requires ready { Ready journal.old }
     requires on_disk { IsOnDisk (D.size disk.old) journal.old.sup }
+    requires kept { AreKept (D.state disk.old) (layout_of journal.old.sup).sectors (kept_by kept.old) }
+    requires going { journal.old.stop ≡ None }
     requires place { block < (layout_of journal.old.sup).blocks }
     requires long { length into.old ≡ journal.old.sup.block_size }
     ensures ready { Ready journal.new }
-    ensures layout { layout_of journal.new.sup ≡ layout_of journal.old.sup }
+    ensures rests { IsRested (books_of journal.old) (books_of journal.new) }
+    ensures sup { journal.new.sup ≡ journal.old.sup }
     ensures size { D.size disk.new ≡ D.size disk.old }
-    ensures ok { OnOk result ((journal.old.stop ≡ None) × ((books_of journal.new ≡ books_of journal.old) ⊎ (books_of journal.new ≡ moved_on (books_of journal.old)))) }
+    ensures kept { AreKept (D.state disk.old) (layout_of journal.old.sup).sectors (kept_by kept.new) }
+    ensures ok { OnOk result (((books_of journal.new ≡ books_of journal.old) × (disk.new ≡ disk.old)) ⊎ (books_of journal.new ≡ moved_on (books_of journal.old))) }
+    ensures bytes { OnOk result (AreRead (D.state disk.old) (layout_of journal.old.sup).sectors block into.new) }
+    ensures fault { IfErr result (IsReadFault (books_of journal.old) (books_of journal.new) (D.faults disk.old) (D.faults disk.new)) }
+    ensures state { D.state disk.new ≡ D.state disk.old }
+    ensures faults { D.faults disk.old ≤ D.faults disk.new }
+    ensures stops { D.stops disk.new ≡ D.stops disk.old }
+    ensures moved { HasMoved (D.clock disk.old) journal.old.moment (D.clock disk.new) journal.new.moment }
+    ensures right { (t : ℕ → Bool) (s : State) → IsRight (books_of journal.old) t s → IsRight (books_of journal.new) t s }
+    ensures moments { (t : ℕ → Bool) → Tells (D.state disk.old) (IsRight (books_of journal.old) t)
+        → Passed (D.clock disk.old) (D.clock disk.new) (D.since disk.old) (D.since disk.new) (λ c. Tells (D.state disk.old) (λ s. RecoversOne (books_of journal.old) t s c)) }
+{
+    match kept.find(block) {
+        Some(bytes) => {
+            into.copy_from_slice(bytes);
+            Ok(())
+        }
+        None => match read_data(disk, journal, block, into) {
+            Ok(()) => {
+                kept.put(block, into);
+                Ok(())
+            }
+            Err(fault) => Err(fault),
+        },
+    }
+}
+
+/// Reads a block as the groups leave it.
+pub fn read_newest<D: Disk>(
+    disk: &mut D,
+    journal: &mut Journal,
+    kept: &mut ReadBlocks,
+    block: u64,
+    into: &mut [u8],
+) -> Result<(), DeviceFault>
+    requires ready { Ready journal.old }
+    requires on_disk { IsOnDisk (D.size disk.old) journal.old.sup }
+    requires kept { AreKept (D.state disk.old) (layout_of journal.old.sup).sectors (kept_by kept.old) }
+    requires place { block < (layout_of journal.old.sup).blocks }
+    requires long { length into.old ≡ journal.old.sup.block_size }
+    ensures ready { Ready journal.new }
+    ensures rests { IsRested (books_of journal.old) (books_of journal.new) }
+    ensures sup { journal.new.sup ≡ journal.old.sup }
+    ensures size { D.size disk.new ≡ D.size disk.old }
+    ensures kept { AreKept (D.state disk.old) (layout_of journal.old.sup).sectors (kept_by kept.new) }
+    ensures ok { OnOk result ((journal.old.stop ≡ None) × (((books_of journal.new ≡ books_of journal.old) × (disk.new ≡ disk.old)) ⊎ (books_of journal.new ≡ moved_on (books_of journal.old)))) }
     ensures sealed { OnOk result (IfSome (newest_in journal.old.groups.items block) (λ bytes. (into.new ≡ bytes) × (disk.new ≡ disk.old))) }
     ensures bytes { OnOk result (IfSome (D.state disk.old) (λ s. into.new ≡ version (books_of journal.old) s (sealed_of (books_of journal.old)) block)) }
     ensures fault { IfErr result (IsReadFault (books_of journal.old) (books_of journal.new) (D.faults disk.old) (D.faults disk.new)) }
@@ -161,11 +216,11 @@ pub fn read_newest<D: Disk>(
     if let Some(stop) = journal.stop {
         return Err(stopped(stop));
     }
-    match newest_bytes(&journal.groups, block) {
+    match newest_bytes(&journal.groups, block, journal.ordered) {
         Some(bytes) => {
             into.copy_from_slice(bytes);
             Ok(())
         }
-        None => read_data(disk, journal, block, into),
+        None => read_kept(disk, journal, kept, block, into),
     }
 }

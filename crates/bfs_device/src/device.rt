@@ -6,16 +6,19 @@ ghost use Rattle.bfs_disk.specs.State.{State, Tells, Holds};
 ghost use Rattle.bfs_disk.specs.Disk.{MayLeave, told_written};
 ghost use Rattle.bfs_super.specs.Conditions.{IsValid};
 ghost use Rattle.bfs_log.specs.Replay.{super_of, over};
-ghost use Rattle.bfs_device.specs.Layouts.{IsData, layout_of, homes_in};
+ghost use Rattle.bfs_device.specs.Layouts.{IsData, IsSameVolume, layout_of, homes_in};
 ghost use Rattle.bfs_device.specs.Phases.{none};
-ghost use Rattle.bfs_device.specs.Books.{IsNext, IsOnDisk, IsRight, IsVersion, RecoversOne, AreSame, Books, View, durable_of, sealed_of, version, used_of};
+ghost use Rattle.bfs_device.specs.Books.{IsNext, IsOnDisk, IsRight, Ready, IsVersion, RecoversOne, AreSame, Books, View, durable_of, sealed_of, version, used_of};
 ghost use Rattle.bfs_device.specs.Steps.{told_front, still_touched, stepped, progress_to, calls_left, IsStepFault, IsUnmoved, HasMoved};
 ghost use Rattle.bfs_device.specs.Told.{HasCalled, HasMarked, HasCounted};
-ghost use Rattle.bfs_device.specs.Data.{newest_in, moved_on, AreRead, IsReadFault, touching, AreSameBut};
+ghost use Rattle.bfs_device.specs.Data.{newest_in, moved_on, IsRested, AreRead, IsReadFault, touching, AreSameBut};
 ghost use Rattle.bfs_device.specs.Seals.{adopted, with_room, sealed_with, last_used, calls_of_group};
+ghost use Rattle.bfs_device.specs.Kept.{KeptBut, kept_by, written_front};
 
+use crate::calls::written_block;
 use crate::data::{read_data, read_newest, write_data};
 use crate::journal::{DeviceFault, Journal, Mark, Phase, Progress};
+use crate::read_blocks::ReadBlocks;
 use crate::step::step_of;
 use crate::turn::{durable_number, take};
 use bfs_disk::Disk;
@@ -30,16 +33,33 @@ use std::marker::Model;
 pub struct Device<D: Disk> {
     disk: D,
     journal: Journal,
+    kept: ReadBlocks,
 }
 
 impl<D: Disk> Model for Device<D> {
     ghost use Rattle.bfs_device.specs.Books.{View, Ready, IsOnDisk, books_of};
+    ghost use Rattle.bfs_device.specs.Kept.{AreKept, kept_by};
+    ghost use Rattle.bfs_device.specs.Layouts.{layout_of};
 
     ghost Value = { View D };
 
     ghost view = { λ d. record { disk = d.disk; books = books_of d.journal } };
 
-    ghost invariant = { λ d. Ready d.journal × IsOnDisk (D.size d.disk) d.journal.sup };
+    ghost invariant = { λ d. Ready d.journal × IsOnDisk (D.size d.disk) d.journal.sup × AreKept (D.state d.disk) (layout_of d.journal.sup).sectors (kept_by d.kept) };
+}
+
+// Takes the block that the next disk call writes out of those that are kept.
+fn forget_next(journal: &Journal, kept: &mut ReadBlocks)
+    requires { Ready journal.now }
+    ensures { KeptBut (written_front journal.now.sup journal.now.groups.items journal.now.phase) (kept_by kept.old) (kept_by kept.new) }
+{
+    match journal.groups.as_slice() {
+        [] => {}
+        [group, ..] => match written_block(&journal.sup, group, journal.phase) {
+            Some(block) => kept.forget(block),
+            None => {}
+        },
+    }
 }
 
 impl<D: Disk> Device<D> {
@@ -65,6 +85,7 @@ impl<D: Disk> Device<D> {
         let journal = Journal {
             sup,
             groups,
+            ordered: true,
             phase: Phase::Pass,
             left: 0,
             marks,
@@ -73,7 +94,12 @@ impl<D: Disk> Device<D> {
             stop: None,
             buffer,
         };
-        Ok(Device { disk, journal })
+        let kept = ReadBlocks::new(alloc);
+        Ok(Device {
+            disk,
+            journal,
+            kept,
+        })
     }
 
     /// Whether one group more may wait.
@@ -111,6 +137,8 @@ impl<D: Disk> Device<D> {
         ensures newest { (s : State) (k : ℕ) → version self.new.books s group.last k ≡ over (homes_in group.blocks) (version self.old.books s (sealed_of self.old.books)) k }
         ensures older_used { (n : ℕ) → IsVersion self.old.books n → used_of self.new.books n ≡ used_of self.old.books n }
         ensures newest_used { used_of self.new.books group.last ≡ group.used }
+        ensures sealed { sealed_of self.new.books ≡ group.last }
+        ensures last_used { last_used self.new.books ≡ group.used }
         ensures calls { calls_left self.new.books ≤ calls_left self.old.books + calls_of_group (length group.blocks) }
     {
         take(&mut self.journal, group);
@@ -119,6 +147,7 @@ impl<D: Disk> Device<D> {
     /// Makes the next disk call of the first group, and tells what it did. Takes no memory.
     pub fn step(&mut self) -> Result<Progress, DeviceFault>
         ensures size { D.size self.new.disk ≡ D.size self.old.disk }
+        ensures volume { IsSameVolume self.old.books.sup self.new.books.sup }
         ensures ok { IfOk result (λ p. (self.old.books.stop ≡ None) × (p ≡ progress_to self.old.books.groups self.old.books.phase) × (self.new.books ≡ stepped self.old.books)) }
         ensures call { OnOk result (D.state self.new.disk ≡ told_front self.old.books.sup self.old.books.groups self.old.books.phase (D.state self.old.disk)) }
         // The answer tells the disk call, the mark that is stored and the call that is no longer left; Idle comes where no group is.
@@ -140,16 +169,20 @@ impl<D: Disk> Device<D> {
         ensures moments { (t : ℕ → Bool) → Tells (D.state self.old.disk) (IsRight self.old.books t)
             → Passed (D.clock self.old.disk) (D.clock self.new.disk) (D.since self.old.disk) (D.since self.new.disk) (λ c. Tells (D.state self.old.disk) (λ s. RecoversOne self.old.books t s c)) }
     {
+        forget_next(&self.journal, &mut self.kept);
         step_of(&mut self.disk, &mut self.journal)
     }
 
-    /// Reads a block with its newest bytes: those of the newest sealed group that has it, which takes no disk call, else the
-    /// disk's. The slice has a block's length. A read that fails leaves the device usable.
+    /// Reads a block with its newest bytes: those of the newest sealed group that has it, else those that an earlier read kept,
+    /// else the disk's, which are kept then where memory is found for them. Only the last takes a disk call. The slice has a
+    /// block's length. A read that fails leaves the device usable.
     pub fn block(&mut self, block: u64, into: &mut [u8]) -> Result<(), DeviceFault>
         requires below { block < (layout_of self.old.books.sup).blocks }
         requires long { length into.old ≡ self.old.books.sup.block_size }
+        ensures rests { IsRested self.old.books self.new.books }
+        ensures sup { self.new.books.sup ≡ self.old.books.sup }
         ensures size { D.size self.new.disk ≡ D.size self.old.disk }
-        ensures ok { OnOk result ((self.old.books.stop ≡ None) × ((self.new.books ≡ self.old.books) ⊎ (self.new.books ≡ moved_on self.old.books))) }
+        ensures ok { OnOk result ((self.old.books.stop ≡ None) × (((self.new.books ≡ self.old.books) × (self.new.disk ≡ self.old.disk)) ⊎ (self.new.books ≡ moved_on self.old.books))) }
         ensures sealed { OnOk result (IfSome (newest_in self.old.books.groups block) (λ bytes. (into.new ≡ bytes) × (self.new.disk ≡ self.old.disk))) }
         ensures bytes { OnOk result (IfSome (D.state self.old.disk) (λ s. into.new ≡ version self.old.books s (sealed_of self.old.books) block)) }
         ensures fault { IfErr result (IsReadFault self.old.books self.new.books (D.faults self.old.disk) (D.faults self.new.disk)) }
@@ -162,13 +195,21 @@ impl<D: Disk> Device<D> {
         ensures moments { (t : ℕ → Bool) → Tells (D.state self.old.disk) (IsRight self.old.books t)
             → Passed (D.clock self.old.disk) (D.clock self.new.disk) (D.since self.old.disk) (D.since self.new.disk) (λ c. Tells (D.state self.old.disk) (λ s. RecoversOne self.old.books t s c)) }
     {
-        read_newest(&mut self.disk, &mut self.journal, block, into)
+        read_newest(
+            &mut self.disk,
+            &mut self.journal,
+            &mut self.kept,
+            block,
+            into,
+        )
     }
 
     /// Reads a block as the disk has it, in one disk call. The slice has a block's length. Takes no memory.
     pub fn data_read(&mut self, block: u64, into: &mut [u8]) -> Result<(), DeviceFault>
         requires below { block < (layout_of self.old.books.sup).blocks }
         requires long { length into.old ≡ self.old.books.sup.block_size }
+        ensures rests { IsRested self.old.books self.new.books }
+        ensures sup { self.new.books.sup ≡ self.old.books.sup }
         ensures size { D.size self.new.disk ≡ D.size self.old.disk }
         ensures ok { OnOk result ((self.old.books.stop ≡ None) × (self.new.books ≡ moved_on self.old.books)) }
         ensures bytes { OnOk result (AreRead (D.state self.old.disk) (layout_of self.old.books.sup).sectors block into.new) }
@@ -190,6 +231,7 @@ impl<D: Disk> Device<D> {
         requires place { IsData (layout_of self.old.books.sup) block }
         requires apart { newest_in self.old.books.groups block ≡ None }
         requires long { length from.now ≡ self.old.books.sup.block_size }
+        ensures sup { self.new.books.sup ≡ self.old.books.sup }
         ensures size { D.size self.new.disk ≡ D.size self.old.disk }
         ensures ok { OnOk result ((self.old.books.stop ≡ None) × (self.new.books ≡ moved_on self.old.books)) }
         ensures call { OnOk result (D.state self.new.disk ≡ told_written (D.state self.old.disk) ((layout_of self.old.books.sup).sectors * block) from.now) }
@@ -205,6 +247,7 @@ impl<D: Disk> Device<D> {
         ensures moments { (t : ℕ → Bool) → Tells (D.state self.old.disk) (IsRight self.old.books t)
             → Passed (D.clock self.old.disk) (D.clock self.new.disk) (D.since self.old.disk) (D.since self.new.disk) (λ c. Tells (D.state self.old.disk) (λ s. RecoversOne self.old.books (touching block t) s c)) }
     {
+        self.kept.forget(block);
         write_data(&mut self.disk, &mut self.journal, block, from)
     }
 
@@ -242,7 +285,11 @@ impl<D: Disk> Device<D> {
     pub fn into_disk(self) -> D
         ensures { result ≡ self.disk }
     {
-        let Device { disk, journal: _ } = self;
+        let Device {
+            disk,
+            journal: _,
+            kept: _,
+        } = self;
         disk
     }
 }

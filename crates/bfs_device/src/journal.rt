@@ -64,11 +64,12 @@ pub enum Phase {
     Pass,
 }
 
-/// What a device keeps.
+/// What a device keeps. It is `ordered` where the blocks of each group are known to ascend.
 #[derive(Drop)]
 pub struct Journal {
     pub sup: Super,
     pub groups: Vec<Group>,
+    pub ordered: bool,
     pub phase: Phase,
     pub left: u64,
     pub marks: Vec<Mark>,

@@ -8,6 +8,8 @@ mod calls;
 mod data;
 mod device;
 mod journal;
+mod look_up;
+mod read_blocks;
 mod step;
 mod turn;
 

@@ -4,10 +4,11 @@ ghost use Rattle.bfs_base.specs.Counts.{HasCause, Rose};
 ghost use Rattle.bfs_base.specs.Moments.{Elapses, Passed};
 ghost use Rattle.bfs_disk.specs.State.{State, Tells};
 ghost use Rattle.bfs_disk.specs.Disk.{MayLeave};
-ghost use Rattle.bfs_device.specs.Layouts.{IsData, layout_of};
+ghost use Rattle.bfs_device.specs.Layouts.{IsSameVolume, layout_of};
 ghost use Rattle.bfs_device.specs.Books.{Ready, IsOnDisk, IsRight, IsVersion, RecoversOne, AreSame, Books, books_of, durable_of, version, used_of};
 ghost use Rattle.bfs_device.specs.Steps.{told_front, FailedFront, LeftFront, ReadFront, still_touched, halted, stepped, progress_to, IsStepFault, IsUnmoved, HasMoved, calls_left};
 ghost use Rattle.bfs_device.specs.Told.{HasCalled, HasMarked, HasCounted};
+ghost use Rattle.bfs_device.specs.Kept.{written_front, ReadsBut};
 
 use crate::calls::perform;
 use crate::journal::{DeviceFault, Journal, Progress, Stop};
@@ -77,10 +78,11 @@ pub fn step_of<D: Disk>(disk: &mut D, journal: &mut Journal) -> Result<Progress,
     ensures size { D.size disk.new ≡ D.size disk.old }
     ensures ok { IfOk result (λ p. (journal.old.stop ≡ None) × (p ≡ progress_to journal.old.groups.items journal.old.phase) × (books_of journal.new ≡ stepped (books_of journal.old))) }
     ensures call { OnOk result (D.state disk.new ≡ told_front journal.old.sup journal.old.groups.items journal.old.phase (D.state disk.old)) }
-    ensures layout { layout_of journal.new.sup ≡ layout_of journal.old.sup }
+    ensures volume { IsSameVolume journal.old.sup journal.new.sup }
     ensures called { IfOk result (HasCalled (layout_of journal.old.sup) (D.state disk.old) (D.state disk.new)) }
     ensures marked { IfOk result (HasMarked (books_of journal.old) (books_of journal.new)) }
     ensures counted { IfOk result (HasCounted (calls_left (books_of journal.old)) (calls_left (books_of journal.new))) }
+    ensures others { ReadsBut (written_front journal.old.sup journal.old.groups.items journal.old.phase) (layout_of journal.old.sup).sectors (D.state disk.old) (D.state disk.new) }
     ensures fault { IfErr result (IsStepFault (books_of journal.old) (books_of journal.new) (D.faults disk.old) (D.faults disk.new) (D.stops disk.old) (D.stops disk.new)) }
     ensures unmoved { IsUnmoved (books_of journal.old) → disk.new ≡ disk.old }
     ensures faults { D.faults disk.old ≤ D.faults disk.new }

@@ -1,11 +1,12 @@
 // Devices over disks in memory. Each volume is made here by hand, and what a crash leaves is replayed by hand.
-ghost use Rattle.std.specs.Prelude.{◌≡◌, ◌≤◌, ◌<◌, ◌+◌, ◌*◌, ◌/◌, ◌%◌, [], ℕ, length, IsTrue, IfOk, IfSome, OnOk, Some, None};
+ghost use Rattle.std.specs.Prelude.{◌≡◌, ◌≤◌, ◌<◌, ◌+◌, ◌*◌, ◌/◌, ◌%◌, ◌^◌, [], ℕ, length, IsTrue, IfOk, IfSome, IsSome, OnOk, Some, None, if◌then◌else◌};
 ghost use Rattle.bfs_disk.specs.State.{state_of};
 ghost use Rattle.bfs_super.specs.Conditions.{natural, IsValid};
 ghost use Rattle.bfs_txn.specs.Changed.{Ascends, AreOfSize, number_at};
-ghost use Rattle.bfs_device.specs.Layouts.{IsData, layout_of, ring_count};
-ghost use Rattle.bfs_device.specs.Books.{IsNext, IsOnDisk};
-ghost use Rattle.bfs_device.specs.Seals.{adopted};
+ghost use Rattle.bfs_device.specs.Layouts.{IsData, IsSameVolume, layout_of, ring_count};
+ghost use Rattle.bfs_device.specs.Data.{IsRested};
+ghost use Rattle.bfs_device.specs.Books.{IsNext, IsOnDisk, sealed_of};
+ghost use Rattle.bfs_device.specs.Seals.{adopted, last_used};
 
 use crate::calls::log_blocks;
 use crate::{Device, DeviceFault, Mark, Progress};
@@ -96,6 +97,7 @@ fn are_data(sup: &Super, blocks: &Changed) -> bool
 }
 
 // May this group be sealed behind the entry of this number?
+#[tactic(auto, using(crate::proofs::Ordered::once_of))]
 fn is_next(sup: &Super, left: u64, used: u64, group: &Group) -> bool
     requires valid { IsValid sup.now }
     requires ascends { Ascends group.now.blocks }
@@ -288,7 +290,9 @@ fn seen(image: &[u8], size: usize) -> [usize; 4] {
 }
 
 // Makes so many steps. Tells whether each was made.
-fn step_on<D: Disk>(device: &mut Device<D>, steps: usize) -> bool {
+fn step_on<D: Disk>(device: &mut Device<D>, steps: usize) -> bool
+    ensures { IsSameVolume device.old.books.sup device.new.books.sup }
+{
     for _ in 0..steps {
         if device.step().is_err() {
             return false;
@@ -492,6 +496,217 @@ fn a_group_of_130_blocks_takes_two_array_blocks(rt: HostRuntime) -> Result<(), F
         }
         assert_eq!(rt; (word(&image, 608), word(&image, 616)), (start, end));
     }
+    Ok(())
+}
+
+fn has_empty_log(sup: Super) -> bool
+    ensures { IsTrue result → sup.log_start ≡ sup.log_end }
+{
+    sup.log_start == sup.log_end
+}
+
+// A device over this disk with the volume of the tests, and its superblock.
+fn opened_on<D: Disk + Drop>(alloc: Global, mut disk: D) -> Option<(Super, Device<D>)>
+    ensures books { IfSome result (λ p. p.1.books ≡ adopted p.0) }
+    ensures valid { IfSome result (λ p. IsValid p.0) }
+    ensures size { IfSome result (λ p. p.0.block_size ≡ 1024) }
+    ensures place { IfSome result (λ p. IsData (layout_of p.0) 16) }
+    ensures below { IfSome result (λ p. 16 < (layout_of p.0).blocks) }
+{
+    let Ok(sup) = Super::parse(&fields(10, 32, 12, 10).print()) else {
+        return None;
+    };
+    let Ok(sectors) = disk.sectors() else {
+        return None;
+    };
+    let needed = u64::from(sup.block_size / 512).checked_mul(sup.geometry().blocks)?;
+    if !has_empty_log(sup) {
+        return None;
+    }
+    if sectors < needed || sup.block_size != 1024 || !is_data(&sup, 16) {
+        return None;
+    }
+    match Device::adopt(alloc, disk, sup) {
+        Ok(device) => Some((sup, device)),
+        Err(_) => None,
+    }
+}
+
+// The first byte of a block.
+fn first_of<D: Disk>(device: &mut Device<D>, block: u64, into: &mut [u8]) -> Option<u8>
+    requires below { block < (layout_of device.old.books.sup).blocks }
+    requires long { length into.old ≡ device.old.books.sup.block_size }
+    ensures rests { IsRested device.old.books device.new.books }
+    ensures sup { device.new.books.sup ≡ device.old.books.sup }
+    ensures long { length into.new ≡ length into.old }
+{
+    match device.block(block, into) {
+        Ok(()) => into.first().copied(),
+        Err(_) => None,
+    }
+}
+
+// The first bytes of block 16, which is read, read again, and written between two reads more. One read by the disk may fail.
+fn read_twice<D: Disk>(
+    device: &mut Device<D>,
+    from: &[u8; 1024],
+    into: &mut [u8; 1024],
+) -> Option<[u8; 4]>
+    requires place { IsData (layout_of device.old.books.sup) 16 }
+    requires size { device.old.books.sup.block_size ≡ 1024 }
+    requires none { device.old.books.groups ≡ [] }
+{
+    let first = first_of(device, 16, into)?;
+    let again = first_of(device, 16, into)?;
+    let _ = device.data_read(16, into);
+    let kept = first_of(device, 16, into)?;
+    let Ok(()) = device.data_write(16, from) else {
+        return None;
+    };
+    let written = first_of(device, 16, into)?;
+    Some([first, again, kept, written])
+}
+
+#[test]
+fn a_block_that_was_read_takes_no_disk_call_again(rt: HostRuntime) -> Result<(), Fail> {
+    let alloc = rt.alloc();
+    // The calls: the sectors, the first read, the read by the disk, the write, and the read behind it.
+    for (call, want) in [
+        (0, Some([0, 0, 0, 7])),
+        (2, None),
+        (3, Some([0, 0, 0, 7])),
+        (4, None),
+        (5, None),
+        (6, Some([0, 0, 0, 7])),
+    ] {
+        let (_, mut device) = opened_on(alloc, failing(alloc, call)?).ok_or("no device")?;
+        let mut into = [1; 1024];
+        assert_eq!(rt;
+            read_twice(&mut device, &[7; 1024], &mut into),
+            want,
+            "{call}"
+        );
+    }
+    Ok(())
+}
+
+// The first bytes of block 16: before its group is sealed, from the group, and twice once it is home.
+fn read_around<D: Disk>(
+    device: &mut Device<D>,
+    sup: &Super,
+    group: Group,
+    into: &mut [u8; 1024],
+) -> Option<[u8; 4]>
+    requires books { device.old.books ≡ adopted sup.now }
+    requires valid { IsValid sup.now }
+    requires size { sup.now.block_size ≡ 1024 }
+    requires below { 16 < (layout_of sup.now).blocks }
+    requires ascends { Ascends group.blocks }
+    requires sized { AreOfSize 1024 group.blocks }
+{
+    if !is_next(sup, 0, sup.geometry().used, &group) {
+        return None;
+    }
+    let before = first_of(device, 16, into)?;
+    device.seal(group);
+    let sealed = first_of(device, 16, into)?;
+    if !step_on(device, 11) {
+        return None;
+    }
+    let home = first_of(device, 16, into)?;
+    let again = first_of(device, 16, into)?;
+    Some([before, sealed, home, again])
+}
+
+#[test]
+fn a_block_that_came_home_is_read_anew(rt: HostRuntime) -> Result<(), Fail> {
+    let alloc = rt.alloc();
+    // The calls: the sectors, the first read, eleven steps, and one read behind them.
+    for (call, want) in [
+        (0, Some([0, 1, 1, 1])),
+        (14, None),
+        (15, Some([0, 1, 1, 1])),
+    ] {
+        let (sup, mut device) = opened_on(alloc, failing(alloc, call)?).ok_or("no device")?;
+        let group = group_of(alloc, [1, 2, 22], &[16, 17], 1024, 1)?;
+        let mut into = [9; 1024];
+        assert_eq!(rt;
+            read_around(&mut device, &sup, group, &mut into),
+            want,
+            "{call}"
+        );
+    }
+    Ok(())
+}
+
+// Seals a group of one entry without blocks, where one may be sealed.
+fn seal_empty<D: Disk>(alloc: Global, device: &mut Device<D>, number: u64, used: u64) -> bool
+    requires next { number ≡ sealed_of device.old.books + 1 }
+    requires used { last_used device.old.books ≡ used }
+    requires low { used ≤ (layout_of device.old.books.sup).blocks }
+    requires ring { 0 < (layout_of device.old.books.sup).len }
+    ensures sup { device.new.books.sup ≡ device.old.books.sup }
+    ensures used { last_used device.new.books ≡ used }
+    ensures sealed { sealed_of device.new.books ≡ (if result then number else sealed_of device.old.books) }
+{
+    if !device.may_seal() {
+        return false;
+    }
+    let Ok(()) = device.room() else {
+        return false;
+    };
+    device.seal(Group {
+        first: number,
+        last: number,
+        used,
+        blocks: Changed::new(alloc),
+    });
+    true
+}
+
+// Tries to seal twenty groups without blocks. Tells how many were sealed.
+fn seal_twenty<D: Disk>(alloc: Global, device: &mut Device<D>, used: u64) -> u64
+    requires first { sealed_of device.old.books ≡ 0 }
+    requires used { last_used device.old.books ≡ used }
+    requires low { used ≤ (layout_of device.old.books.sup).blocks }
+    requires ring { 0 < (layout_of device.old.books.sup).len }
+{
+    let mut count = 0;
+    for i in 0..20u64 {
+        if seal_empty(alloc, device, count + 1, used) {
+            count += 1;
+        }
+    }
+    count
+}
+
+// How many of twenty groups may wait, whether one more may, what the first step tells, and whether one more may then.
+fn waiting<D: Disk>(
+    alloc: Global,
+    device: &mut Device<D>,
+    sup: &Super,
+) -> Option<(u64, bool, Progress, bool)>
+    requires books { device.old.books ≡ adopted sup.now }
+    requires valid { IsValid sup.now }
+{
+    let geometry = sup.geometry();
+    if geometry.used > geometry.blocks || sup.log_blocks.len == 0 {
+        return None;
+    }
+    let count = seal_twenty(alloc, device, geometry.used);
+    let full = device.may_seal();
+    match device.step() {
+        Ok(progress) => Some((count, full, progress, device.may_seal())),
+        Err(_) => None,
+    }
+}
+
+#[test]
+fn sixteen_groups_may_wait(rt: HostRuntime) -> Result<(), Fail> {
+    let alloc = rt.alloc();
+    let (sup, mut device) = opened_on(alloc, failing(alloc, 0)?).ok_or("no device")?;
+    let want = Some((16, false, Progress::Durable(1), true));
+    assert_eq!(rt; waiting(alloc, &mut device, &sup), want);
     Ok(())
 }
 

@@ -1,5 +1,6 @@
 // What a device keeps once its disk call has succeeded.
-ghost use Rattle.std.specs.Prelude.{◌≡◌, ◌≤◌, ◌<◌, ◌+◌, ◌-◌, ◌*◌, ◌++◌, ◌∷◌, [], ℕ, List, length, drop};
+ghost use Rattle.std.specs.Prelude.{◌≡◌, ◌≤◌, ◌<◌, ◌+◌, ◌-◌, ◌*◌, ◌++◌, ◌∷◌, [], ℕ, List, length, drop, IsTrue, true};
+ghost use Rattle.bfs_txn.specs.Changed.{Ascends};
 ghost use Rattle.std.specs.Vec.{vec_capacity};
 ghost use Rattle.bfs_super.specs.Conditions.{IsValid};
 ghost use Rattle.bfs_device.specs.Layouts.{layout_of};
@@ -9,6 +10,7 @@ ghost use Rattle.bfs_device.specs.Steps.{progress_in, next_phase, first_phase, f
 
 use crate::calls::{closed, log_blocks};
 use crate::journal::{Journal, Mark, Phase, Progress};
+use crate::look_up::does_ascend;
 use bfs_txn::Group;
 
 // What a group's phase is told as.
@@ -82,6 +84,13 @@ fn phase_behind(journal: &Journal, group: &Group) -> Phase
     }
 }
 
+// Are the blocks of each group known to ascend once this one is behind the others?
+fn are_ordered(journal: &Journal, group: &Group) -> bool
+    ensures { IsTrue result → (journal.now.ordered ≡ true) × Ascends group.now.blocks }
+{
+    journal.ordered && does_ascend(&group.blocks)
+}
+
 /// Takes a group behind the others.
 pub fn take(journal: &mut Journal, group: Group)
     requires ready { Ready journal.old }
@@ -92,6 +101,7 @@ pub fn take(journal: &mut Journal, group: Group)
     ensures books { books_of journal.new ≡ sealed_with (books_of journal.old) group }
 {
     journal.phase = phase_behind(journal, &group);
+    journal.ordered = are_ordered(journal, &group);
     journal.spare -= 1;
     // There is room: it was made when the disk was adopted.
     let _ = journal.groups.push(group);

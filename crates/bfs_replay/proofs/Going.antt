@@ -1,5 +1,5 @@
 -- A walk over the log that writes the homes of each entry.
-use Rattle.std.proofs.Common.{◌≡◌, ◌≢◌, ℕ, ◌+◌, ◌<◌, List, [], ◌∷◌, ◌++◌, length, take, refl, sym, ◌∙◌, ap, subst, arith, append_assoc}
+use Rattle.std.proofs.Common.{◌≡◌, ◌≢◌, ℕ, ◌+◌, ◌<◌, List, [], ◌∷◌, ◌++◌, length, take, refl, sym, ◌∙◌, ap, subst, arith, append_assoc, Bool}
 use Rattle.std.specs.Prelude.{Option, Some}
 use Rattle.std.specs.Option.{IfSome}
 use Rattle.std.proofs.lemmas.List.{append-nil}
@@ -24,7 +24,7 @@ use Rattle.bfs_replay.specs.Steps.{AreRead, HasEntriesIn, IsFaultAt, place_at, s
 use Rattle.bfs_replay.specs.declared.log.Halt.{Halt}
 use Rattle.bfs_replay.specs.declared.log.Halt.TheVariants.{Failed, Malformed}
 use Rattle.bfs_replay.proofs.Sizes.{fits_sectors, log_inside}
-use Rattle.bfs_replay.proofs.Homes.{homing_block, not_home, told_size, told_filled, told_read}
+use Rattle.bfs_replay.proofs.Homes.{homing_block, not_home, told_size, told_read}
 use Rattle.bfs_replay.proofs.Further.{has_left, has_right}
 use Rattle.bfs_replay.proofs.Walking.{length-homes_from, named_is}
 
@@ -58,7 +58,7 @@ next_ahead f s at (homes ∷ rest) more logs = record { homes = homes; rest = re
 
 -- ---- the walk
 
-pub between_start : (image : List ℕ) (s : Super) (at : ℕ) (told : Option State) (log : HasEntriesIn image s) → at ≡ log_from s → Tells told (Homing (block_sectors s) (homes_of log.0) [] image) → Between image s log.0 at told
+pub between_start : {quiet : Bool} (image : List ℕ) (s : Super) (at : ℕ) (told : Option State) (log : HasEntriesIn image s) → at ≡ log_from s → Tells told (Homing quiet (block_sectors s) (homes_of log.0) [] image) → Between quiet image s log.0 at told
 between_start image s at told log is known = record {
   front = [];
   back = log.0;
@@ -67,14 +67,14 @@ between_start image s at told log is known = record {
   known = known;
 }
 
-pub between_end : (image : List ℕ) (s : Super) (entries : List (List Home)) (at : ℕ) (told : Option State) → at ≡ log_to s → Between image s entries at told → Tells told (Homing (block_sectors s) (homes_of entries) (homes_of entries) image)
-between_end image s entries at told end b =
+pub between_end : {quiet : Bool} (image : List ℕ) (s : Super) (entries : List (List Home)) (at : ℕ) (told : Option State) → at ≡ log_to s → Between quiet image s entries at told → Tells told (Homing quiet (block_sectors s) (homes_of entries) (homes_of entries) image)
+between_end {quiet} image s entries at told end b =
     let none : b.back ≡ [] = logs_one (geometry_of s) (blocks_of image) at (log_to s) b.back [] b.ahead end in
     let all : b.front ≡ entries = sym (append-nil b.front) ∙ ap (λ (es : List (List Home)). b.front ++ es) (sym none) ∙ b.parts in
-    subst (λ (es : List (List Home)). Tells told (Homing (block_sectors s) (homes_of entries) (homes_of es) image)) all b.known
+    subst (λ (es : List (List Home)). Tells told (Homing quiet (block_sectors s) (homes_of entries) (homes_of es) image)) all b.known
 
-module _ (image : List ℕ) (s : Super) (entries : List (List Home)) (log : IsLogOf image s (homes_of entries)) (valid : IsValid s) (at : ℕ) (low : at < s.log_blocks.len) (more : at ≢ log_to s)
-    (told : Option State) (size : Option ℕ) (filled : IfSome told Filled) (sized : IfSome told (λ t. size ≡ Some t.size)) (on_disk : HasSectors size (sectors_of s)) (b : Between image s entries at told)
+module _ {quiet : Bool} (image : List ℕ) (s : Super) (entries : List (List Home)) (log : IsLogOf image s (homes_of entries)) (valid : IsValid s) (at : ℕ) (low : at < s.log_blocks.len) (more : at ≢ log_to s)
+    (told : Option State) (size : Option ℕ) (filled : IfSome told Filled) (sized : IfSome told (λ t. size ≡ Some t.size)) (on_disk : HasSectors size (sectors_of s)) (b : Between quiet image s entries at told)
     (bytes : List ℕ) (read : AreRead told (block_sectors s) (log_first (geometry_of s) + at) bytes) where
   here : Ahead (geometry_of s) (blocks_of image) s at b.back
   here = next_ahead (blocks_of image) s at b.back more b.ahead
@@ -85,7 +85,7 @@ module _ (image : List ℕ) (s : Super) (entries : List (List Home)) (log : IsLo
       let r = block_sectors s in
       let p = log_first (geometry_of s) + at in
       let room = told_size told size b.known.0 (sectors_of s) b.known.1 sized on_disk in
-      homing_block r p (homes_of entries) (homes_of b.front) image bytes b.known.0 b.known.2 (told_filled told b.known.0 b.known.1 filled) (not_home (geometry_of s) at (home_places (homes_of entries)) log.homes low)
+      homing_block r p (homes_of entries) (homes_of b.front) image bytes b.known.0 b.known.2 (not_home (geometry_of s) at (home_places (homes_of entries)) log.homes low)
       (omega (arith, room, fits_sectors s valid p (log_inside s valid at low))) (told_read told r p bytes b.known.0 b.known.1 read)
       ∙ sym (ap (λ (t : Super). block (block_sectors t) p image) log.super)
 
@@ -118,8 +118,8 @@ module _ (image : List ℕ) (s : Super) (entries : List (List Home)) (log : IsLo
 
     -- and once they are written the walk comes to the next entry
     pub goes_on : (p q : ℕ) (new : Option State) → p ≡ next_place at 1 s.log_blocks.len → q ≡ next_place at (1 + length (blocks_in (geometry_of s) named)) s.log_blocks.len
-        → Tells new (Homing (block_sectors s) (homes_of entries) (homes_of b.front ++ homes_from (geometry_of s) (blocks_of image) p (blocks_in (geometry_of s) named)) image)
-        → Between image s entries q new
+        → Tells new (Homing quiet (block_sectors s) (homes_of entries) (homes_of b.front ++ homes_from (geometry_of s) (blocks_of image) p (blocks_in (geometry_of s) named)) image)
+        → Between quiet image s entries q new
     goes_on p q new first behind known =
         let g = geometry_of s in
         let f = blocks_of image in
@@ -131,12 +131,12 @@ module _ (image : List ℕ) (s : Super) (entries : List (List Home)) (log : IsLo
           back = here.rest;
           parts = append_assoc b.front (here.homes ∷ []) here.rest ∙ all_parts;
           ahead = subst (λ (k : ℕ). Logs g f k (log_to s) here.rest) (ap (λ (n : ℕ). next_place at (1 + n) s.log_blocks.len) count ∙ sym behind) here.ahead;
-          known = subst (λ (hs : List Home). Tells new (Homing (block_sectors s) (homes_of entries) hs image)) done known;
+          known = subst (λ (hs : List Home). Tells new (Homing quiet (block_sectors s) (homes_of entries) hs image)) done known;
         }
 
 -- no entry is malformed
-pub no_fault : (image : List ℕ) (s : Super) (entries : List (List Home)) (log : IsLogOf image s (homes_of entries)) (valid : IsValid s) (at : ℕ) (low : at < s.log_blocks.len) (more : at ≢ log_to s)
-    (told : Option State) (size : Option ℕ) (filled : IfSome told Filled) (sized : IfSome told (λ t. size ≡ Some t.size)) (on_disk : HasSectors size (sectors_of s)) (b : Between image s entries at told)
+pub no_fault : {quiet : Bool} (image : List ℕ) (s : Super) (entries : List (List Home)) (log : IsLogOf image s (homes_of entries)) (valid : IsValid s) (at : ℕ) (low : at < s.log_blocks.len) (more : at ≢ log_to s)
+    (told : Option State) (size : Option ℕ) (filled : IfSome told Filled) (sized : IfSome told (λ t. size ≡ Some t.size)) (on_disk : HasSectors size (sectors_of s)) (b : Between quiet image s entries at told)
     (bytes : List ℕ) (halt : Halt) → IsFaultAt told (block_sectors s) (log_first (geometry_of s) + at) (place_at s at) bytes halt → halt ≡ Failed
 no_fault image s entries log valid at low more told size filled sized on_disk b bytes Failed is = refl
 no_fault image s entries log valid at low more told size filled sized on_disk b bytes (Malformed fault) is =

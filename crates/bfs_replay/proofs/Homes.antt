@@ -1,5 +1,5 @@
 -- What is known of a disk while homes are written, over writes, barriers and crashes.
-use Rattle.std.proofs.Common.{◌≡◌, ◌≢◌, ◌⊎◌, inl, inr, ⊎_elim, ℕ, ◌+◌, ◌-◌, ◌*◌, ◌/◌, ◌<◌, ◌≤◌, List, [], ◌∷◌, ◌++◌, length, take, drop, refl, sym, ◌∙◌, ap, subst, arith, get_or, false, length-drop}
+use Rattle.std.proofs.Common.{◌≡◌, ◌≢◌, ◌⊎◌, inl, inr, ⊎_elim, ℕ, ◌+◌, ◌-◌, ◌*◌, ◌/◌, ◌<◌, ◌≤◌, List, [], ◌∷◌, ◌++◌, length, take, drop, refl, sym, ◌∙◌, ap, subst, arith, get_or, Bool, true, false, length-drop}
 use Rattle.std.specs.Prelude.{All, if◌then◌else◌, ◌==◌, Option, Some, None}
 use Rattle.std.specs.Option.{IfSome}
 use Rattle.std.proofs.lemmas.Bool.{cases_lt, cond-true, cond-false, ne_eqb}
@@ -22,7 +22,7 @@ use Rattle.bfs_super.specs.Conditions.{natural, IsValid}
 use Rattle.bfs_super.specs.Geometry.{geometry_of}
 use Rattle.bfs_log.specs.Entry.{IsHome, log_first}
 use Rattle.bfs_log.specs.Replay.{Home, AgreeBut, block_sectors, blocks_of, home_places, with_homes}
-use Rattle.bfs_replay.specs.Homing.{Homing, IsLogOf}
+use Rattle.bfs_replay.specs.Homing.{Homing, Reads, IsLogOf}
 use Rattle.bfs_replay.specs.Steps.{AreRead, sectors_of}
 use Rattle.bfs_replay.proofs.Sizes.{fits_sectors, log_inside}
 
@@ -96,49 +96,67 @@ reads_block s r b image bytes reads fits is =
 
 -- ---- homes
 
-pub homing_start : (r : ℕ) (all : List Home) (image : List ℕ) (s : State) → Holds image s → Homing r all [] image s
-homing_start r all image s held = record {
+pub reads_of : (quiet : Bool) (image : List ℕ) (s : State) → Reads quiet image s → ReadsAs s image
+reads_of false image s reads = reads
+reads_of true image s held = held.reads
+
+pub of_held : (quiet : Bool) (image : List ℕ) (s : State) → Holds image s → Reads quiet image s
+of_held false image s held = held.reads
+of_held true image s held = held
+
+pub homing_start : (quiet : Bool) (r : ℕ) (all : List Home) (image : List ℕ) (s : State) → Reads quiet image s → Homing quiet r all [] image s
+homing_start false r all image s reads = record {
+  size = reads.size;
+  reads = reads;
+  outside = λ k j lt none inside. sym (reads.each (r * k + j) inside);
+  others = λ is. absurd (cc is);
+}
+homing_start true r all image s held = record {
   size = held.reads.size;
   reads = held.reads;
-  others = λ k j c lt none inside one. one_of_one (s.contents (r * k + j)) c (held.quiet (r * k + j) inside) one ∙ sym (held.reads.each (r * k + j) inside);
+  outside = λ k j lt none inside. sym (held.reads.each (r * k + j) inside);
+  others = λ is. λ k j c lt none inside one. one_of_one (s.contents (r * k + j)) c (held.quiet (r * k + j) inside) one ∙ sym (held.reads.each (r * k + j) inside);
 }
 
 -- what a crash leaves differs from the image in the blocks of homes alone
-pub homing_image : (r : ℕ) (all done : List Home) (image c : List ℕ) (s : State) → Homing r all done image s → IsImage s c → AgreeBut r all image c
-homing_image r all done image c s known left = record {
+pub homing_image : {quiet : Bool} → quiet ≡ true → (r : ℕ) (all done : List Home) (image c : List ℕ) (s : State) → Homing quiet r all done image s → IsImage s c → AgreeBut r all image c
+homing_image is_quiet r all done image c s known left = record {
   size = left.size ∙ sym known.size;
   each = λ k j lt none. ⊎_elim
-      (λ inside. known.others k j (sector (r * k + j) c) lt none inside (left.each (r * k + j) inside))
+      (λ inside. known.others is_quiet k j (sector (r * k + j) c) lt none inside (left.each (r * k + j) inside))
       (λ past. no_sector (r * k + j) c (omega (arith, past, left.size)) ∙ sym (no_sector (r * k + j) image (omega (arith, past, known.size))))
       (cases_lt (r * k + j) s.size);
 }
 
 -- a block outside of the homes, as it was read
-pub homing_block : (r b : ℕ) (all done : List Home) (image bytes : List ℕ) (s : State) → Homing r all done image s → Filled s → times b (home_places all) ≡ 0 → r * b + r ≤ s.size → IsRead s r b bytes → bytes ≡ block r b image
-homing_block r b all done image bytes s known filled none fits is =
+pub homing_block : {quiet : Bool} (r b : ℕ) (all done : List Home) (image bytes : List ℕ) (s : State) → Homing quiet r all done image s → times b (home_places all) ≡ 0 → r * b + r ≤ s.size → IsRead s r b bytes → bytes ≡ block r b image
+homing_block r b all done image bytes s known none fits is =
     same_sectors r bytes (block r b image) (is.long ∙ sym (length-take-le (512 * r) (drop (512 * (r * b)) image) (omega (arith, fits, known.size, length-drop (512 * (r * b)) image)))) (omega (arith, is.long))
     (λ j lt.
     let inside : r * b + j < s.size = omega (arith, lt, fits) in
-    is.each j lt ∙ known.others b j (newest s (r * b + j)) lt none inside (newest_one (s.contents (r * b + j)) (filled.some (r * b + j) inside)) ∙ sym (sector_part (r * b) j (512 * r) image (omega (arith, lt))))
+    is.each j lt ∙ known.outside b j lt none inside ∙ sym (sector_part (r * b) j (512 * r) image (omega (arith, lt))))
 
 with_homes_more : (r : ℕ) (done : List Home) (home : Home) (image : List ℕ) → with_homes r (done ++ home ∷ []) image ≡ overwritten (r * home.place) home.bytes (with_homes r done image)
 with_homes_more r [] home image = refl
 with_homes_more r (first ∷ done) home image = with_homes_more r done home (overwritten (r * first.place) first.bytes image)
 
 -- one home more is written
-pub homing_written : (r : ℕ) (all done : List Home) (home : Home) (image : List ℕ) (s : State) → Homing r all done image s → Has (home_places all) home.place → length home.bytes ≡ 512 * r → r * home.place + r ≤ s.size
-    → Homing r all (done ++ home ∷ []) image (written s (r * home.place) home.bytes)
+pub homing_written : {quiet : Bool} (r : ℕ) (all done : List Home) (home : Home) (image : List ℕ) (s : State) → Homing quiet r all done image s → Has (home_places all) home.place → length home.bytes ≡ 512 * r → r * home.place + r ≤ s.size
+    → Homing quiet r all (done ++ home ∷ []) image (written s (r * home.place) home.bytes)
 homing_written r all done home image s known has long fits = record {
   size = known.size;
   reads = subst (ReadsAs (written s (r * home.place) home.bytes)) (sym (with_homes_more r done home image)) (reads_written s (r * home.place) r home.bytes (with_homes r done image) known.reads long fits);
-  others = λ k j c lt none inside one.
+  outside = λ k j lt none inside.
       let other : k ≢ home.place = λ same. (let z : times home.place (home_places all) ≡ 0 = subst (λ (n : ℕ). times n (home_places all) ≡ 0) same none in omega (arith, z, has)) in
-      known.others k j c lt none inside (subst (λ cs. IsOneOf cs c) (kept_contents s (r * home.place) (r * k + j) home.bytes (block_others r home.place k j home.bytes long other lt)) one);
+      sym (kept_newest s (r * home.place) (r * k + j) home.bytes (block_others r home.place k j home.bytes long other lt)) ∙ known.outside k j lt none inside;
+  others = λ is k j c lt none inside one.
+      let other : k ≢ home.place = λ same. (let z : times home.place (home_places all) ≡ 0 = subst (λ (n : ℕ). times n (home_places all) ≡ 0) same none in omega (arith, z, has)) in
+      known.others is k j c lt none inside (subst (λ cs. IsOneOf cs c) (kept_contents s (r * home.place) (r * k + j) home.bytes (block_others r home.place k j home.bytes long other lt)) one);
 }
 
 -- ---- the superblock
 
-module _ (r : ℕ) (all : List Home) (image sup : List ℕ) (s : State) (known : Homing r all all image s) (filled : Filled s) (long : length sup ≡ 512) (some : 1 < s.size) where
+module _ {quiet : Bool} (r : ℕ) (all : List Home) (image sup : List ℕ) (s : State) (known : Homing quiet r all all image s) (filled : Filled s) (long : length sup ≡ 512) (some : 1 < s.size) where
   abbrev pub done : List ℕ
   done = with_homes r all image
 
@@ -146,17 +164,17 @@ module _ (r : ℕ) (all : List Home) (image sup : List ℕ) (s : State) (known :
   held = holds_settled s done filled known.reads
 
   -- during its write, behind the barrier
-  pub closing : (c : List ℕ) → IsImage (written (settled s) 1 sup) c → AgreeBut r all image c ⊎ (c ≡ overwritten 1 sup done)
-  closing c left =
-      ⊎_elim (λ old. inl (subst (AgreeBut r all image) (sym old) (homing_image r all all image done s known (image_of_reads s done filled known.reads)))) (λ new. inr new)
+  pub closing : quiet ≡ true → (c : List ℕ) → IsImage (written (settled s) 1 sup) c → AgreeBut r all image c ⊎ (c ≡ overwritten 1 sup done)
+  closing is_quiet c left =
+      ⊎_elim (λ old. inl (subst (AgreeBut r all image) (sym old) (homing_image is_quiet r all all image done s known (image_of_reads s done filled known.reads)))) (λ new. inr new)
       (written_image (settled s) 1 sup done held.quiet held.reads long some c left)
 
   settled_image : (c : List ℕ) → IsImage (settled s) c → IsImage s c
   settled_image c left = record { size = left.size; each = λ k lt. one_of_first (s.contents k) (sector k c) (left.each k lt) }
 
   -- and before it
-  pub before_closing : (c : List ℕ) → IsImage (settled s) c → AgreeBut r all image c
-  before_closing c left = homing_image r all all image c s known (settled_image c left)
+  pub before_closing : quiet ≡ true → (c : List ℕ) → IsImage (settled s) c → AgreeBut r all image c
+  before_closing is_quiet c left = homing_image is_quiet r all all image c s known (settled_image c left)
 
   -- after the barrier behind it
   pub closed : Holds (overwritten 1 sup done) (settled (written (settled s) 1 sup))
@@ -197,15 +215,15 @@ module _ (s : Super) (valid : IsValid s) (told : Option State) (size : Option �
   abbrev pub homed : List ℕ → Home
   homed image = record { place = home; bytes = blocks_of image (log_first (geometry_of s) + at) }
 
-  pub home_written : (image : List ℕ) (all done : List Home) → IsLogOf image s all → Has (home_places all) home → (known : Tells told (Homing (block_sectors s) all done image))
-      → Homing (block_sectors s) all (done ++ homed image ∷ []) image (written known.0 (block_sectors s * home) bytes)
-  home_written image all done log has known =
+  pub home_written : {quiet : Bool} (image : List ℕ) (all done : List Home) → IsLogOf image s all → Has (home_places all) home → (known : Tells told (Homing quiet (block_sectors s) all done image))
+      → Homing quiet (block_sectors s) all (done ++ homed image ∷ []) image (written known.0 (block_sectors s * home) bytes)
+  home_written {quiet} image all done log has known =
       let r = block_sectors s in
       let p = log_first (geometry_of s) + at in
       let room = told_size told size known.0 (sectors_of s) known.1 sized on_disk in
       let there = told_read told r p bytes known.0 known.1 read in
       let is : bytes ≡ blocks_of image p =
-      homing_block r p all done image bytes known.0 known.2 (told_filled told known.0 known.1 filled) (not_home (geometry_of s) at (home_places all) log.homes low) (omega (arith, room, fits_sectors s valid p (log_inside s valid at low))) there
+      homing_block r p all done image bytes known.0 known.2 (not_home (geometry_of s) at (home_places all) log.homes low) (omega (arith, room, fits_sectors s valid p (log_inside s valid at low))) there
       ∙ sym (ap (λ (t : Super). block (block_sectors t) p image) log.super) in
-      subst (λ (l : List ℕ). Homing r all (done ++ record { place = home; bytes = l } ∷ []) image (written known.0 (r * home) bytes)) is
+      subst (λ (l : List ℕ). Homing quiet r all (done ++ record { place = home; bytes = l } ∷ []) image (written known.0 (r * home) bytes)) is
       (homing_written r all done (record { place = home; bytes = bytes }) image known.0 known.2 has there.long (omega (arith, room, fits_sectors s valid home inside)))

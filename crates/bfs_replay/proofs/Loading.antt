@@ -52,7 +52,7 @@ module _ (image : List ℕ) (told : Option State) (reads : Tells told (λ s. Rea
 pub fits_judged : (s : Super) (size : Option ℕ) (sectors : ℕ) → size ≡ Some sectors → (found : Loaded) → IsJudged s sectors found → FitsDisk size found
 fits_judged s size sectors known (loads.Volume found) is =
     (subst IsValid (sym is.0) is.1, subst (λ z. HasSectors z (sectors_of found)) (sym known) (subst (λ (t : Super). sectors_of t ≤ sectors) (sym is.0) is.2))
-fits_judged s size sectors known (loads.Short count needed) is = tt
+fits_judged s size sectors known (loads.Short some needed) is = tt
 fits_judged s size sectors known (loads.Refused fault) is = tt
 fits_judged s size sectors known loads.Failed is = tt
 

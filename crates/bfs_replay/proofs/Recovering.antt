@@ -1,5 +1,5 @@
 -- What a recovery leaves is replayed to the same.
-use Rattle.std.proofs.Common.{◌≡◌, ◌≢◌, inr, ⊎_elim, ℕ, ℤ, pos, negsuc, ◌*◌, ◌≤◌, ◌≤ℤ◌, List, length, refl, sym, ◌∙◌, ap, subst, arith}
+use Rattle.std.proofs.Common.{◌≡◌, ◌≢◌, inr, ⊎_elim, ℕ, ℤ, pos, negsuc, ◌*◌, ◌≤◌, ◌≤ℤ◌, List, length, refl, sym, ◌∙◌, ap, subst, arith, Bool}
 use Rattle.std.specs.Prelude.{Option, if◌then◌else◌, ◌==◌}
 use Rattle.std.proofs.lemmas.Int.{ints}
 use Rattle.std.proofs.lemmas.Bool.{cond-false, ne_eqb}
@@ -18,6 +18,7 @@ use Rattle.bfs_log.proofs.Logged.{logs_homes}
 use Rattle.bfs_log.proofs.Replays.{replayed_empty, replayed_size, replayed_super, stopped}
 use Rattle.bfs_log.proofs.Emptied.{emptied_valid}
 use Rattle.bfs_replay.specs.Homing.{IsLogOf, Closed, ClosedOrNot}
+use Rattle.bfs_replay.proofs.Homes.{of_held}
 use Rattle.bfs_replay.specs.Steps.{HasEntriesIn, HasEntries, HasFaultIn}
 use Rattle.bfs_replay.specs.Recover.{GoesOn, IsRecovered}
 use Rattle.bfs_replay.specs.declared.log.Halt.{Halt}
@@ -78,8 +79,8 @@ module _ (image : List ℕ) (s : Super) (is : super_of image ≡ s) (valid : Val
     replayed_again : Replayed result result
     replayed_again = replayed_empty result new_valid (subst (λ (t : Super). log_from t ≡ log_to t) (sym new_super) refl)
 
-    pub recovered : (new : Option State) (found : Super) → found ≡ emptied s → Tells new (Holds result) → IsRecovered image new found
-    recovered new found found_is holds = (result, replayed, holds, found_is ∙ sym new_super)
+    pub recovered : (quiet : Bool) (new : Option State) (found : Super) → found ≡ emptied s → Tells new (Holds result) → IsRecovered quiet image new found
+    recovered quiet new found found_is holds = (result, replayed, (holds.0, holds.1, of_held quiet result holds.0 holds.2), found_is ∙ sym new_super)
 
   pub closed_on : (c : List ℕ) → ClosedOrNot (block_sectors s) all image (emptied s) c → GoesOn image c
   closed_on c left = ⊎_elim (stopped_on c)

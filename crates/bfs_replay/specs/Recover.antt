@@ -1,12 +1,13 @@
 -- How a recovery ends, and what it leaves on the way.
-use Rattle.std.specs.Prelude.{◌≡◌, ◌⊎◌, ◌<◌, ◌≤◌, ℕ, ◌/◌, List, length, Option}
+use Rattle.std.specs.Prelude.{◌≡◌, ◌⊎◌, ◌<◌, ◌≤◌, ℕ, ◌/◌, List, length, Option, Bool}
 use Rattle.bfs_base.specs.Counts.{Rose}
-use Rattle.bfs_disk.specs.State.{State, Tells, Holds}
+use Rattle.bfs_disk.specs.State.{State, Tells}
 use Rattle.bfs_disk.specs.Disk.{HasSectors}
 use Rattle.bfs_super.specs.declared.sup.Super.{Super}
 use Rattle.bfs_super.specs.Conditions.{IsRefusal, IsValid}
 use Rattle.bfs_log.specs.Replay.{Replayed, Valid, super_of}
 use Rattle.bfs_log.specs.Replay.{Malformed as IsMalformed}
+use Rattle.bfs_replay.specs.Homing.{Reads}
 use Rattle.bfs_replay.specs.Steps.{sectors_of}
 use Rattle.bfs_replay.specs.declared.recovery.Ending.{Ending}
 use Rattle.bfs_replay.specs.declared.recovery.Ending.TheVariants as endings
@@ -19,9 +20,9 @@ use Rattle.bfs_replay.specs.declared.recovery.Loaded.TheVariants as loads
 abbrev pub GoesOn : List ℕ → List ℕ → Type 0
 GoesOn image c = (c ≡ image) ⊎ ((result : List ℕ) × Replayed image result × Replayed c result)
 
--- the disk holds what replay of the image gives, with this superblock
-abbrev pub IsRecovered : List ℕ → Option State → Super → Type 0
-IsRecovered image told s = (result : List ℕ) × Replayed image result × Tells told (Holds result) × (s ≡ super_of result)
+-- the disk reads as what replay of the image gives, with this superblock, and is quiet too where that is asked
+abbrev pub IsRecovered : Bool → List ℕ → Option State → Super → Type 0
+IsRecovered quiet image told s = (result : List ℕ) × Replayed image result × Tells told (Reads quiet result) × (s ≡ super_of result)
 
 -- the image has fewer than two sectors, or its superblock meets its conditions and counts more sectors than there are
 abbrev pub IsShort : List ℕ → ℕ → ℕ → Type 0
@@ -52,13 +53,13 @@ HasCauseIn old new (faults.Entry fault) = Unit {0}
 HasCauseIn old new (faults.Disk before after) = (old ≤ before) × Rose before after × (after ≤ new)
 HasCauseIn old new faults.NoMemory = Unit {0}
 
--- how the log of an image was replayed on a disk that held it
-abbrev pub EndsIn : List ℕ → Option State → Ending → Type 0
-EndsIn image told (endings.Done s) = IsRecovered image told s
-EndsIn image told (endings.Short sectors needed) = IsShort image sectors needed × Tells told (Holds image)
-EndsIn image told (endings.Refused fault) = (1024 ≤ length image) × IsRefusal (super_of image) fault × Tells told (Holds image)
-EndsIn image told (endings.Malformed fault) = IsMalformed image fault × Tells told (Holds image)
-EndsIn image told endings.Failed = Unit {0}
+-- how the log of an image was replayed on a disk that read so
+abbrev pub EndsIn : Bool → List ℕ → Option State → Option State → Ending → Type 0
+EndsIn quiet image old new (endings.Done s) = IsRecovered quiet image new s
+EndsIn quiet image old new (endings.Short sectors needed) = IsShort image sectors needed × (new ≡ old)
+EndsIn quiet image old new (endings.Refused fault) = (1024 ≤ length image) × IsRefusal (super_of image) fault × (new ≡ old)
+EndsIn quiet image old new (endings.Malformed fault) = IsMalformed image fault × (new ≡ old)
+EndsIn quiet image old new endings.Failed = Unit {0}
 
 -- what is known of the superblock at the end, whatever the disk tells
 abbrev pub IsSound : (Super → Type 0) → Ending → Type 0

@@ -1,11 +1,11 @@
 // The disk calls of a recovery: a block is read, a block of the log is written home, the superblock is written.
-ghost use Rattle.std.specs.Prelude.{◌≡◌, ◌⊎◌, ◌≤◌, ◌<◌, ◌+◌, ◌*◌, ◌/◌, ◌++◌, [], ◌∷◌, ℕ, List, length, OnOk, OnErr, IfOk, IfSome};
+ghost use Rattle.std.specs.Prelude.{◌≡◌, ◌⊎◌, ◌≤◌, ◌<◌, ◌+◌, ◌*◌, ◌/◌, ◌++◌, [], ◌∷◌, ℕ, List, length, OnOk, OnErr, IfOk, IfSome, Bool, true};
 ghost use Rattle.bfs_base.specs.Counts.{HasCause};
 ghost use Rattle.bfs_base.specs.Images.{overwritten};
 ghost use Rattle.bfs_base.specs.Lists.{Has};
 ghost use Rattle.bfs_base.specs.Moments.{Elapses, Passed};
 ghost use Rattle.bfs_disk.specs.State.{State, Tells, Holds};
-ghost use Rattle.bfs_disk.specs.Disk.{MayLeave, HasSectors};
+ghost use Rattle.bfs_disk.specs.Disk.{MayLeave, HasSectors, told_written};
 ghost use Rattle.bfs_super.specs.declared.sup.Super.{Super};
 ghost use Rattle.bfs_super.specs.Conditions.{natural, IsValid};
 ghost use Rattle.bfs_super.specs.Geometry.{geometry_of};
@@ -54,9 +54,9 @@ pub fn write_home<D: Disk>(
     requires long { length buffer.old ≡ sup.now.block_size }
     ensures size { D.size disk.new ≡ D.size disk.old }
     ensures cause { HasCause (D.faults disk.old) (D.faults disk.new) result }
-    ensures next { (image : List ℕ) (all done : List Home) → IsLogOf image sup.now all → Has (home_places all) home → Tells (D.state disk.old) (Homing (block_sectors sup.now) all done image)
-        → OnOk result (Tells (D.state disk.new) (Homing (block_sectors sup.now) all (done ++ record { place = home; bytes = blocks_of image (log_first (geometry_of sup.now) + at) } ∷ []) image)) }
-    ensures time { (image : List ℕ) (all done : List Home) → IsLogOf image sup.now all → Has (home_places all) home → Tells (D.state disk.old) (Homing (block_sectors sup.now) all done image)
+    ensures next { (quiet : Bool) (image : List ℕ) (all done : List Home) → IsLogOf image sup.now all → Has (home_places all) home → Tells (D.state disk.old) (Homing quiet (block_sectors sup.now) all done image)
+        → OnOk result (Tells (D.state disk.new) (Homing quiet (block_sectors sup.now) all (done ++ record { place = home; bytes = blocks_of image (log_first (geometry_of sup.now) + at) } ∷ []) image)) }
+    ensures time { (image : List ℕ) (all done : List Home) → IsLogOf image sup.now all → Has (home_places all) home → Tells (D.state disk.old) (Homing true (block_sectors sup.now) all done image)
         → Passed (D.clock disk.old) (D.clock disk.new) (D.since disk.old) (D.since disk.new) (AgreeBut (block_sectors sup.now) all image) }
 {
     let place = sup.block_of(sup.log_blocks) + at;
@@ -78,21 +78,32 @@ fn without_log(sup: &Super) -> Super
     emptied
 }
 
+// Writes the superblock's sector.
+fn write_super<D: Disk>(disk: &mut D, sector: &[u8; 512]) -> Result<(), Failed>
+    requires { HasSectors (D.size disk.old) 2 }
+    ensures size { D.size disk.new ≡ D.size disk.old }
+    ensures written { OnOk result (D.state disk.new ≡ told_written (D.state disk.old) 1 sector.now) }
+    ensures time { Elapses (D.state disk.old) result (D.clock disk.old) (D.clock disk.new) (D.since disk.old) (D.since disk.new) (MayLeave (told_written (D.state disk.old) 1 sector.now)) }
+    ensures cause { HasCause (D.faults disk.old) (D.faults disk.new) result }
+{
+    disk.write(1, sector)
+}
+
 // Makes what was written home last, and then empties the log: its start moves to its end.
 pub fn empty_log<D: Disk>(disk: &mut D, sup: &Super) -> Result<Super, Failed>
     requires { HasSectors (D.size disk.old) 2 }
     ensures size { D.size disk.new ≡ D.size disk.old }
     ensures cause { HasCause (D.faults disk.old) (D.faults disk.new) result }
     ensures superblock { IfOk result (λ s. (s ≡ emptied sup.now) × (super_at (sector_of s) ≡ s)) }
-    ensures done { (r : ℕ) (image : List ℕ) (all : List Home) → Tells (D.state disk.old) (Homing r all all image)
+    ensures done { (quiet : Bool) (r : ℕ) (image : List ℕ) (all : List Home) → Tells (D.state disk.old) (Homing quiet r all all image)
         → OnOk result (Tells (D.state disk.new) (Holds (overwritten 1 (sector_of (emptied sup.now)) (with_homes r all image)))) }
-    ensures time { (r : ℕ) (image : List ℕ) (all : List Home) → Tells (D.state disk.old) (Homing r all all image)
+    ensures time { (r : ℕ) (image : List ℕ) (all : List Home) → Tells (D.state disk.old) (Homing true r all all image)
         → Passed (D.clock disk.old) (D.clock disk.new) (D.since disk.old) (D.since disk.new) (ClosedOrNot r all image (emptied sup.now)) }
 {
     let emptied = without_log(sup);
     let sector = emptied.print();
     disk.barrier()?;
-    disk.write(1, &sector)?;
+    write_super(disk, &sector)?;
     disk.barrier()?;
     Ok(emptied)
 }

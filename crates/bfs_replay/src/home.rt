@@ -1,5 +1,5 @@
 // Writes the blocks that the log has home.
-ghost use Rattle.std.specs.Prelude.{◌≡◌, ◌≤◌, ◌<◌, ◌+◌, ◌++◌, [], ℕ, List, length, All, OnOk, IfErr};
+ghost use Rattle.std.specs.Prelude.{◌≡◌, ◌≤◌, ◌<◌, ◌+◌, ◌++◌, [], ℕ, List, length, All, OnOk, IfErr, Bool, true};
 ghost use Rattle.bfs_base.specs.Counts.{HasCause};
 ghost use Rattle.bfs_base.specs.Lists.{Has, counted_from};
 ghost use Rattle.bfs_base.specs.Moments.{Passed};
@@ -13,10 +13,9 @@ ghost use Rattle.bfs_replay.specs.Homing.{Homing, IsLogOf};
 ghost use Rattle.bfs_replay.specs.Steps.{HasEntriesIn, HasRisen, sectors_of};
 
 use crate::calls::write_home;
-use crate::log::{Halt, log_end, log_start, place_behind, read_entry};
+use crate::log::{Halt, log_end, log_start, place_behind, place_on, read_entry};
 use bfs_bytes::Run;
 use bfs_disk::{Disk, Failed};
-use bfs_log::ring_next;
 use bfs_super::Super;
 
 // Writes the blocks of a run home. Their bytes stand in the log from a place on.
@@ -37,14 +36,13 @@ fn write_run<D: Disk>(
     ensures long { length buffer.new ≡ sup.now.block_size }
     ensures size { D.size disk.new ≡ D.size disk.old }
     ensures cause { HasCause (D.faults disk.old) (D.faults disk.new) result }
-    ensures next { (image : List ℕ) (all done : List Home) → IsLogOf image sup.now all → ((k : ℕ) → first ≤ k → k < first + len → Has (home_places all) k) → Tells (D.state disk.old) (Homing (block_sectors sup.now) all done image)
-        → OnOk result (Tells (D.state disk.new) (Homing (block_sectors sup.now) all (done ++ homes_from (geometry_of sup.now) (blocks_of image) at (counted_from first len)) image)) }
-    ensures time { (image : List ℕ) (all done : List Home) → IsLogOf image sup.now all → ((k : ℕ) → first ≤ k → k < first + len → Has (home_places all) k) → Tells (D.state disk.old) (Homing (block_sectors sup.now) all done image)
+    ensures next { (quiet : Bool) (image : List ℕ) (all done : List Home) → IsLogOf image sup.now all → ((k : ℕ) → first ≤ k → k < first + len → Has (home_places all) k) → Tells (D.state disk.old) (Homing quiet (block_sectors sup.now) all done image)
+        → OnOk result (Tells (D.state disk.new) (Homing quiet (block_sectors sup.now) all (done ++ homes_from (geometry_of sup.now) (blocks_of image) at (counted_from first len)) image)) }
+    ensures time { (image : List ℕ) (all done : List Home) → IsLogOf image sup.now all → ((k : ℕ) → first ≤ k → k < first + len → Has (home_places all) k) → Tells (D.state disk.old) (Homing true (block_sectors sup.now) all done image)
         → Passed (D.clock disk.old) (D.clock disk.new) (D.since disk.old) (D.since disk.new) (AgreeBut (block_sectors sup.now) all image) }
 {
-    let length = u64::from(sup.log_blocks.len);
     for i in 0..len {
-        match write_home(disk, sup, ring_next(at, i, length), first + i, buffer) {
+        match write_home(disk, sup, place_on(sup, at, i), first + i, buffer) {
             Ok(()) => {}
             Err(failed) => return Err(failed),
         }
@@ -69,12 +67,11 @@ pub fn write_runs<D: Disk>(
     ensures long { length buffer.new ≡ sup.now.block_size }
     ensures size { D.size disk.new ≡ D.size disk.old }
     ensures cause { HasCause (D.faults disk.old) (D.faults disk.new) result }
-    ensures next { (image : List ℕ) (all done : List Home) → IsLogOf image sup.now all → ((k : ℕ) → Has (blocks_in (geometry_of sup.now) runs.now) k → Has (home_places all) k) → Tells (D.state disk.old) (Homing (block_sectors sup.now) all done image)
-        → OnOk result (Tells (D.state disk.new) (Homing (block_sectors sup.now) all (done ++ homes_from (geometry_of sup.now) (blocks_of image) at (blocks_in (geometry_of sup.now) runs.now)) image)) }
-    ensures time { (image : List ℕ) (all done : List Home) → IsLogOf image sup.now all → ((k : ℕ) → Has (blocks_in (geometry_of sup.now) runs.now) k → Has (home_places all) k) → Tells (D.state disk.old) (Homing (block_sectors sup.now) all done image)
+    ensures next { (quiet : Bool) (image : List ℕ) (all done : List Home) → IsLogOf image sup.now all → ((k : ℕ) → Has (blocks_in (geometry_of sup.now) runs.now) k → Has (home_places all) k) → Tells (D.state disk.old) (Homing quiet (block_sectors sup.now) all done image)
+        → OnOk result (Tells (D.state disk.new) (Homing quiet (block_sectors sup.now) all (done ++ homes_from (geometry_of sup.now) (blocks_of image) at (blocks_in (geometry_of sup.now) runs.now)) image)) }
+    ensures time { (image : List ℕ) (all done : List Home) → IsLogOf image sup.now all → ((k : ℕ) → Has (blocks_in (geometry_of sup.now) runs.now) k → Has (home_places all) k) → Tells (D.state disk.old) (Homing true (block_sectors sup.now) all done image)
         → Passed (D.clock disk.old) (D.clock disk.new) (D.since disk.old) (D.since disk.new) (AgreeBut (block_sectors sup.now) all image) }
 {
-    let length = u64::from(sup.log_blocks.len);
     let mut place = at;
     for run in runs {
         let len = u64::from(run.len);
@@ -82,7 +79,7 @@ pub fn write_runs<D: Disk>(
             Ok(()) => {}
             Err(failed) => return Err(failed),
         }
-        place = ring_next(place, len, length);
+        place = place_on(sup, place, len);
     }
     Ok(())
 }
@@ -101,16 +98,15 @@ pub fn write_homes<D: Disk>(
     ensures size { D.size disk.new ≡ D.size disk.old }
     ensures later { D.faults disk.old ≤ D.faults disk.new }
     ensures cause { IfErr result (HasRisen (D.faults disk.old) (D.faults disk.new)) }
-    ensures next { (image : List ℕ) (log : HasEntriesIn image sup.now) → IsLogOf image sup.now (homes_of log.0) → Tells (D.state disk.old) (Homing (block_sectors sup.now) (homes_of log.0) [] image)
-        → OnOk result (Tells (D.state disk.new) (Homing (block_sectors sup.now) (homes_of log.0) (homes_of log.0) image)) }
-    ensures time { (image : List ℕ) (log : HasEntriesIn image sup.now) → IsLogOf image sup.now (homes_of log.0) → Tells (D.state disk.old) (Homing (block_sectors sup.now) (homes_of log.0) [] image)
+    ensures next { (quiet : Bool) (image : List ℕ) (log : HasEntriesIn image sup.now) → IsLogOf image sup.now (homes_of log.0) → Tells (D.state disk.old) (Homing quiet (block_sectors sup.now) (homes_of log.0) [] image)
+        → OnOk result (Tells (D.state disk.new) (Homing quiet (block_sectors sup.now) (homes_of log.0) (homes_of log.0) image)) }
+    ensures time { (image : List ℕ) (log : HasEntriesIn image sup.now) → IsLogOf image sup.now (homes_of log.0) → Tells (D.state disk.old) (Homing true (block_sectors sup.now) (homes_of log.0) [] image)
         → Passed (D.clock disk.old) (D.clock disk.new) (D.since disk.old) (D.since disk.new) (AgreeBut (block_sectors sup.now) (homes_of log.0) image) }
     // No entry is malformed that was read before.
-    ensures good { (image : List ℕ) (log : HasEntriesIn image sup.now) → IsLogOf image sup.now (homes_of log.0) → Tells (D.state disk.old) (Homing (block_sectors sup.now) (homes_of log.0) [] image)
+    ensures good { (quiet : Bool) (image : List ℕ) (log : HasEntriesIn image sup.now) → IsLogOf image sup.now (homes_of log.0) → Tells (D.state disk.old) (Homing quiet (block_sectors sup.now) (homes_of log.0) [] image)
         → IfErr result (λ halt. halt ≡ Halt.Failed) }
 {
     let end = log_end(sup);
-    let length = u64::from(sup.log_blocks.len);
     let mut at = log_start(sup);
     while at != end {
         let found = match read_entry(disk, sup, at, array) {
@@ -118,7 +114,7 @@ pub fn write_homes<D: Disk>(
             Err(halt) => return Err(halt),
         };
         let runs = &found.runs[..found.count];
-        match write_runs(disk, sup, ring_next(at, 1, length), runs, buffer) {
+        match write_runs(disk, sup, place_on(sup, at, 1), runs, buffer) {
             Ok(()) => {}
             Err(_) => return Err(Halt::Failed),
         }

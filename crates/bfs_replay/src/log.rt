@@ -91,6 +91,17 @@ pub fn read_entry<D: Disk>(
     }
 }
 
+/// The place so many blocks further on in the log.
+pub fn place_on(sup: &Super, at: u64, by: u64) -> u64
+    requires valid { IsValid sup.now }
+    requires at { at < sup.now.log_blocks.len }
+    requires by { by ≤ sup.now.log_blocks.len }
+    ensures value { result ≡ next_place at by sup.now.log_blocks.len }
+    ensures inside { result < sup.now.log_blocks.len }
+{
+    ring_next(at, by, u64::from(sup.log_blocks.len))
+}
+
 // How many blocks these runs have.
 fn count_blocks(runs: &[Run]) -> u64
     requires { length runs.now ≤ 127 }

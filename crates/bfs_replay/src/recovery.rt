@@ -1,5 +1,5 @@
 // Recovers a volume.
-ghost use Rattle.std.specs.Prelude.{◌≡◌, ◌≢◌, ◌≤◌, ◌<◌, ◌^◌, ℕ, List, length, IfOk, IfErr};
+ghost use Rattle.std.specs.Prelude.{◌≡◌, ◌≢◌, ◌≤◌, ◌<◌, ◌^◌, ℕ, List, length, Bool, IfOk, IfErr};
 ghost use Rattle.bfs_base.specs.Counts.{Rose};
 ghost use Rattle.bfs_base.specs.Moments.{Passed};
 ghost use Rattle.bfs_disk.specs.State.{State, ReadsAs, Tells, Holds};
@@ -8,6 +8,7 @@ ghost use Rattle.bfs_super.specs.declared.sup.Super.{Super};
 ghost use Rattle.bfs_super.specs.Conditions.{IsValid};
 ghost use Rattle.bfs_super.specs.Layout.{super_at};
 ghost use Rattle.bfs_log.specs.Replay.{Valid, super_of};
+ghost use Rattle.bfs_replay.specs.Homing.{Reads};
 ghost use Rattle.bfs_replay.specs.Steps.{sectors_of};
 ghost use Rattle.bfs_replay.specs.Recover.{EndsIn, FindsIn, FitsDisk, GoesOn, HasCauseIn, IsJudged, IsMountFault, IsRecovered, IsSound, LeavesDisk};
 
@@ -114,7 +115,7 @@ fn replay_log<D: Disk>(disk: &mut D, sup: &Super, array: &mut [u8], buffer: &mut
     requires on_disk { HasSectors (D.size disk.old) (sectors_of sup.now) }
     requires array { length array.old ≡ sup.now.block_size }
     requires long { length buffer.old ≡ sup.now.block_size }
-    ensures ends { (image : List ℕ) → super_of image ≡ sup.now → Valid image → Tells (D.state disk.old) (Holds image) → EndsIn image (D.state disk.new) result }
+    ensures ends { (quiet : Bool) (image : List ℕ) → super_of image ≡ sup.now → Valid image → Tells (D.state disk.old) (Reads quiet image) → EndsIn quiet image (D.state disk.old) (D.state disk.new) result }
     ensures time { (image : List ℕ) → super_of image ≡ sup.now → Valid image → Tells (D.state disk.old) (Holds image)
         → Passed (D.clock disk.old) (D.clock disk.new) (D.since disk.old) (D.since disk.new) (GoesOn image) }
     ensures sound { IsSound (λ s. IsValid s × (s.log_start ≡ s.log_end) × (sectors_of s ≡ sectors_of sup.now)) result }
@@ -142,7 +143,7 @@ fn replay_log<D: Disk>(disk: &mut D, sup: &Super, array: &mut [u8], buffer: &mut
 fn replay<D: Disk>(disk: &mut D, array: &mut [u8], buffer: &mut [u8]) -> Ending
     requires array { length array.old ≡ 8192 }
     requires long { length buffer.old ≡ 8192 }
-    ensures ends { (image : List ℕ) → Tells (D.state disk.old) (Holds image) → EndsIn image (D.state disk.new) result }
+    ensures ends { (quiet : Bool) (image : List ℕ) → Tells (D.state disk.old) (Reads quiet image) → EndsIn quiet image (D.state disk.old) (D.state disk.new) result }
     ensures time { (image : List ℕ) → Tells (D.state disk.old) (Holds image) → Passed (D.clock disk.old) (D.clock disk.new) (D.since disk.old) (D.since disk.new) (GoesOn image) }
     ensures unwritten { (image : List ℕ) → Tells (D.state disk.old) (λ s. ReadsAs s image) → (super_of image).log_start ≡ (super_of image).log_end → D.state disk.new ≡ D.state disk.old }
     ensures sound { IsSound (λ s. IsValid s × (s.log_start ≡ s.log_end) × HasSectors (D.size disk.new) (sectors_of s)) result }
@@ -177,8 +178,8 @@ fn zeros(alloc: Global, count: usize) -> Result<Vec<u8>, AllocError>
 /// written. Then each block goes to its place, in order, a barrier, the superblock with an empty log and CLEN, a barrier. It
 /// runs wherever the log isn't empty, whatever the flags say.
 pub fn recover<D: Disk>(alloc: Global, disk: &mut D) -> Result<Super, MountFault>
-    // At Ok the disk is quiet and reads as what replay gives.
-    ensures recovered { (image : List ℕ) → Tells (D.state disk.old) (Holds image) → IfOk result (IsRecovered image (D.state disk.new)) }
+    // At Ok the disk reads as what replay gives. It is quiet where it was.
+    ensures recovered { (quiet : Bool) (image : List ℕ) → Tells (D.state disk.old) (Reads quiet image) → IfOk result (IsRecovered quiet image (D.state disk.new)) }
 
     // A crash at any moment, and after a fault too, leaves the image or one that is replayed to the same.
     ensures time { (image : List ℕ) → Tells (D.state disk.old) (Holds image)
@@ -186,8 +187,8 @@ pub fn recover<D: Disk>(alloc: Global, disk: &mut D) -> Result<Super, MountFault
     ensures moments { (image : List ℕ) → Tells (D.state disk.old) (Holds image) → (c : List ℕ) → D.since disk.new (D.clock disk.old) c → GoesOn image c }
 
     // Each fault but a failed disk and want of memory comes only by its condition, and leaves the disk as it was.
-    ensures fault { (image : List ℕ) → Tells (D.state disk.old) (Holds image) → IfErr result (IsMountFault image) }
-    ensures kept { (image : List ℕ) → Tells (D.state disk.old) (Holds image) → IfErr result (λ fault. LeavesDisk fault → Tells (D.state disk.new) (Holds image)) }
+    ensures fault { (image : List ℕ) → Tells (D.state disk.old) (λ s. ReadsAs s image) → IfErr result (IsMountFault image) }
+    ensures kept { (image : List ℕ) → Tells (D.state disk.old) (λ s. ReadsAs s image) → IfErr result (λ fault. LeavesDisk fault → D.state disk.new ≡ D.state disk.old) }
 
     // Where the log is empty nothing is written.
     ensures unwritten { (image : List ℕ) → Tells (D.state disk.old) (λ s. ReadsAs s image) → (super_of image).log_start ≡ (super_of image).log_end → D.state disk.new ≡ D.state disk.old }

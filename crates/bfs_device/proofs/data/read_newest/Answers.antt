@@ -1,17 +1,15 @@
 use Rattle.std.proofs.Common.{◌∙◌, List, sym, ap, subst}
 use Rattle.std.proofs.lemmas.Result.{on_ok_weaker}
-use Rattle.bfs_device.specs.Layouts.{layout_of}
 use Rattle.bfs_device.specs.Books.{books_of}
-use Rattle.bfs_device.specs.Data.{AllAscend, newest_in}
+use Rattle.bfs_device.specs.Data.{newest_in}
+use Rattle.bfs_device.specs.Orders.{AllAscend}
 use Rattle.bfs_txn.specs.declared.group.Group.{Group}
 use Rattle.bfs_device.proofs.Stepping.{known_of}
-use Rattle.bfs_device.proofs.Reading.{all_ascend, newest_long, newest_told, read_told}
+use Rattle.bfs_device.proofs.Reading.{newest_long, newest_told, read_told}
 use Rattle.bfs_device.proofs.data.read_newest.Goals as goal
 
 pub newest_bytes-requires : goal.newest_bytes-requires
-newest_bytes-requires g c =
-    let j = c.args.journal.now in
-    subst AllAscend (sym c.deref.ensures.value) (all_ascend (layout_of j.sup) j.sup.block_size j.left _ j.groups.items c.requires.ready.follow)
+newest_bytes-requires g c = λ is. subst AllAscend (sym c.deref.ensures.value) (c.requires.ready.ordered is)
 
 pub copy_from_slice-requires : goal.copy_from_slice-requires
 copy_from_slice-requires g c =
@@ -26,4 +24,4 @@ returns-in-Some-newest_bytes-clause-bytes g c =
 pub returns-in-None-clause-bytes : goal.returns-in-None-clause-bytes
 returns-in-None-clause-bytes g c =
     let j = c.args.journal.now in
-    on_ok_weaker c.read_data.result (λ read. read_told (books_of j) (g.D.Disk.state c.args.disk.now) c.args.block c.read_data.new.into (known_of j c.requires.ready) (sym (ap (λ (gs : List Group). newest_in gs c.args.block) c.deref.ensures.value) ∙ c.in-None.ensures) read) c.read_data.ensures.bytes
+    on_ok_weaker c.read_kept.result (λ read. read_told (books_of j) (g.D.Disk.state c.args.disk.now) c.args.block c.read_kept.new.into (known_of j c.requires.ready) (sym (ap (λ (gs : List Group). newest_in gs c.args.block) c.deref.ensures.value) ∙ c.in-None.ensures) read) c.read_kept.ensures.bytes

@@ -4,6 +4,7 @@ use Rattle.bfs_device.specs.Books.{Books, books_of, IsRight}
 use Rattle.bfs_device.specs.Data.{touching, AreSameBut}
 use Rattle.bfs_device.proofs.Stepping.{known_of}
 use Rattle.bfs_device.proofs.Reading.{write_right, write_failed, write_moments, still_stopped}
+use Rattle.bfs_device.proofs.Keeping.{data_done, data_failed, reads_same}
 use Rattle.bfs_device.proofs.data.write_data.Goals as goal
 
 pub returns-in-Ok-clause-right : goal.returns-in-Ok-clause-right
@@ -37,3 +38,12 @@ returns-in-Err-clause-moments g c = λ t right.
 
 pub returns-in-Some-clause-still_right : goal.returns-in-Some-clause-still_right
 returns-in-Some-clause-still_right g c = λ t right. still_stopped (books_of c.args.journal.now) _ t c.args.block (g.D.Disk.state c.args.disk.now) c.in-Some.is right
+
+pub returns-in-Ok-clause-others : goal.returns-in-Ok-clause-others
+returns-in-Ok-clause-others g c = data_done c.args.journal.now.sup c.requires.ready.valid c.args.block c.args.from.now c.requires.long (g.D.Disk.state c.args.disk.now) (g.D.Disk.state c.write_block.new.disk) c.in-Ok.ensures.written
+
+pub returns-in-Err-clause-others : goal.returns-in-Err-clause-others
+returns-in-Err-clause-others g c = data_failed c.args.journal.now.sup c.requires.ready.valid c.args.block c.args.from.now c.requires.long (g.D.Disk.state c.args.disk.now) (g.D.Disk.state c.write_block.new.disk) c.in-Err.ensures.half
+
+pub returns-in-Some-clause-others : goal.returns-in-Some-clause-others
+returns-in-Some-clause-others g c = reads_same _ _ (g.D.Disk.state c.args.disk.now)

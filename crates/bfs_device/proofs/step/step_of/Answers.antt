@@ -2,10 +2,11 @@ use Rattle.std.proofs.Common.{◌≡◌, ◌<◌, inr, ℕ, length, sym, ap, sub
 use Rattle.std.proofs.lemmas.Grind.{common_steps}
 use Rattle.bfs_disk.specs.State.{Tells}
 use Rattle.bfs_device.specs.Books.{Books, books_of, IsRight, AreSame, IsVersion, used_of}
-use Rattle.bfs_device.specs.Layouts.{layout_of}
+use Rattle.bfs_device.specs.Layouts.{IsSameVolume, layout_of}
 use Rattle.bfs_device.specs.Steps.{stepped, halted, still_touched, progress_to, calls_left}
 use Rattle.bfs_device.specs.Told.{HasCalled, HasMarked, HasCounted}
-use Rattle.bfs_device.proofs.Telling.{step_called, step_marked, step_counted, step_layout, step_moment, step_used}
+use Rattle.bfs_device.proofs.Telling.{step_called, step_marked, step_counted, step_volume, step_moment, step_used}
+use Rattle.bfs_device.proofs.Keeping.{step_done, step_failed}
 use Rattle.bfs_device.proofs.step.step_of.Given.{Over}
 use Rattle.bfs_device.proofs.Stepping.{known_of, ok_right, err_right, step_moments}
 use Rattle.bfs_device.proofs.step.step_of.Goals as goal
@@ -50,8 +51,9 @@ told g c = c.advance.ensures.progress ∙ ap (λ (b : Books). progress_to b.grou
 new_books : (g : Over) (c : goal.After-advance g) → books_of c.advance.new.journal ≡ stepped (books_of c.args.journal.now)
 new_books g c = c.advance.ensures.books ∙ ap stepped c.act.ensures.books
 
-pub returns-in-Ok-clause-layout : goal.returns-in-Ok-clause-layout
-returns-in-Ok-clause-layout g c = ap (λ (b : Books). layout_of b.sup) (new_books g c) ∙ step_layout (books_of c.args.journal.now) (known_of c.args.journal.now c.requires.ready)
+pub returns-in-Ok-clause-volume : goal.returns-in-Ok-clause-volume
+returns-in-Ok-clause-volume g c =
+    subst (λ (b : Books). IsSameVolume c.args.journal.now.sup b.sup) (sym (new_books g c)) (step_volume (books_of c.args.journal.now) (known_of c.args.journal.now c.requires.ready))
 
 pub returns-in-Ok-clause-called : goal.returns-in-Ok-clause-called
 returns-in-Ok-clause-called g c =
@@ -80,3 +82,9 @@ pub returns-in-Ok-clause-used : goal.returns-in-Ok-clause-used
 returns-in-Ok-clause-used g c =
     let j = c.args.journal.now in
     subst (λ (b : Books). (n : ℕ) → IsVersion b n → used_of b n ≡ used_of (books_of j) n) (sym (new_books g c)) (step_used (books_of j) (known_of j c.requires.ready))
+
+pub returns-in-Ok-clause-others : goal.returns-in-Ok-clause-others
+returns-in-Ok-clause-others g c = step_done (books_of c.args.journal.now) (known_of c.args.journal.now c.requires.ready) c.act.ensures.read (g.D.Disk.state c.args.disk.now) (g.D.Disk.state c.act.new.disk) c.in-Ok.ensures.done
+
+pub returns-in-Err-clause-others : goal.returns-in-Err-clause-others
+returns-in-Err-clause-others g c = step_failed (books_of c.args.journal.now) (known_of c.args.journal.now c.requires.ready) c.act.ensures.read (g.D.Disk.state c.args.disk.now) (g.D.Disk.state c.act.new.disk) c.in-Err.ensures.failed

@@ -19,4 +19,4 @@ returns-in-TailSafe-clause-ready c =
     let groups = front_list j.groups.items g c.requires.some c.remove-group.ensures.value in
     let index = front_list j.groups.items c.index-group.result.now c.requires.some c.index-group.ensures in
     let same : c.index-group.result.now ≡ g = cc (groups, index) in
-    left_ready j _ g (drop 1 j.groups.items) c.requires.ready groups c.in-TailSafe.is c.closed-journal.ensures c.remove-group.ensures.items (c.front-journal.ensures ∙ ap front_phase (c.deref.ensures.value ∙ c.remove-group.ensures.items)) (ap (λ (x : Group). x.last) same) c.remove-group.ensures.capacity refl refl refl
+    left_ready j _ g (drop 1 j.groups.items) c.requires.ready groups c.in-TailSafe.is c.closed-journal.ensures refl c.remove-group.ensures.items (c.front-journal.ensures ∙ ap front_phase (c.deref.ensures.value ∙ c.remove-group.ensures.items)) (ap (λ (x : Group). x.last) same) c.remove-group.ensures.capacity refl refl refl

@@ -1,4 +1,4 @@
-use Rattle.std.proofs.Common.{◌≡◌, length, rules, ◌∙◌, ap}
+use Rattle.std.proofs.Common.{◌≡◌, length, rules, ◌∙◌, ap, refl}
 use Rattle.std.specs.Option.{option_map}
 use Rattle.bfs_base.proofs.Moments.{passed_on}
 use Rattle.bfs_disk.specs.State.{settled, written}
@@ -16,10 +16,10 @@ returns-in_err-barrier-clause-time g c r image all known =
     let sector = c.print-sector.result in
     let long : length sector ≡ 512 = search rules in
     passed_quiet _ (ClosedOrNot r all image s) c.barrier.ensures.time known.0 known.1
-    (first r all image _ (g.D.Disk.size disk) (g.met.D.Disk.filled disk) (g.met.D.Disk.sized disk) c.requires s sector (c.print-sector.ensures.sector ∙ ap sector_of c.without_log-emptied.ensures) (c.print-sector.ensures.again ∙ c.without_log-emptied.ensures) long known)
+    (first r all image _ (g.D.Disk.size disk) (g.met.D.Disk.filled disk) (g.met.D.Disk.sized disk) c.requires s sector (c.print-sector.ensures.sector ∙ ap sector_of c.without_log-emptied.ensures) (c.print-sector.ensures.again ∙ c.without_log-emptied.ensures) long known refl)
 
-pub returns-in_err-write-clause-time : goal.returns-in_err-write-clause-time
-returns-in_err-write-clause-time g c r image all known =
+pub returns-in_err-write_super-clause-time : goal.returns-in_err-write_super-clause-time
+returns-in_err-write_super-clause-time g c r image all known =
     let disk = c.args.disk.now in
     let s = emptied c.args.sup.now in
     let sector = c.print-sector.result in
@@ -27,9 +27,9 @@ returns-in_err-write-clause-time g c r image all known =
     let R = ClosedOrNot r all image s in
     let f = g.met.D.Disk.filled disk in
     let z = g.met.D.Disk.sized disk in
-    passed_on (passed_quiet _ R c.in_ok-barrier.ensures.time known.0 known.1 (first r all image _ (g.D.Disk.size disk) f z c.requires s sector (c.print-sector.ensures.sector ∙ ap sector_of c.without_log-emptied.ensures) (c.print-sector.ensures.again ∙ c.without_log-emptied.ensures) long known))
-    (passed_write _ 1 sector R c.write.ensures.time (settled known.0) (c.in_ok-barrier.ensures.settled ∙ ap (option_map settled) known.1)
-    (during r all image _ (g.D.Disk.size disk) f z c.requires s sector (c.print-sector.ensures.sector ∙ ap sector_of c.without_log-emptied.ensures) (c.print-sector.ensures.again ∙ c.without_log-emptied.ensures) long known))
+    passed_on (passed_quiet _ R c.in_ok-barrier.ensures.time known.0 known.1 (first r all image _ (g.D.Disk.size disk) f z c.requires s sector (c.print-sector.ensures.sector ∙ ap sector_of c.without_log-emptied.ensures) (c.print-sector.ensures.again ∙ c.without_log-emptied.ensures) long known refl))
+    (passed_write _ 1 sector R c.write_super.ensures.time (settled known.0) (c.in_ok-barrier.ensures.settled ∙ ap (option_map settled) known.1)
+    (during r all image _ (g.D.Disk.size disk) f z c.requires s sector (c.print-sector.ensures.sector ∙ ap sector_of c.without_log-emptied.ensures) (c.print-sector.ensures.again ∙ c.without_log-emptied.ensures) long known refl))
 
 pub returns-in_err-barrier-2-clause-time : goal.returns-in_err-barrier-2-clause-time
 returns-in_err-barrier-2-clause-time g c r image all known =
@@ -40,16 +40,16 @@ returns-in_err-barrier-2-clause-time g c r image all known =
     let R = ClosedOrNot r all image s in
     let f = g.met.D.Disk.filled disk in
     let z = g.met.D.Disk.sized disk in
-    passed_on (passed_quiet _ R c.in_ok-barrier.ensures.time known.0 known.1 (first r all image _ (g.D.Disk.size disk) f z c.requires s sector (c.print-sector.ensures.sector ∙ ap sector_of c.without_log-emptied.ensures) (c.print-sector.ensures.again ∙ c.without_log-emptied.ensures) long known))
+    passed_on (passed_quiet _ R c.in_ok-barrier.ensures.time known.0 known.1 (first r all image _ (g.D.Disk.size disk) f z c.requires s sector (c.print-sector.ensures.sector ∙ ap sector_of c.without_log-emptied.ensures) (c.print-sector.ensures.again ∙ c.without_log-emptied.ensures) long known refl))
     (passed_on
-    (passed_write _ 1 sector R c.in_ok-write.ensures.time (settled known.0) (c.in_ok-barrier.ensures.settled ∙ ap (option_map settled) known.1)
-    (during r all image _ (g.D.Disk.size disk) f z c.requires s sector (c.print-sector.ensures.sector ∙ ap sector_of c.without_log-emptied.ensures) (c.print-sector.ensures.again ∙ c.without_log-emptied.ensures) long known))
+    (passed_write _ 1 sector R c.in_ok-write_super.ensures.time (settled known.0) (c.in_ok-barrier.ensures.settled ∙ ap (option_map settled) known.1)
+    (during r all image _ (g.D.Disk.size disk) f z c.requires s sector (c.print-sector.ensures.sector ∙ ap sector_of c.without_log-emptied.ensures) (c.print-sector.ensures.again ∙ c.without_log-emptied.ensures) long known refl))
     (passed_quiet _ R c.barrier-2.ensures.time (written (settled known.0) 1 sector)
-    (told_closing r all image _ (g.D.Disk.size disk) f z c.requires s sector (c.print-sector.ensures.sector ∙ ap sector_of c.without_log-emptied.ensures) (c.print-sector.ensures.again ∙ c.without_log-emptied.ensures) long known _ _ c.in_ok-barrier.ensures.settled c.in_ok-write.ensures.written)
-    (during r all image _ (g.D.Disk.size disk) f z c.requires s sector (c.print-sector.ensures.sector ∙ ap sector_of c.without_log-emptied.ensures) (c.print-sector.ensures.again ∙ c.without_log-emptied.ensures) long known)))
+    (told_closing r all image _ (g.D.Disk.size disk) f z c.requires s sector (c.print-sector.ensures.sector ∙ ap sector_of c.without_log-emptied.ensures) (c.print-sector.ensures.again ∙ c.without_log-emptied.ensures) long known _ _ c.in_ok-barrier.ensures.settled c.in_ok-write_super.ensures.written)
+    (during r all image _ (g.D.Disk.size disk) f z c.requires s sector (c.print-sector.ensures.sector ∙ ap sector_of c.without_log-emptied.ensures) (c.print-sector.ensures.again ∙ c.without_log-emptied.ensures) long known refl)))
 
 pub returns-clause-done : goal.returns-clause-done
-returns-clause-done g c r image all known =
+returns-clause-done g c quiet r image all known =
     let disk = c.args.disk.now in
     let s = emptied c.args.sup.now in
     let sector = c.print-sector.result in
@@ -58,7 +58,7 @@ returns-clause-done g c r image all known =
     let z = g.met.D.Disk.sized disk in (
       settled (written (settled known.0) 1 sector),
       c.in_ok-barrier-2.ensures.settled
-          ∙ ap (option_map settled) (told_closing r all image _ (g.D.Disk.size disk) f z c.requires s sector (c.print-sector.ensures.sector ∙ ap sector_of c.without_log-emptied.ensures) (c.print-sector.ensures.again ∙ c.without_log-emptied.ensures) long known _ _ c.in_ok-barrier.ensures.settled c.in_ok-write.ensures.written),
+          ∙ ap (option_map settled) (told_closing r all image _ (g.D.Disk.size disk) f z c.requires s sector (c.print-sector.ensures.sector ∙ ap sector_of c.without_log-emptied.ensures) (c.print-sector.ensures.again ∙ c.without_log-emptied.ensures) long known _ _ c.in_ok-barrier.ensures.settled c.in_ok-write_super.ensures.written),
       after r all image _ (g.D.Disk.size disk) f z c.requires s sector (c.print-sector.ensures.sector ∙ ap sector_of c.without_log-emptied.ensures) (c.print-sector.ensures.again ∙ c.without_log-emptied.ensures) long known,
     )
 
@@ -71,10 +71,10 @@ returns-clause-time g c r image all known =
     let R = ClosedOrNot r all image s in
     let f = g.met.D.Disk.filled disk in
     let z = g.met.D.Disk.sized disk in
-    passed_on (passed_quiet _ R c.in_ok-barrier.ensures.time known.0 known.1 (first r all image _ (g.D.Disk.size disk) f z c.requires s sector (c.print-sector.ensures.sector ∙ ap sector_of c.without_log-emptied.ensures) (c.print-sector.ensures.again ∙ c.without_log-emptied.ensures) long known))
+    passed_on (passed_quiet _ R c.in_ok-barrier.ensures.time known.0 known.1 (first r all image _ (g.D.Disk.size disk) f z c.requires s sector (c.print-sector.ensures.sector ∙ ap sector_of c.without_log-emptied.ensures) (c.print-sector.ensures.again ∙ c.without_log-emptied.ensures) long known refl))
     (passed_on
-    (passed_write _ 1 sector R c.in_ok-write.ensures.time (settled known.0) (c.in_ok-barrier.ensures.settled ∙ ap (option_map settled) known.1)
-    (during r all image _ (g.D.Disk.size disk) f z c.requires s sector (c.print-sector.ensures.sector ∙ ap sector_of c.without_log-emptied.ensures) (c.print-sector.ensures.again ∙ c.without_log-emptied.ensures) long known))
+    (passed_write _ 1 sector R c.in_ok-write_super.ensures.time (settled known.0) (c.in_ok-barrier.ensures.settled ∙ ap (option_map settled) known.1)
+    (during r all image _ (g.D.Disk.size disk) f z c.requires s sector (c.print-sector.ensures.sector ∙ ap sector_of c.without_log-emptied.ensures) (c.print-sector.ensures.again ∙ c.without_log-emptied.ensures) long known refl))
     (passed_quiet _ R c.in_ok-barrier-2.ensures.time (written (settled known.0) 1 sector)
-    (told_closing r all image _ (g.D.Disk.size disk) f z c.requires s sector (c.print-sector.ensures.sector ∙ ap sector_of c.without_log-emptied.ensures) (c.print-sector.ensures.again ∙ c.without_log-emptied.ensures) long known _ _ c.in_ok-barrier.ensures.settled c.in_ok-write.ensures.written)
-    (during r all image _ (g.D.Disk.size disk) f z c.requires s sector (c.print-sector.ensures.sector ∙ ap sector_of c.without_log-emptied.ensures) (c.print-sector.ensures.again ∙ c.without_log-emptied.ensures) long known)))
+    (told_closing r all image _ (g.D.Disk.size disk) f z c.requires s sector (c.print-sector.ensures.sector ∙ ap sector_of c.without_log-emptied.ensures) (c.print-sector.ensures.again ∙ c.without_log-emptied.ensures) long known _ _ c.in_ok-barrier.ensures.settled c.in_ok-write_super.ensures.written)
+    (during r all image _ (g.D.Disk.size disk) f z c.requires s sector (c.print-sector.ensures.sector ∙ ap sector_of c.without_log-emptied.ensures) (c.print-sector.ensures.again ∙ c.without_log-emptied.ensures) long known refl)))

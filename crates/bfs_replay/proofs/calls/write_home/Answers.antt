@@ -1,4 +1,4 @@
-use Rattle.std.proofs.Common.{◌≡◌, ◌∙◌, ◌+◌, ◌*◌, ◌/◌, ◌<◌, ◌≤◌, ◌++◌, [], ◌∷◌, ℕ, List, sym, ap, subst, arith}
+use Rattle.std.proofs.Common.{refl, ◌≡◌, ◌∙◌, ◌+◌, ◌*◌, ◌/◌, ◌<◌, ◌≤◌, ◌++◌, [], ◌∷◌, ℕ, List, sym, ap, subst, arith, Bool, true}
 use Rattle.std.proofs.lemmas.Result.{on_ok_weaker}
 use Rattle.bfs_base.proofs.Moments.{passed_on}
 use Rattle.bfs_base.specs.Lists.{Has}
@@ -22,7 +22,7 @@ read_block-requires-clause-place g c = subst (λ (n : ℕ). n + c.args.at < natu
 
 pub returns-in-Err-clause-time : goal.returns-in-Err-clause-time
 returns-in-Err-clause-time g c image all done log has known =
-    passed_quiet _ (AgreeBut (block_sectors c.args.sup.now) all image) c.read_block.ensures.time known.0 known.1 (λ i left. homing_image (block_sectors c.args.sup.now) all done image i known.0 known.2 left)
+    passed_quiet _ (AgreeBut (block_sectors c.args.sup.now) all image) c.read_block.ensures.time known.0 known.1 (λ i left. homing_image refl (block_sectors c.args.sup.now) all done image i known.0 known.2 left)
 
 pub overflow_mul-sectors : goal.overflow_mul-sectors
 overflow_mul-sectors g c =
@@ -43,11 +43,11 @@ write-requires-clause-range g c =
     (in_range c.args.sup.now c.requires.valid (g.D.Disk.size c.args.disk.now) c.args.home buffer c.requires.on_disk c.requires.home (c.read_block.auto.into ∙ c.requires.long)))
 
 -- the home as it was written
-step : (g : Over) (c : goal.After-write g) (image : List ℕ) (all done : List Home) → IsLogOf image c.args.sup.now all → Has (home_places all) c.args.home
-    → (known : Tells (g.D.Disk.state c.args.disk.now) (Homing (block_sectors c.args.sup.now) all done image))
-    → Homing (block_sectors c.args.sup.now) all (done ++ record { place = c.args.home; bytes = blocks_of image (log_first (geometry_of c.args.sup.now) + c.args.at) } ∷ []) image
+step : (g : Over) (c : goal.After-write g) (quiet : Bool) (image : List ℕ) (all done : List Home) → IsLogOf image c.args.sup.now all → Has (home_places all) c.args.home
+    → (known : Tells (g.D.Disk.state c.args.disk.now) (Homing quiet (block_sectors c.args.sup.now) all done image))
+    → Homing quiet (block_sectors c.args.sup.now) all (done ++ record { place = c.args.home; bytes = blocks_of image (log_first (geometry_of c.args.sup.now) + c.args.at) } ∷ []) image
     (written known.0 (block_sectors c.args.sup.now * c.args.home) c.read_block.new.into)
-step g c image all done log has known =
+step g c quiet image all done log has known =
     let s = c.args.sup.now in
     let disk = c.args.disk.now in
     home_written s c.requires.valid (g.D.Disk.state disk) (g.D.Disk.size disk) (g.met.D.Disk.filled disk) (g.met.D.Disk.sized disk) c.requires.on_disk c.args.at c.args.home c.requires.at c.requires.home c.read_block.new.into
@@ -58,7 +58,7 @@ place_is : (g : Over) (c : goal.After-write g) → c.from-sectors.result * c.arg
 place_is g c = ap (λ (n : ℕ). n * c.args.home) c.from-sectors.ensures
 
 pub returns-clause-next : goal.returns-clause-next
-returns-clause-next g c image all done log has known =
+returns-clause-next g c quiet image all done log has known =
     let s = c.args.sup.now in
     let disk = c.args.disk.now in
     let r = block_sectors s in
@@ -68,7 +68,7 @@ returns-clause-next g c image all done log has known =
     (λ is. (
       written known.0 (r * c.args.home) buffer,
       is ∙ ap (λ (n : ℕ). told_written (g.D.Disk.state c.read_block.new.disk) n buffer) (place_is g c) ∙ ap (λ o. told_written o (r * c.args.home) buffer) (c.in-Ok.ensures.state ∙ known.1),
-      step g c image all done log has known,
+      step g c quiet image all done log has known,
     ))
     c.write.ensures.written
 
@@ -80,8 +80,8 @@ returns-clause-time g c image all done log has known =
     let mid = c.read_block.new.disk in
     let buffer = c.read_block.new.into in
     passed_on
-    (passed_quiet (g.D.Disk.state disk) (AgreeBut r all image) c.in-Ok.ensures.time known.0 known.1 (λ i left. homing_image r all done image i known.0 known.2 left))
+    (passed_quiet (g.D.Disk.state disk) (AgreeBut r all image) c.in-Ok.ensures.time known.0 known.1 (λ i left. homing_image refl r all done image i known.0 known.2 left))
     (passed_write (g.D.Disk.state mid) (r * c.args.home) buffer (AgreeBut r all image)
     (subst (λ (n : ℕ). Elapses (g.D.Disk.state mid) c.write.result (g.D.Disk.clock mid) (g.D.Disk.clock c.write.new.self) (g.D.Disk.since mid) (g.D.Disk.since c.write.new.self) (MayLeave (told_written (g.D.Disk.state mid) n buffer))) (place_is g c) c.write.ensures.time)
     known.0 (c.in-Ok.ensures.state ∙ known.1)
-    (λ i left. homing_image r all (done ++ record { place = c.args.home; bytes = blocks_of image (log_first (geometry_of s) + c.args.at) } ∷ []) image i (written known.0 (r * c.args.home) buffer) (step g c image all done log has known) left))
+    (λ i left. homing_image refl r all (done ++ record { place = c.args.home; bytes = blocks_of image (log_first (geometry_of s) + c.args.at) } ∷ []) image i (written known.0 (r * c.args.home) buffer) (step g c true image all done log has known) left))

@@ -1,4 +1,4 @@
-use Rattle.std.proofs.Common.{◌≡◌, ◌≤◌, ◌<◌, [], ℕ, List, length}
+use Rattle.std.proofs.Common.{◌≡◌, ◌≤◌, ◌<◌, [], ℕ, List, length, Bool, true}
 use Rattle.bfs_base.specs.Moments.{Passed}
 use Rattle.bfs_disk.specs.State.{Tells}
 use Rattle.bfs_log.specs.Ring.{in_use}
@@ -14,9 +14,9 @@ invariant-loop-at g l = record {
   long : length l.buffer ≡ l.sup.block_size;
   later : g.D.Disk.faults l.fn.disk ≤ g.D.Disk.faults l.disk;
   size : g.D.Disk.size l.disk ≡ g.D.Disk.size l.fn.disk;
-  way : (image : List ℕ) (log : HasEntriesIn image l.sup) → IsLogOf image l.sup (homes_of log.0) → Tells (g.D.Disk.state l.fn.disk) (Homing (block_sectors l.sup) (homes_of log.0) [] image)
-      → Between image l.sup log.0 l.at (g.D.Disk.state l.disk);
-  time : (image : List ℕ) (log : HasEntriesIn image l.sup) → IsLogOf image l.sup (homes_of log.0) → Tells (g.D.Disk.state l.fn.disk) (Homing (block_sectors l.sup) (homes_of log.0) [] image)
+  way : (quiet : Bool) (image : List ℕ) (log : HasEntriesIn image l.sup) → IsLogOf image l.sup (homes_of log.0) → Tells (g.D.Disk.state l.fn.disk) (Homing quiet (block_sectors l.sup) (homes_of log.0) [] image)
+      → Between quiet image l.sup log.0 l.at (g.D.Disk.state l.disk);
+  time : (image : List ℕ) (log : HasEntriesIn image l.sup) → IsLogOf image l.sup (homes_of log.0) → Tells (g.D.Disk.state l.fn.disk) (Homing true (block_sectors l.sup) (homes_of log.0) [] image)
       → Passed (g.D.Disk.clock l.fn.disk) (g.D.Disk.clock l.disk) (g.D.Disk.since l.fn.disk) (g.D.Disk.since l.disk) (AgreeBut (block_sectors l.sup) (homes_of log.0) image);
 }
 

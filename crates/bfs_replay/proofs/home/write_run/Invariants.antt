@@ -1,4 +1,4 @@
-use Rattle.std.proofs.Common.{◌≡◌, ◌≤◌, ◌<◌, ◌+◌, ◌++◌, ℕ, List, length}
+use Rattle.std.proofs.Common.{◌≡◌, ◌≤◌, ◌<◌, ◌+◌, ◌++◌, ℕ, List, length, Bool, true}
 use Rattle.bfs_base.specs.Lists.{Has, counted_from}
 use Rattle.bfs_base.specs.Moments.{Passed}
 use Rattle.bfs_disk.specs.State.{Tells}
@@ -12,10 +12,10 @@ invariant-loop-i g l = record {
   long : length l.buffer ≡ l.sup.block_size;
   later : g.D.Disk.faults l.fn.disk ≤ g.D.Disk.faults l.disk;
   size : g.D.Disk.size l.disk ≡ g.D.Disk.size l.fn.disk;
-  next : (image : List ℕ) (all done : List Home) → IsLogOf image l.sup all → ((k : ℕ) → l.first ≤ k → k < l.first + l.len → Has (home_places all) k)
-      → Tells (g.D.Disk.state l.fn.disk) (Homing (block_sectors l.sup) all done image)
-      → Tells (g.D.Disk.state l.disk) (Homing (block_sectors l.sup) all (done ++ homes_from (geometry_of l.sup) (blocks_of image) l.at (counted_from l.first l.i)) image);
+  next : (quiet : Bool) (image : List ℕ) (all done : List Home) → IsLogOf image l.sup all → ((k : ℕ) → l.first ≤ k → k < l.first + l.len → Has (home_places all) k)
+      → Tells (g.D.Disk.state l.fn.disk) (Homing quiet (block_sectors l.sup) all done image)
+      → Tells (g.D.Disk.state l.disk) (Homing quiet (block_sectors l.sup) all (done ++ homes_from (geometry_of l.sup) (blocks_of image) l.at (counted_from l.first l.i)) image);
   time : (image : List ℕ) (all done : List Home) → IsLogOf image l.sup all → ((k : ℕ) → l.first ≤ k → k < l.first + l.len → Has (home_places all) k)
-      → Tells (g.D.Disk.state l.fn.disk) (Homing (block_sectors l.sup) all done image)
+      → Tells (g.D.Disk.state l.fn.disk) (Homing true (block_sectors l.sup) all done image)
       → Passed (g.D.Disk.clock l.fn.disk) (g.D.Disk.clock l.disk) (g.D.Disk.since l.fn.disk) (g.D.Disk.since l.disk) (AgreeBut (block_sectors l.sup) all image);
 }

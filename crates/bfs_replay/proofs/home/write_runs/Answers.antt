@@ -1,4 +1,4 @@
-use Rattle.std.proofs.Common.{◌≡◌, ◌∙◌, ◌+◌, ◌<◌, ◌≤◌, ◌++◌, ℕ, List, length, take, get_or, refl, sym, ap, subst, arith}
+use Rattle.std.proofs.Common.{true, ◌≡◌, ◌∙◌, ◌+◌, ◌≤◌, ◌++◌, ℕ, List, length, take, get_or, refl, sym, ap, subst, arith}
 use Rattle.std.proofs.lemmas.List.{take_all}
 use Rattle.bfs_base.proofs.Moments.{passed_on}
 use Rattle.bfs_base.specs.Lists.{counted_from}
@@ -25,11 +25,11 @@ returns-in-Err-clause-time g c image all done log has known =
     let l = c.loop-run in
     passed_on (l.invariant.time image all done log has known)
     (c.in-Err.ensures.time image all (done ++ homes_from (geometry_of s) (blocks_of image) c.args.at (blocks_in (geometry_of s) (take l.run-index c.args.runs.now))) log (homes_of_run (geometry_of s) c.args.runs.now c.loop-run.run-index no_run all c.block_of.result c.from-len.result c.loop-run-test.true c.block_of.ensures c.from-len.ensures has)
-    (l.invariant.next image all done log has known))
+    (l.invariant.next true image all done log has known))
 
-pub ring_next-place-requires-clause-by : goal.ring_next-place-requires-clause-by
-ring_next-place-requires-clause-by g c =
-    omega (arith, c.from-len.ensures, c.from-length.ensures, len_within (geometry_of c.args.sup.now) c.args.runs.now c.loop-run.run-index no_run c.loop-run-test.true, c.requires.few)
+pub place_on-place-requires-clause-by : goal.place_on-place-requires-clause-by
+place_on-place-requires-clause-by g c =
+    omega (arith, c.from-len.ensures, len_within (geometry_of c.args.sup.now) c.args.runs.now c.loop-run.run-index no_run c.loop-run-test.true, c.requires.few)
 
 pub loop-run-preserved : goal.loop-run-preserved
 loop-run-preserved g c =
@@ -48,34 +48,33 @@ loop-run-preserved g c =
     let few : length xs + length ys ≤ len = omega (arith, length-counted (first_of geo run) run.len, within, c.requires.few) in
     let count : length xs + c.from-len.result ≡ length (blocks_in geo (take (i + 1) runs)) = omega (arith, length-blocks_more geo runs i no_run c.loop-run-test.true, c.from-len.ensures) in
     record {
-      place = c.ring_next-place.ensures.value
-          ∙ ap (λ (n : ℕ). next_place l.place c.from-len.result n) c.from-length.ensures
+      place = c.place_on-place.ensures.value
           ∙ ap (λ (p : ℕ). next_place p c.from-len.result len) l.invariant.place
           ∙ next_next c.args.at (length xs) c.from-len.result len c.requires.at (omega (arith, c.from-len.ensures, within, c.requires.few))
           ∙ ap (λ (n : ℕ). next_place c.args.at n len) count;
-      low = subst (λ (n : ℕ). c.ring_next-place.result < n) c.from-length.ensures c.ring_next-place.ensures.inside;
+      low = c.place_on-place.ensures.inside;
       long = c.in-Ok.ensures.long;
       later = omega (arith, l.invariant.later, c.in-Ok.ensures.cause.later);
       size = c.in-Ok.ensures.size ∙ l.invariant.size;
-      next = λ image all done log has known.
+      next = λ quiet image all done log has known.
           let f = blocks_of image in
           let hs = done ++ homes_from geo f c.args.at xs in
-          subst (λ (ys : List Home). Tells now (Homing (block_sectors s) all ys image))
+          subst (λ (ys : List Home). Tells now (Homing quiet (block_sectors s) all ys image))
           (ap (λ (p : ℕ). hs ++ homes_from geo f p (counted_from c.block_of.result c.from-len.result)) l.invariant.place
           ∙ ap (λ (b : ℕ). hs ++ homes_from geo f (next_place c.args.at (length xs) len) (counted_from b c.from-len.result)) first
           ∙ ap (λ (n : ℕ). hs ++ homes_from geo f (next_place c.args.at (length xs) len) (counted_from (first_of geo run) n)) c.from-len.ensures
           ∙ homes_further geo f done c.args.at (length xs) xs ys c.requires.at refl few
           ∙ ap (λ (l : List ℕ). done ++ homes_from geo f c.args.at l) (sym (blocks_more geo runs i (i + 1) no_run c.loop-run-test.true refl)))
-          (c.in-Ok.ensures.next image all hs log (homes_of_run (geometry_of s) c.args.runs.now c.loop-run.run-index no_run all c.block_of.result c.from-len.result c.loop-run-test.true c.block_of.ensures c.from-len.ensures has) (l.invariant.next image all done log has known));
+          (c.in-Ok.ensures.next quiet image all hs log (homes_of_run (geometry_of s) c.args.runs.now c.loop-run.run-index no_run all c.block_of.result c.from-len.result c.loop-run-test.true c.block_of.ensures c.from-len.ensures has) (l.invariant.next quiet image all done log has known));
       time = λ image all done log has known.
           passed_on (l.invariant.time image all done log has known)
-          (c.in-Ok.ensures.time image all (done ++ homes_from geo (blocks_of image) c.args.at xs) log (homes_of_run (geometry_of s) c.args.runs.now c.loop-run.run-index no_run all c.block_of.result c.from-len.result c.loop-run-test.true c.block_of.ensures c.from-len.ensures has) (l.invariant.next image all done log has known));
+          (c.in-Ok.ensures.time image all (done ++ homes_from geo (blocks_of image) c.args.at xs) log (homes_of_run (geometry_of s) c.args.runs.now c.loop-run.run-index no_run all c.block_of.result c.from-len.result c.loop-run-test.true c.block_of.ensures c.from-len.ensures has) (l.invariant.next true image all done log has known));
     }
 
 pub returns-clause-next : goal.returns-clause-next
-returns-clause-next g c image all done log has known =
+returns-clause-next g c quiet image all done log has known =
     let s = c.args.sup.now in
     let geo = geometry_of s in
     let l = c.loop-run in
     let whole : take l.run-index c.args.runs.now ≡ c.args.runs.now = take_all l.run-index c.args.runs.now (omega (arith, c.loop-run-test.false)) in
-    subst (λ (rs : List Run). Tells (g.D.Disk.state l.disk) (Homing (block_sectors s) all (done ++ homes_from geo (blocks_of image) c.args.at (blocks_in geo rs)) image)) whole (l.invariant.next image all done log has known)
+    subst (λ (rs : List Run). Tells (g.D.Disk.state l.disk) (Homing quiet (block_sectors s) all (done ++ homes_from geo (blocks_of image) c.args.at (blocks_in geo rs)) image)) whole (l.invariant.next quiet image all done log has known)

@@ -3,9 +3,9 @@ use Rattle.bfs_log.specs.Replay.{over}
 use Rattle.bfs_device.specs.Layouts.{homes_in}
 use Rattle.bfs_device.specs.Books.{Books, View, books_of, IsRight, IsVersion, version, sealed_of, used_of}
 use Rattle.bfs_device.specs.Steps.{calls_left}
-use Rattle.bfs_device.specs.Seals.{sealed_with, calls_of_group}
+use Rattle.bfs_device.specs.Seals.{sealed_with, calls_of_group, last_used}
 use Rattle.bfs_device.proofs.Stepping.{Known, known_of}
-use Rattle.bfs_device.proofs.Sealing.{sealed_right, still_version, version_low, older_version, newest_version, older_used, newest_used, sealed_calls}
+use Rattle.bfs_device.proofs.Sealing.{sealed_right, still_version, version_low, older_version, newest_version, older_used, newest_used, sealed_calls, sealed_last, sealed_used}
 use Rattle.bfs_device.proofs.device.Device.seal.Goals as goal
 use Rattle.bfs_device.proofs.device.Device.seal.Given.{Over}
 
@@ -36,3 +36,9 @@ returns-clause-older_used g c = λ n is. subst (λ (b : Books). used_of b n ≡ 
 
 pub returns-clause-newest_used : goal.returns-clause-newest_used
 returns-clause-newest_used g c = subst (λ (b : Books). used_of b c.args.group.last ≡ c.args.group.used) (sym (new_books g c)) (newest_used c.args.self.now.books c.args.group (know g c) c.requires.next)
+
+pub returns-clause-sealed : goal.returns-clause-sealed
+returns-clause-sealed g c = ap sealed_of (new_books g c) ∙ sealed_last c.args.self.now.books c.args.group
+
+pub returns-clause-last_used : goal.returns-clause-last_used
+returns-clause-last_used g c = ap last_used (new_books g c) ∙ sealed_used c.args.self.now.books c.args.group

@@ -1,5 +1,5 @@
 mod Meets
-mod Planned
-mod Trees
-mod Whole
+pub mod Planned
+pub mod Trees
+pub mod Whole
 mod Wider

@@ -1,0 +1,10 @@
+mod Streams
+mod Fields
+mod NewTrees
+mod Bytes
+mod Stood
+mod Leaves
+mod Standing
+mod Bits
+mod NewVolume
+mod NewSuper

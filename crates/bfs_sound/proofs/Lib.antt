@@ -1,0 +1,6 @@
+pub mod Counts
+pub mod Streams
+pub mod Rows
+pub mod Nodes
+pub mod Parts
+pub mod Carried

@@ -196,7 +196,7 @@ module _ (o : Origin) (v now : Room) (array : Run) (m : ℕ → Option (List ℕ
         subst (λ (x : Room). Grown o v x m [] told4 old new) (sym rest)
         (subst (λ (t : Option (ℕ → Option (List ℕ))). Grown o v (record v { low = now.low }) m [] t old new) (sym wrote.is)
         (grown_is o v now.low array m took.map (with_block o.id wrote.bytes cleared.map) told1 (o.id ∷ run_blocks o.sizes array) [] next owns took.is
-        (subst (λ (x : Room). Fits x took.map) rest took.fits) took.others took.were_free
+        (subst (λ (x : Room). Fits x took.map) rest took.fits) took.others took.first took.were_free
         (λ k. sym (ap (λ (x : Room). is_free x took.map k) rest) ∙ took.free k) took.marks
         written levels_are next_sound next_places same keeps inside_frame told_now next_few rest_now old new changes))
 

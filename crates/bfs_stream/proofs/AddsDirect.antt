@@ -203,7 +203,7 @@ module _ (o : Origin) (v now : Room) (run none : Run) (m : ℕ → Option (List 
       subst (λ (x : Room). Grown o v x m (run_blocks o.sizes run) told2 old new) (sym rest)
       (subst (λ (t : Option (ℕ → Option (List ℕ))). Grown o v (record v { low = now.low }) m (run_blocks o.sizes run) t old new) (sym set_some)
       (grown_is o v now.low run m took.map (with_block o.id bytes2 took.map) told1 (o.id ∷ []) (run_blocks o.sizes run) next owns took.is
-      (subst (λ (x : Room). Fits x took.map) rest took.fits) took.others took.were_free
+      (subst (λ (x : Room). Fits x took.map) rest took.fits) took.others took.first took.were_free
       (λ k. sym (ap (λ (x : Room). is_free x took.map k) rest) ∙ took.free k) took.marks
       written levels_are next_sound next_places same
       (λ k has. subst (λ (x : List ℕ). Has (o.id ∷ x) k) (sym next_arrays) has)

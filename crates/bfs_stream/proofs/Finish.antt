@@ -46,10 +46,10 @@ module _ (v : Room) (m n : ℕ → Option (List ℕ)) (stay : (b : ℕ) → per_
     nothing_below = λ k h. free_same k ∙ fits.nothing_below k h;
   }
 
-is_below : (x y : ℕ) → nat_lt x y ≡ true → x < y
+pub is_below : (x y : ℕ) → nat_lt x y ≡ true → x < y
 is_below x y e = grind (arith, e)
 
-not_below : (x y : ℕ) → nat_lt x y ≡ false → y ≤ x
+pub not_below : (x y : ℕ) → nat_lt x y ≡ false → y ≤ x
 not_below x y e = grind (arith, e)
 
 -- what was in hand is new, and nothing else
@@ -74,7 +74,7 @@ and_zero false x y apart = refl
 
 module _ (o : Origin) (v : Room) (low : ℕ) (run : Run) (m m1 m2 : ℕ → Option (List ℕ)) (told : Option (ℕ → Option (List ℕ))) (ws fresh : List ℕ) (l : Levels)
     (owns : Owns o v [] m) (took_is : told ≡ Some m1)
-    (fits1 : Fits (record v { low = low }) m1) (others1 : (k : ℕ) → IsOutside v k → m1 k ≡ m k) (were_free : (k : ℕ) → Has (run_blocks o.sizes run) k → is_free v m k ≡ true)
+    (fits1 : Fits (record v { low = low }) m1) (others1 : (k : ℕ) → IsOutside v k → m1 k ≡ m k) (first1 : m1 0 ≡ m 0) (were_free : (k : ℕ) → Has (run_blocks o.sizes run) k → is_free v m k ≡ true)
     (free1 : (k : ℕ) → is_free v m1 k ≡ (is_free v m k && (times k (run_blocks o.sizes run) == 0)))
     (marks1 : (k : ℕ) → k < v.blocks → marked (per_block v) m1 k ≡ cond (times k (run_blocks o.sizes run) == 0) (marked (per_block v) m k) 1)
     (written : (k : ℕ) → times k ws ≡ 0 → m2 k ≡ m1 k)
@@ -181,6 +181,7 @@ module _ (o : Origin) (v : Room) (low : ℕ) (run : Run) (m m1 m2 : ℕ → Opti
     room = room_of (array_length o.sizes * (table_length o.sizes * table_length o.sizes)) (length (level_blocks o.sizes (levels_at o.sizes (contents m) o.id).runs)) (length (level_blocks o.sizes (levels_at o.sizes (contents m2) o.id).runs)) (length fresh)
         (subst (λ (x : Levels). length (level_blocks o.sizes x.runs) ≤ length (level_blocks o.sizes (levels_at o.sizes (contents m) o.id).runs) + length fresh) (sym levels) few);
     others = λ k out none. written k (none_of k (subst (λ (x : Levels). times k (o.id ∷ arrays_of o.sizes x) ≡ 0) levels none)) ∙ others1 k out;
+    first = λ none. written 0 (none_of 0 (subst (λ (x : Levels). times 0 (o.id ∷ arrays_of o.sizes x) ≡ 0) levels none)) ∙ first1;
     written = λ k e. by_side k (changed k e);
     kept = rest_kept;
   }

@@ -29,3 +29,14 @@ pub mod Few
 pub mod Stops
 pub mod Others
 pub mod Damages
+pub mod Giving
+pub mod Cuts
+pub mod Shorter
+pub mod CutsDirect
+pub mod Shrinks
+pub mod Cutting
+pub mod CutsIndirect
+pub mod CutsBelow
+pub mod Closes
+pub mod CutTwice
+pub mod CutOthers

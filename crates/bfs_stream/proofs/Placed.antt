@@ -27,7 +27,7 @@ end_is : (z : ℤ) (n b : ℕ) → 0 < b → z ≡ pos (b * n) → natural z / b
 end_is z n b some e = ap (λ (x : ℤ). natural x / b) e ∙ mul-div_cancel_left n some
 
 -- runs that are used have blocks
-some_blocks : (s : Sizes) (rs : List Run) → 0 < length (used_runs rs) → 0 < length (blocks_of s (used_runs rs))
+pub some_blocks : (s : Sizes) (rs : List Run) → 0 < length (used_runs rs) → 0 < length (blocks_of s (used_runs rs))
 some_blocks s [] h = absurd (omega arith)
 some_blocks s (r ∷ rs) h = by_len (r.len == 0) refl h
   where

@@ -60,6 +60,7 @@ unwritten o v now m n told c0 c1 grown =
         kept = g.kept;
         room = g.room;
         others = g.others;
+        first = g.first;
         written = wrote_none v (λ k. false) (λ k. false) (frame_at o.sizes (contents g.map) o.id) refl;
       },
     )

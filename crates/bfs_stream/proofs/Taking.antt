@@ -133,6 +133,7 @@ took_is s v now run wanted longest m told volume taken mark rest =
       is = mark.is;
       fits = mark.fits;
       others = λ k out. mark.marks.others k (inr out);
+      first = mark.marks.others 0 (inl refl);
       were_free = λ k has. let in_it = counted_in (first_of v run) run.len k (subst (λ (l : List ℕ). Has l k) blocks has) in taken.free.free k in_it.0 in_it.1;
       free = λ k. ap (λ (x : Room). is_free x mark.map k) rest ∙ free_is v m mark.map (first_of v run) run.len mark.marks k ∙ ap (λ (l : List ℕ). is_free v m k && (times k l == 0)) (sym blocks);
       marks = λ k low. marks_is v m mark.map (first_of v run) run.len mark.marks k low ∙ ap (λ (l : List ℕ). cond (times k l == 0) (marked (per_block v) m k) 1) (sym blocks);

@@ -42,6 +42,7 @@ module _ (o : Origin) (v : Room) (m : ℕ → Option (List ℕ)) (owns : Owns o 
     marks = λ k low. same_new (times k (whole_at o.sizes (contents m) o.id) == 0) (marked (per_block v) m k);
     room = omega arith;
     others = λ k out none. refl;
+    first = λ none. refl;
     kept = keeps_none (contents m o.id);
     written = wrote_none v old new (frame_at o.sizes (contents m) o.id) same;
   }
@@ -131,6 +132,7 @@ module _ (o : Origin) (v now later : Room) (m : ℕ → Option (List ℕ)) (fres
         (one.marks k low) (now_marks k low);
     room = room_twice (room_at o.sizes (contents m) o.id) (room_at o.sizes (contents one.map) o.id) (room_at o.sizes (contents two.map) o.id) (length fresh) (length more) (length (fresh ++ more)) one.room two.room (length-append fresh more);
     others = λ k out none. two.others k (outside_now k out) none ∙ one.others k out (frame_gone k none);
+    first = λ none. two.first none ∙ one.first (frame_gone 0 none);
     kept = keeps_twice (contents m o.id) (contents one.map o.id) (contents two.map o.id) one.kept two.kept;
     written = wrote_twice v c0 c1 c2 (frame_at o.sizes (contents two.map) o.id) (wrote_more v c0 c1 (frame_at o.sizes (contents one.map) o.id) (frame_at o.sizes (contents two.map) o.id) two.keeps one.written)
         (subst (λ (x : Room). AreWritten x c1 c2 (frame_at o.sizes (contents two.map) o.id)) rest two.written);

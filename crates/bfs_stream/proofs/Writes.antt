@@ -150,3 +150,15 @@ keeps_none bytes = (refl, refl)
 
 pub keeps_twice : (a b c : List ℕ) → KeepsRest a b → KeepsRest b c → KeepsRest a c
 keeps_twice a b c one two = (two.0 ∙ ap (λ (x : Inode). record x { stream_bytes = (inode_at c).stream_bytes }) one.0, two.1 ∙ one.1)
+
+-- a block of the volume was set, and then blocks with bits changed
+pub set_then_bits : (s : Sizes) (v : Room) (x y : ℕ) (a b c : ℕ → Bool) → x ≡ y → y < s.blocks → ((k : ℕ) → b k ≡ with_number x a k) → ((k : ℕ) → c k ≡ true → (b k ≡ true) ⊎ IsBitmapBlock v k) → (k : ℕ) → c k ≡ true → (a k ≡ true) ⊎ (IsBitmapBlock v k ⊎ (k < s.blocks))
+set_then_bits s v x y a b c same low set bits k e = by_bits (bits k e)
+  where
+    by_set : (a k ≡ true) ⊎ (k ≡ x) → (a k ≡ true) ⊎ (IsBitmapBlock v k ⊎ (k < s.blocks))
+    by_set (inl before) = inl before
+    by_set (inr is) = inr (inr (omega (arith, is, same, low)))
+
+    by_bits : (b k ≡ true) ⊎ IsBitmapBlock v k → (a k ≡ true) ⊎ (IsBitmapBlock v k ⊎ (k < s.blocks))
+    by_bits (inl before) = by_set (number_set x a k (sym (set k) ∙ before))
+    by_bits (inr bit) = inr (inl bit)

@@ -19,7 +19,7 @@ pub record IsOfVolume (s : Sizes) (v : Room) : Type 0 where
   pub blocks : v.blocks ≡ s.blocks
   pub group_blocks : v.group_blocks ≡ s.group_blocks
 
--- a block that holds no bits of the bitmap
+-- a block that holds no bits of the bitmap; block 0, which holds none either, is spoken of apart
 abbrev pub IsOutside : Room → ℕ → Type 0
 IsOutside v k = v.blocks ≤ per_block v * (k - 1)
 
@@ -39,6 +39,7 @@ pub record Took (s : Sizes) (v now : Room) (run : Run) (m : ℕ → Option (List
   pub is : told ≡ Some map
   pub fits : Fits now map
   pub others : (k : ℕ) → IsOutside v k → map k ≡ m k
+  pub first : map 0 ≡ m 0
   pub were_free : (k : ℕ) → Has (run_blocks s run) k → is_free v m k ≡ true
   pub free : (k : ℕ) → is_free now map k ≡ (is_free v m k && (times k (run_blocks s run) == 0))
   pub marks : (k : ℕ) → k < v.blocks → marked (per_block v) map k ≡ (if times k (run_blocks s run) == 0 then marked (per_block v) m k else 1)
@@ -74,6 +75,7 @@ pub record Grown (o : Origin) (v now : Room) (m : ℕ → Option (List ℕ)) (fr
   pub marks : (k : ℕ) → k < v.blocks → marked (per_block v) map k ≡ (if is_new (whole_at o.sizes (contents m) o.id) (whole_at o.sizes (contents map) o.id) k then 1 else marked (per_block v) m k)
   pub room : room_at o.sizes (contents m) o.id ≤ room_at o.sizes (contents map) o.id + length fresh
   pub others : (k : ℕ) → IsOutside v k → times k (frame_at o.sizes (contents map) o.id) ≡ 0 → map k ≡ m k
+  pub first : times 0 (frame_at o.sizes (contents map) o.id) ≡ 0 → map 0 ≡ m 0
   pub written : AreWritten v old new (frame_at o.sizes (contents map) o.id)
   pub kept : KeepsRest (contents m o.id) (contents map o.id)
 

@@ -4,3 +4,4 @@ pub mod Told
 pub mod Scans
 pub mod Grown
 pub mod Faults
+pub mod Trimmed

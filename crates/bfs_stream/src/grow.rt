@@ -20,7 +20,7 @@ use bfs_txn::{BlockFault, Edits};
 use std::alloc::AllocError;
 
 /// What ends a table of runs.
-const NO_RUN: Run = Run {
+pub(crate) const NO_RUN: Run = Run {
     group: 0,
     start: 0,
     len: 0,
@@ -149,7 +149,7 @@ impl Stream {
     }
 
     /// Writes a run at a place of an array.
-    fn put_in_array<E: Edits>(
+    pub(crate) fn put_in_array<E: Edits>(
         &self,
         edits: &mut E,
         bytes: &mut [u8],
@@ -208,7 +208,7 @@ impl Stream {
     }
 
     /// The bytes of so many blocks.
-    fn range(&self, blocks: u64) -> i64
+    pub(crate) fn range(&self, blocks: u64) -> i64
         requires { blocks < 2 ^ 45 }
         ensures { result ≡ pos (self.now.sizes.block_size * blocks) }
     {
@@ -217,7 +217,7 @@ impl Stream {
     }
 
     /// Writes up to which block the indirect level reaches.
-    fn put_indirect_range<E: Edits>(
+    pub(crate) fn put_indirect_range<E: Edits>(
         &self,
         edits: &mut E,
         bytes: &mut [u8],
@@ -326,7 +326,7 @@ impl Stream {
     }
 
     /// Writes the array of the indirect level into the inode.
-    fn put_indirect<E: Edits>(
+    pub(crate) fn put_indirect<E: Edits>(
         &self,
         edits: &mut E,
         bytes: &mut [u8],
@@ -413,7 +413,7 @@ fn put_indirect_end(bytes: &mut [u8], range: i64)
 
 impl Stream {
     /// Writes the array of the double indirect level into the inode.
-    fn put_double<E: Edits>(
+    pub(crate) fn put_double<E: Edits>(
         &self,
         edits: &mut E,
         bytes: &mut [u8],
@@ -527,7 +527,7 @@ impl Stream {
 
 impl Stream {
     /// Writes a run at a place of the tables that an array lists.
-    fn put_below<E: Edits>(
+    pub(crate) fn put_below<E: Edits>(
         &self,
         edits: &mut E,
         bytes: &mut [u8],
@@ -590,7 +590,7 @@ impl Stream {
     }
 
     /// Writes up to which block the double indirect level reaches.
-    fn put_double_range<E: Edits>(
+    pub(crate) fn put_double_range<E: Edits>(
         &self,
         edits: &mut E,
         bytes: &mut [u8],

@@ -13,7 +13,7 @@ use std::test::Fail;
 
 /// The first six blocks of the volume: in its bitmap so many bytes are of used blocks, and the next four are these; the stream
 /// at block 4 says that it reaches up to a byte under double indirect.
-fn volume(
+pub(crate) fn volume(
     alloc: Global,
     size: u32,
     used: usize,
@@ -34,7 +34,7 @@ fn volume(
 }
 
 /// Grows two streams by turns, by one block each time.
-fn by_turns<E: Edits>(
+pub(crate) fn by_turns<E: Edits>(
     first: &mut Stream,
     second: &mut Stream,
     bitmap: &mut Bitmap,

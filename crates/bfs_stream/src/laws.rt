@@ -5,6 +5,7 @@ ghost use Rattle.bfs_bitmap.specs.Runs.{Room};
 ghost use Rattle.bfs_stream.specs.Sizes.{Sizes, Origin};
 ghost use Rattle.bfs_stream.specs.Places.{levels_at, frame_at, whole_at, bytes_at};
 ghost use Rattle.bfs_stream.specs.Grown.{Owns, Grown, AreApart, HasStayed};
+ghost use Rattle.bfs_stream.specs.Trimmed.{Trimmed};
 
 /// Where two volumes agree at the inode and the array blocks of a stream, its levels are the same, and so are its blocks,
 /// its array blocks and whether it keeps the format. Where they agree at all of its blocks, its bytes are the same.
@@ -16,4 +17,9 @@ pub fn streams_stay()
 /// A stream that grows leaves each other stream of the volume, with which it has no block in common, as it was.
 pub fn others_stay()
     ensures { (o p : Origin) (v now : Room) (m : ℕ → Option (List ℕ)) (fresh : List ℕ) (told : Option (ℕ → Option (List ℕ))) (old new : ℕ → Bool) (grown : Grown o v now m fresh told old new) → now ≡ record v { low = now.low } → Owns p v [] m → AreApart o p m → HasStayed o p now m grown.map }
+{}
+
+/// So does a stream that is cut.
+pub fn others_stay_cut()
+    ensures { (o p : Origin) (v now : Room) (m : ℕ → Option (List ℕ)) (gone : List ℕ) (told : Option (ℕ → Option (List ℕ))) (old new : ℕ → Bool) (trimmed : Trimmed o v now m gone told old new) → now ≡ record v { given = now.given } → Owns p v [] m → AreApart o p m → HasStayed o p now m trimmed.map }
 {}

@@ -2,7 +2,9 @@
 // bytes are, and when it keeps the format, stands in specs/Places.antt.
 #![tactic(auto)]
 
+mod close;
 mod count;
+mod cut;
 mod fault;
 mod grow;
 mod laws;
@@ -10,12 +12,15 @@ mod lookup;
 mod next;
 mod scan;
 mod stream;
+mod trim;
 
 pub use fault::{GrowFault, StreamFault};
-pub use laws::{others_stay, streams_stay};
+pub use laws::{others_stay, others_stay_cut, streams_stay};
 pub use stream::Stream;
 
 #[cfg(test)]
 mod grow_tests;
 #[cfg(test)]
 mod tests;
+#[cfg(test)]
+mod trim_tests;

@@ -20,7 +20,11 @@ use bfs_txn::{BlockFault, Blocks, Edits};
 
 impl Stream {
     /// The tables of the double indirect level, whose array is there.
-    fn tables<B: Blocks>(&self, under: &mut B, bytes: &mut [u8]) -> Result<Tables, BlockFault>
+    pub(crate) fn tables<B: Blocks>(
+        &self,
+        under: &mut B,
+        bytes: &mut [u8],
+    ) -> Result<Tables, BlockFault>
         requires size { B.size under.old ≡ self.now.sizes.block_size }
         requires length { length bytes.old ≡ self.now.sizes.block_size }
         ensures are { (m : ℕ → Option (List ℕ)) → B.told under.old ≡ Some m → Stands self.now m → 0 < (fields self.now.sizes (contents m) self.now.id).double_indirect.len → IfOk result (AreTables self.now m) }
@@ -161,7 +165,11 @@ impl Stream {
     }
 
     /// The table of the indirect level, whose array is there.
-    fn table<B: Blocks>(&self, under: &mut B, bytes: &mut [u8]) -> Result<Table, BlockFault>
+    pub(crate) fn table<B: Blocks>(
+        &self,
+        under: &mut B,
+        bytes: &mut [u8],
+    ) -> Result<Table, BlockFault>
         requires size { B.size under.old ≡ self.now.sizes.block_size }
         requires length { length bytes.old ≡ self.now.sizes.block_size }
         ensures is { (m : ℕ → Option (List ℕ)) → B.told under.old ≡ Some m → Stands self.now m → IfOk result (IsTable self.now m) }
@@ -382,7 +390,7 @@ impl Stream {
     }
 
     /// The runs that an array has room for.
-    fn table_length(&self) -> u64
+    pub(crate) fn table_length(&self) -> u64
         ensures value { result ≡ table_length self.now.sizes }
         ensures few { result ≤ 4096 }
     {
@@ -446,7 +454,7 @@ fn at_most(blocks: u64) -> u16
 }
 
 /// What is left of so many when some are taken, or nothing.
-fn less(blocks: u64, taken: u64) -> u64
+pub(crate) fn less(blocks: u64, taken: u64) -> u64
     ensures { result ≡ blocks - taken }
 {
     if taken < blocks { blocks - taken } else { 0 }

@@ -141,3 +141,11 @@ returns-clause-exact g c m is owns has =
 pub returns-then-table-from-clause-exact : goal.returns-then-table-from-clause-exact
 returns-then-table-from-clause-exact g c m is owns has =
     IfOk-weaker c.add_indirect.result (λ n. n ≤ c.args.longest) (λ added. (n : ℕ → Option (List ℕ)) → g.E.Blocks.told c.add_indirect.new.edits ≡ Some n → (added ≤ c.args.longest) ⊎ UsesDouble c.args.self.now n) (λ added few n now. inl few) c.add_indirect.ensures.most
+
+pub returns-then-table-from-clause-grown : goal.returns-then-table-from-clause-grown
+returns-then-table-from-clause-grown g c m is owns has =
+    let o = c.args.self.now in
+    let table = c.in-Ok.ensures.is m is owns.stands in
+    let now_is = c.in-Ok.ensures.told ∙ is in
+    subst (λ (f : ℕ → Bool). IfOk c.add_indirect.result (λ k. HasGrown o c.args.bitmap.now c.add_indirect.new.bitmap m k (g.E.Blocks.told c.add_indirect.new.edits) f (g.E.Blocks.changed c.add_indirect.new.edits))) c.in-Ok.ensures.changed
+    (c.add_indirect.ensures.grown m now_is owns table)

@@ -1,0 +1,48 @@
+use Rattle.std.proofs.Common.{◌≡◌, ◌∙◌, inl, ℕ, ap, sym, subst, refl}
+use Rattle.bfs_bitmap.specs.Runs.{Room}
+use Rattle.bfs_stream.specs.Grown.{IsOfVolume}
+use Rattle.bfs_stream.specs.Trimmed.{HasTrimmed}
+use Rattle.bfs_stream.proofs.Arrays.{later_twice}
+use Rattle.bfs_stream.proofs.Writes.{later_none}
+use Rattle.bfs_stream.proofs.CutTwice.{trimmed_so_none, trimmed_so_more, trimmed_so_far, changed_again}
+use Rattle.bfs_stream.proofs.stream.Stream.cut_all.Goals as goal
+
+pub loop-gone-init : goal.loop-gone-init
+loop-gone-init g c = record {
+  long = c.requires.length;
+  size = refl;
+  frame = refl;
+  rest = refl;
+  volume = c.requires.volume;
+  trimmed = λ m is owns may. trimmed_so_none c.args.self.now c.args.bitmap.now m c.args.blocks (g.E.Blocks.told c.args.edits.now) (g.E.Blocks.changed c.args.edits.now) owns is may;
+  later = later_none (g.E.Blocks.counts c.args.edits.now);
+  changed = λ k e. inl e;
+}
+
+pub loop-gone-preserved : goal.loop-gone-preserved
+loop-gone-preserved g c =
+    let rest = c.in-Ok.ensures.rest ∙ ap (λ (x : Room). record x { given = c.cut.new.bitmap.given }) c.loop-gone.invariant.rest in
+    record {
+      long = c.in-Ok.ensures.length;
+      size = c.in-Ok.ensures.size ∙ c.loop-gone.invariant.size;
+      frame = c.in-Ok.ensures.frame ∙ c.loop-gone.invariant.frame;
+      rest = rest;
+      volume = subst (IsOfVolume c.args.self.now.sizes) (sym rest) (record { block_size = c.requires.volume.block_size; blocks = c.requires.volume.blocks; group_blocks = c.requires.volume.group_blocks });
+      trimmed = λ m is owns may.
+          let so_far = c.loop-gone.invariant.trimmed m is owns may in
+          let step = c.in-Ok.ensures.trimmed so_far.trimmed.2.map so_far.trimmed.2.is so_far.trimmed.2.owns so_far.may in
+          trimmed_so_more c.args.self.now c.args.bitmap.now c.loop-gone.bitmap c.cut.new.bitmap m c.args.blocks c.loop-gone.left c.less-left.result c.in-Ok.gone (g.E.Blocks.told c.loop-gone.edits) (g.E.Blocks.told c.cut.new.edits) (g.E.Blocks.changed c.args.edits.now) (g.E.Blocks.changed c.loop-gone.edits) (g.E.Blocks.changed c.cut.new.edits) so_far c.loop-gone.invariant.rest
+          step c.less-left.ensures c.in-Ok.ensures.most;
+      later = later_twice (g.E.Blocks.counts c.args.edits.now) (g.E.Blocks.counts c.loop-gone.edits) (g.E.Blocks.counts c.cut.new.edits) c.loop-gone.invariant.later c.in-Ok.ensures.later;
+      changed = changed_again c.args.self.now.sizes c.args.bitmap.now c.loop-gone.bitmap (g.E.Blocks.changed c.args.edits.now) (g.E.Blocks.changed c.loop-gone.edits) (g.E.Blocks.changed c.cut.new.edits) c.loop-gone.invariant.rest c.loop-gone.invariant.changed c.in-Ok.ensures.changed;
+    }
+
+pub returns-then-gone-eq0-clause-trimmed : goal.returns-then-gone-eq0-clause-trimmed
+returns-then-gone-eq0-clause-trimmed g c m is owns may le =
+    let o = c.args.self.now in
+    let so_far = c.loop-gone.invariant.trimmed m is owns may in
+    let zero : c.in-Ok.gone ≡ 0 = c.if-gone-eq0.true in
+    let step = subst (λ (n : ℕ). HasTrimmed o c.loop-gone.bitmap c.cut.new.bitmap so_far.trimmed.2.map n (g.E.Blocks.told c.cut.new.edits) (g.E.Blocks.changed c.loop-gone.edits) (g.E.Blocks.changed c.cut.new.edits)) zero
+    (c.in-Ok.ensures.trimmed so_far.trimmed.2.map so_far.trimmed.2.is so_far.trimmed.2.owns so_far.may) in
+    let end = c.in-Ok.ensures.done so_far.trimmed.2.map so_far.trimmed.2.is so_far.trimmed.2.owns step.2.map step.2.is zero in
+    trimmed_so_far o c.args.bitmap.now c.loop-gone.bitmap c.cut.new.bitmap m c.args.blocks c.loop-gone.left (g.E.Blocks.told c.loop-gone.edits) (g.E.Blocks.told c.cut.new.edits) (g.E.Blocks.changed c.args.edits.now) (g.E.Blocks.changed c.loop-gone.edits) (g.E.Blocks.changed c.cut.new.edits) so_far c.loop-gone.invariant.rest step end le

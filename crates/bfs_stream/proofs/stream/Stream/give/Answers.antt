@@ -1,0 +1,13 @@
+use Rattle.std.specs.Prelude.{Result, Ok, Err, OnOk}
+use Rattle.bfs_txn.specs.declared.fault.BlockFault.{BlockFault}
+use Rattle.bfs_stream.proofs.Giving.{gave_is}
+use Rattle.bfs_stream.proofs.stream.Stream.give.Goals as goal
+
+both : {P Q S : Type 0} (r : Result (Unit {0}) BlockFault) → OnOk r P → OnOk r Q → (P → Q → S) → OnOk r S
+both (Ok x) p q f = f p q
+both (Err x) p q f = p
+
+pub returns-clause-gave : goal.returns-clause-gave
+returns-clause-gave g c m is fits =
+    both c.give_back.result c.give_back.ensures.given (c.give_back.ensures.marked m is fits)
+    (λ given mark. gave_is c.args.self.now.sizes c.args.bitmap.now c.give_back.new.self c.args.run m (g.E.Blocks.told c.give_back.new.edits) c.requires.volume given mark)

@@ -1,0 +1,75 @@
+-- How a stream is cut.
+use Rattle.std.specs.Prelude.{◌≡◌, ◌≤◌, ◌<◌, ◌⊎◌, ℕ, ◌+◌, ◌-◌, ◌*◌, ◌==◌, ◌||◌, List, [], ◌++◌, length, Option, Some, Bool, not, if◌then◌else◌}
+use Rattle.bfs_base.specs.Lists.{times, Has}
+use Rattle.bfs_bytes.specs.declared.Run.{Run}
+use Rattle.bfs_super.specs.Conditions.{natural}
+use Rattle.bfs_bitmap.specs.Runs.{Room, Fits, per_block, is_free, is_reserved, marked}
+use Rattle.bfs_stream.specs.Sizes.{Sizes, Origin, array_length, table_length}
+use Rattle.bfs_stream.specs.Places.{run_blocks, used_runs, level_blocks, fields, second_arrays, levels_at, places_at, frame_at, whole_at}
+use Rattle.bfs_stream.specs.Told.{contents}
+use Rattle.bfs_stream.specs.Grown.{IsOutside, Owns, AreWritten, KeepsRest, UsesDouble, is_new}
+
+-- A run was given back: its bits are clear and it is reserved, and but for bits nothing changed.
+pub record Gave (s : Sizes) (v now : Room) (run : Run) (m : ℕ → Option (List ℕ)) (told : Option (ℕ → Option (List ℕ))) : Type 0 where
+  pub map : ℕ → Option (List ℕ)
+  pub is : told ≡ Some map
+  pub fits : Fits now map
+  pub others : (k : ℕ) → IsOutside v k → map k ≡ m k
+  pub first : map 0 ≡ m 0
+  pub reserved : (k : ℕ) → is_reserved now.given k ≡ (is_reserved v.given k || not (times k (run_blocks s run) == 0))
+  pub marks : (k : ℕ) → k < v.blocks → marked (per_block v) map k ≡ (if times k (run_blocks s run) == 0 then marked (per_block v) m k else 0)
+
+-- The stream has been cut: these blocks at its end are in it no more. It has no block that it had not; what was its and is
+-- so no more has no bit set and is reserved; no other bit changed, and nothing else is reserved; the same blocks are free; but
+-- for its inode, its arrays and bits nothing changed; and of the inode the ranges and runs alone.
+pub record Trimmed (o : Origin) (v now : Room) (m : ℕ → Option (List ℕ)) (gone : List ℕ) (told : Option (ℕ → Option (List ℕ))) (old new : ℕ → Bool) : Type 0 where
+  pub map : ℕ → Option (List ℕ)
+  pub is : told ≡ Some map
+  pub owns : Owns o now [] map
+  pub places : places_at o.sizes (contents m) o.id ≡ places_at o.sizes (contents map) o.id ++ gone
+  pub keeps : (k : ℕ) → Has (frame_at o.sizes (contents map) o.id) k → Has (frame_at o.sizes (contents m) o.id) k
+  pub fewer : (k : ℕ) → times k (whole_at o.sizes (contents map) o.id) ≤ times k (whole_at o.sizes (contents m) o.id)
+  pub reserved : (k : ℕ) → is_reserved now.given k ≡ (is_reserved v.given k || is_new (whole_at o.sizes (contents map) o.id) (whole_at o.sizes (contents m) o.id) k)
+  pub marks : (k : ℕ) → k < v.blocks → marked (per_block v) map k ≡ (if is_new (whole_at o.sizes (contents map) o.id) (whole_at o.sizes (contents m) o.id) k then 0 else marked (per_block v) m k)
+  pub free : (k : ℕ) → is_free now map k ≡ is_free v m k
+  pub others : (k : ℕ) → IsOutside v k → times k (frame_at o.sizes (contents m) o.id) ≡ 0 → map k ≡ m k
+  pub first : times 0 (frame_at o.sizes (contents m) o.id) ≡ 0 → map 0 ≡ m 0
+  pub written : AreWritten v old new (frame_at o.sizes (contents m) o.id)
+  pub kept : KeepsRest (contents m o.id) (contents map o.id)
+
+-- it has been cut by so many blocks
+abbrev pub HasTrimmed : Origin → Room → Room → (ℕ → Option (List ℕ)) → ℕ → Option (ℕ → Option (List ℕ)) → (ℕ → Bool) → (ℕ → Bool) → Type 0
+HasTrimmed o v now m n told old new = (gone : List ℕ) × (length gone ≡ n) × Trimmed o v now m gone told old new
+
+-- the levels behind the direct one have no arrays
+abbrev pub HasNoArrays : Origin → (ℕ → Option (List ℕ)) → Type 0
+HasNoArrays o m = ((fields o.sizes (contents m) o.id).indirect.len ≡ 0) × ((fields o.sizes (contents m) o.id).double_indirect.len ≡ 0)
+
+-- the size needs none of so many blocks at the stream's end
+abbrev pub MayLose : Origin → (ℕ → Option (List ℕ)) → ℕ → Type 0
+MayLose o m n = natural (fields o.sizes (contents m) o.id).size ≤ o.sizes.block_size * (length (places_at o.sizes (contents m) o.id) - n)
+
+-- No array names nothing: the levels behind the direct one have an array only where they have blocks, and a run is used in
+-- the last table that the double indirect level lists.
+pub record HasNoEmpty (o : Origin) (m : ℕ → Option (List ℕ)) : Type 0 where
+  pub indirect : ((fields o.sizes (contents m) o.id).indirect.len ≡ 0) ⊎ (0 < length (level_blocks o.sizes (levels_at o.sizes (contents m) o.id).table))
+  pub double : ((fields o.sizes (contents m) o.id).double_indirect.len ≡ 0) ⊎ UsesDouble o m
+  pub tables : 0 < length (second_arrays o.sizes (contents m) o.id) → table_length o.sizes * (length (second_arrays o.sizes (contents m) o.id) - 1) < length (used_runs (levels_at o.sizes (contents m) o.id).runs)
+
+-- Why nothing is taken of so many blocks: they are none, or the stream has none, or they are fewer than a run under double
+-- indirect has; and no array names nothing.
+pub record IsAtEnd (o : Origin) (m now : ℕ → Option (List ℕ)) (most : ℕ) : Type 0 where
+  pub why : (most ≡ 0) ⊎ ((length (places_at o.sizes (contents m) o.id) ≡ 0) ⊎ ((most < array_length o.sizes) × UsesDouble o now))
+  pub empty : HasNoEmpty o now
+
+-- It has been cut to its first blocks, so many: where it had no more, none is gone; else at least so many are left, and
+-- fewer than the blocks of an array more, which are none where the double indirect level has no blocks; and no array is
+-- left that names nothing.
+pub record HasTrimmedTo (o : Origin) (v now : Room) (m : ℕ → Option (List ℕ)) (blocks : ℕ) (told : Option (ℕ → Option (List ℕ))) (old new : ℕ → Bool) : Type 0 where
+  pub gone : List ℕ
+  pub trimmed : Trimmed o v now m gone told old new
+  pub few : length (places_at o.sizes (contents m) o.id) ≤ blocks → gone ≡ []
+  pub enough : blocks ≤ length (places_at o.sizes (contents m) o.id) → blocks ≤ length (places_at o.sizes (contents trimmed.map) o.id)
+  pub most : blocks ≤ length (places_at o.sizes (contents m) o.id) → length (places_at o.sizes (contents trimmed.map) o.id) < blocks + array_length o.sizes
+  pub exact : blocks ≤ length (places_at o.sizes (contents m) o.id) → ¬ UsesDouble o trimmed.map → length (places_at o.sizes (contents trimmed.map) o.id) ≡ blocks
+  pub empty : blocks < length (places_at o.sizes (contents m) o.id) → HasNoEmpty o trimmed.map

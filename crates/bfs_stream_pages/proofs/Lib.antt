@@ -1,0 +1,4 @@
+pub mod Others
+pub mod Writing
+pub mod Rooms
+pub mod Paged

@@ -1,0 +1,29 @@
+-- A stream whose bytes are pages.
+use Rattle.std.specs.Prelude.{◌≡◌, ℕ, pos, List, [], true, Option, Some, None, IsSome}
+use Rattle.bfs_bitmap.specs.Runs.{Room, is_free}
+use Rattle.bfs_stream.specs.Sizes.{Origin}
+use Rattle.bfs_stream.specs.Places.{fields, places_at, bytes_at}
+use Rattle.bfs_stream.specs.Told.{contents, AreTold}
+use Rattle.bfs_stream.specs.Grown.{Owns}
+use Rattle.bfs_stream.specs.declared.fault.GrowFault.{GrowFault}
+
+-- The stream stands and owns its blocks; they are told, and so is each free block; and it has so many bytes.
+pub record Held (o : Origin) (v : Room) (long : ℕ) (m : ℕ → Option (List ℕ)) : Type 0 where
+  pub owns : Owns o v [] m
+  pub told : AreTold m (places_at o.sizes (contents m) o.id)
+  pub spare : (k : ℕ) → is_free v m k ≡ true → IsSome (m k)
+  pub size : (fields o.sizes (contents m) o.id).size ≡ pos long
+
+-- the stream's bytes
+abbrev pub stream_of : Origin → (ℕ → Option (List ℕ)) → List ℕ
+stream_of o m = bytes_at o.sizes (contents m) o.id
+
+-- what is known: what is told, where anything was at the start, as long as no page that was to be added failed
+abbrev pub known : Option GrowFault → Option (ℕ → Option (List ℕ)) → Option (ℕ → Option (List ℕ)) → Option (ℕ → Option (List ℕ))
+known (Some fault) start told = None
+known None None told = None
+known None (Some m) told = told
+
+-- where something was told at the start, something is told now
+abbrev pub Tells : Option GrowFault → Option (ℕ → Option (List ℕ)) → Option (ℕ → Option (List ℕ)) → Type 0
+Tells failed start told = failed ≡ None → IsSome start → IsSome told

@@ -1,0 +1,55 @@
+-- What each step of writing or adding a page leaves.
+use Rattle.std.specs.Prelude.{◌≡◌, ◌<◌, ℕ, List, ◌++◌, length, Bool, Option, Some}
+use Rattle.std.specs.List.{flat_map}
+use Rattle.bfs_bitmap.specs.Runs.{Room}
+use Rattle.bfs_txn.specs.Pages.{with_page}
+use Rattle.bfs_stream.specs.Sizes.{Origin}
+use Rattle.bfs_stream.specs.Places.{places_at, whole_at}
+use Rattle.bfs_stream.specs.Told.{contents}
+use Rattle.bfs_stream.specs.Scans.{IsDamage}
+use Rattle.bfs_stream.specs.Grown.{AreWritten}
+use Rattle.bfs_stream.specs.declared.fault.GrowFault.{GrowFault}
+use Rattle.bfs_stream.specs.declared.fault.GrowFault.TheVariants as grow
+use Rattle.bfs_stream_pages.specs.Held.{Held, stream_of}
+use Rattle.bfs_stream_pages.specs.Moves.{Moved}
+
+-- a block could not be had, and none is damaged
+abbrev pub IsUndamaged : GrowFault → Type 0
+IsUndamaged (grow.NoRun wanted free) = ⊥
+IsUndamaged (grow.Full room) = ⊥
+IsUndamaged (grow.Block fault) = ¬ IsDamage fault
+
+-- all bytes of the stream's blocks, also those behind its size
+abbrev pub all_of : Origin → (ℕ → Option (List ℕ)) → List ℕ
+all_of o m = flat_map (contents m) (places_at o.sizes (contents m) o.id)
+
+-- what is told now: the stream is held, with so many bytes, and the volume has moved on
+pub record Comes (o : Origin) (v now : Room) (long : ℕ) (m : ℕ → Option (List ℕ)) (told : Option (ℕ → Option (List ℕ))) (old new : ℕ → Bool) : Type 0 where
+  pub map : ℕ → Option (List ℕ)
+  pub is : told ≡ Some map
+  pub held : Held o now long map
+  pub moved : Moved o v now m map
+  pub written : AreWritten v old new (whole_at o.sizes (contents map) o.id)
+
+-- the stream has a block at a place, and perhaps more bytes behind those that it had
+pub record HasRoom (o : Origin) (v now : Room) (long : ℕ) (m : ℕ → Option (List ℕ)) (index : ℕ) (told : Option (ℕ → Option (List ℕ))) (old new : ℕ → Bool) : Type 0 where
+  pub comes : Comes o v now long m told old new
+  pub inside : index < length (places_at o.sizes (contents comes.map) o.id)
+  pub rest : List ℕ
+  pub bytes : all_of o comes.map ≡ all_of o m ++ rest
+
+-- a page stands at a place of the stream's blocks
+pub record HasWritten (o : Origin) (v : Room) (long : ℕ) (m : ℕ → Option (List ℕ)) (at : ℕ) (page : List ℕ) (told : Option (ℕ → Option (List ℕ))) (old new : ℕ → Bool) : Type 0 where
+  pub comes : Comes o v v long m told old new
+  pub places : places_at o.sizes (contents comes.map) o.id ≡ places_at o.sizes (contents m) o.id
+  pub bytes : all_of o comes.map ≡ with_page at page (all_of o m)
+
+-- the stream has another size
+pub record HasSize (o : Origin) (v : Room) (long : ℕ) (m : ℕ → Option (List ℕ)) (told : Option (ℕ → Option (List ℕ))) (old new : ℕ → Bool) : Type 0 where
+  pub comes : Comes o v v long m told old new
+  pub bytes : all_of o comes.map ≡ all_of o m
+
+-- a page stands behind the stream's bytes
+pub record HasAdded (o : Origin) (v now : Room) (long : ℕ) (m : ℕ → Option (List ℕ)) (page : List ℕ) (told : Option (ℕ → Option (List ℕ))) (old new : ℕ → Bool) : Type 0 where
+  pub comes : Comes o v now long m told old new
+  pub bytes : stream_of o comes.map ≡ stream_of o m ++ page

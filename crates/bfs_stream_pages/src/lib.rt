@@ -1,0 +1,13 @@
+// The bytes of a stream as pages of 1,024 bytes, for the trees that stand in streams. What a caller of the pages knows of the
+// volume stands in specs/Moves.antt, and why a page can't be had in specs/Causes.antt.
+#![tactic(auto)]
+
+mod backing;
+mod laws;
+mod pages;
+
+pub use laws::others_stay;
+pub use pages::StreamPages;
+
+#[cfg(test)]
+mod tests;

@@ -1,0 +1,220 @@
+// The pages of one stream, over a volume that is lent.
+ghost use Rattle.std.specs.Prelude.{◌≡◌, ◌<◌, ◌%◌, ◌^◌, ℕ, List, Option, Some, IfSome, None, OnOk, IfErr, ◌+◌};
+ghost use Rattle.bfs_super.specs.Conditions.{IsValid, natural};
+ghost use Rattle.bfs_txn.specs.Faults.{AreLater};
+ghost use Rattle.bfs_stream.specs.Sizes.{sizes_of};
+ghost use Rattle.bfs_stream.specs.Grown.{IsOfVolume};
+ghost use Rattle.bfs_stream_pages.specs.Held.{Held, Tells, known};
+
+use crate::backing::Backing;
+use bfs_bitmap::Bitmap;
+use bfs_stream::GrowFault;
+use bfs_super::Super;
+use bfs_txn::{BlockFault, Edits, Pages, Steps};
+use std::alloc::Global;
+use std::snapshot::Snapshot;
+use std::sync::ledger::Ledger;
+
+/// One stream of a volume as pages of 1,024 bytes, over the blocks and the bitmap of that volume. A page that is added behind
+/// the last block makes the stream grow. Where it can't be added, nothing is known of the stream any more, each later call
+/// answers the fault of that one again, and the caller gives up what was changed.
+pub struct StreamPages<'a, 'b, E: Edits> {
+    edits: &'a mut E,
+    bitmap: &'b mut Bitmap,
+    backing: Backing,
+    length: u64,
+    failed: Option<GrowFault>,
+    start: Snapshot<E>,
+    ghost size: { E.size edits.now ≡ backing.sizes.block_size },
+    ghost volume: { IsOfVolume backing.sizes bitmap.now },
+    ghost whole: { length % 1024 ≡ 0 },
+    ghost tells: { Tells failed (E.told start.value) (E.told edits.now) },
+    ghost held: { (m : ℕ → Option (List ℕ)) → known failed (E.told start.value) (E.told edits.now) ≡ Some m → ∥ Held backing bitmap.now length m ∥₁ },
+}
+
+impl<'a, 'b, E: Edits> StreamPages<'a, 'b, E> {
+    /// The pages of the stream of the inode at a block, which has so many bytes. Takes no memory.
+    pub fn over(
+        alloc: Global,
+        edits: &'a mut E,
+        bitmap: &'b mut Bitmap,
+        inode: u64,
+        sup: &Super,
+        length: u64,
+    ) -> StreamPages<'a, 'b, E>
+        requires valid { IsValid sup.now }
+        requires inside { inode < natural sup.now.num_blocks }
+        requires size { E.size edits.old ≡ sup.now.block_size }
+        requires volume { IsOfVolume (sizes_of sup.now) bitmap.old }
+        requires whole { length % 1024 ≡ 0 }
+        requires held { (m : ℕ → Option (List ℕ)) → E.told edits.old ≡ Some m → ∥ Held (record { id = inode; sizes = sizes_of sup.now }) bitmap.old length m ∥₁ }
+        ensures edits { result.edits.ghost_name ≡ edits.entry.ghost_name }
+        ensures bitmap { result.bitmap.ghost_name ≡ bitmap.entry.ghost_name }
+        ensures edits_now { result.edits.now ≡ edits.old }
+        ensures bitmap_now { result.bitmap.now ≡ bitmap.old }
+        ensures backing { result.backing ≡ record { id = inode; sizes = sizes_of sup.now } }
+        ensures length { result.length ≡ length }
+        ensures failed { result.failed ≡ None }
+        ensures start { result.start.value ≡ edits.old }
+    {
+        let start = Snapshot::of(edits);
+        StreamPages {
+            edits,
+            bitmap,
+            backing: Backing::at(alloc, inode, sup),
+            length,
+            failed: None,
+            start,
+        }
+    }
+}
+
+// The length with a page more, where a signed number of 64 bits has it.
+fn longer(length: u64) -> Option<u64>
+    ensures { IfSome result (λ n. (n ≡ length + 1024) × (n < 2 ^ 63)) }
+{
+    if length < 0x7fff_ffff_ffff_f000 {
+        Some(length + 1024)
+    } else {
+        None
+    }
+}
+
+// Goes on where no page failed to be added.
+fn go_on(failed: Option<GrowFault>) -> Result<(), GrowFault>
+    ensures none { OnOk result (failed ≡ None) }
+    ensures again { IfErr result (λ fault. failed ≡ Some fault) }
+{
+    match failed {
+        Some(fault) => Err(fault),
+        None => Ok(()),
+    }
+}
+
+impl<E: Edits> Pages for StreamPages<'_, '_, E> {
+    ghost use Rattle.std.specs.Prelude.{◌≡◌, ◌∷◌, [], refl, List};
+    ghost use Rattle.std.specs.Option.{option_map};
+    ghost use Rattle.bfs_stream_pages.specs.Held.{known, stream_of};
+    ghost use Rattle.bfs_stream_pages.specs.Goes.{GoesOn};
+    ghost use Rattle.bfs_stream_pages.specs.Causes.{IsPageCause};
+    ghost use Rattle.std.proofs.Common.{◌∙◌, subst};
+    ghost use Rattle.bfs_stream.specs.Sizes.{Origin};
+    ghost use Rattle.bfs_stream_pages.specs.GoesLaws.{goes_same, goes_twice, cause_before, told_sized, known_sized};
+
+    type Fault = GrowFault;
+
+    ghost told = { λ p. option_map (stream_of p.backing) (known p.failed (E.told p.start.value) (E.told p.edits.now)) };
+
+    ghost size = { λ p. p.length };
+
+    ghost counts = { λ p. E.counts p.edits.now };
+
+    ghost frame = { λ p. p.edits.ghost_name ∷ p.bitmap.ghost_name ∷ [] };
+
+    ghost goes_on = { λ p q. (q.backing ≡ p.backing) × (E.frame q.edits.now ≡ E.frame p.edits.now) × GoesOn p.backing p.bitmap.now q.bitmap.now p.length q.length (known p.failed (E.told p.start.value) (E.told p.edits.now)) (known q.failed (E.told q.start.value) (E.told q.edits.now)) p.failed q.failed (E.changed p.edits.now) (E.changed q.edits.now) (E.counts p.edits.now) (E.counts q.edits.now) };
+
+    ghost is_cause = { λ p q fault. IsPageCause p.backing p.bitmap.now p.length (known p.failed (E.told p.start.value) (E.told p.edits.now)) p.failed (E.counts p.edits.now) (E.counts q.edits.now) fault };
+
+    ghost goes_on_same = { λ p. (refl, refl, goes_same p.backing p.bitmap.now p.length (known p.failed (E.told p.start.value) (E.told p.edits.now)) p.failed (E.changed p.edits.now) (E.counts p.edits.now)) };
+
+    ghost goes_on_twice = { λ p q r a b. (b.0 ∙ a.0, b.1 ∙ a.1, goes_twice p.backing p.bitmap.now q.bitmap.now r.bitmap.now p.length q.length r.length (known p.failed (E.told p.start.value) (E.told p.edits.now)) (known q.failed (E.told q.start.value) (E.told q.edits.now)) (known r.failed (E.told r.start.value) (E.told r.edits.now)) p.failed q.failed r.failed (E.changed p.edits.now) (E.changed q.edits.now) (E.changed r.edits.now) (E.counts p.edits.now) (E.counts q.edits.now) (E.counts r.edits.now) a.2 (subst (λ (o : Origin). GoesOn o q.bitmap.now r.bitmap.now q.length r.length (known q.failed (E.told q.start.value) (E.told q.edits.now)) (known r.failed (E.told r.start.value) (E.told r.edits.now)) q.failed r.failed (E.changed q.edits.now) (E.changed r.edits.now) (E.counts q.edits.now) (E.counts r.edits.now)) a.0 b.2)) };
+
+    ghost is_cause_before = { λ p q r fault a b. cause_before p.backing p.bitmap.now q.bitmap.now p.length q.length (known p.failed (E.told p.start.value) (E.told p.edits.now)) (known q.failed (E.told q.start.value) (E.told q.edits.now)) p.failed q.failed (E.changed p.edits.now) (E.changed q.edits.now) (E.counts p.edits.now) (E.counts q.edits.now) (E.counts r.edits.now) fault a.2 (subst (λ (o : Origin). IsPageCause o q.bitmap.now q.length (known q.failed (E.told q.start.value) (E.told q.edits.now)) q.failed (E.counts q.edits.now) (E.counts r.edits.now) fault) a.0 b) };
+
+    ghost sized = { λ p. told_sized p.backing p.bitmap.now p.length (known p.failed (E.told p.start.value) (E.told p.edits.now)) p.held (known_sized p.failed (E.told p.start.value) p.backing.sizes.block_size (E.size p.edits.now) (E.told p.edits.now) p.size (E.sized p.edits.now)) };
+
+    ghost whole = { λ p. p.whole };
+
+    fn length(&self) -> u64 {
+        self.length
+    }
+
+    fn get<L: Ledger>(
+        &mut self,
+        at: u64,
+        into: &mut [u8],
+        steps: &mut Steps<L>,
+    ) -> Result<(), GrowFault> {
+        steps.count();
+        match go_on(self.failed) {
+            Ok(()) => {}
+            Err(fault) => return Err(fault),
+        }
+        let mut block = match self.backing.buffer() {
+            Ok(block) => block,
+            Err(fault) => return Err(fault),
+        };
+        let (index, start) = self.backing.place(at);
+        match self
+            .backing
+            .read_page(self.edits, &mut block, index, start, into)
+        {
+            Ok(()) => {}
+            Err(fault) => return Err(fault),
+        }
+        Ok(())
+    }
+
+    fn set(&mut self, at: u64, from: &[u8]) -> Result<(), GrowFault> {
+        match go_on(self.failed) {
+            Ok(()) => {}
+            Err(fault) => return Err(fault),
+        }
+        let mut block = match self.backing.buffer() {
+            Ok(block) => block,
+            Err(fault) => return Err(fault),
+        };
+        let (index, start) = self.backing.place(at);
+        match self
+            .backing
+            .put_page(self.edits, &mut block, index, start, from)
+        {
+            Ok(()) => {}
+            Err(fault) => return Err(fault),
+        }
+        Ok(())
+    }
+
+    fn append(&mut self, from: &[u8]) -> Result<u64, GrowFault> {
+        match go_on(self.failed) {
+            Ok(()) => {}
+            Err(fault) => return Err(fault),
+        }
+        let at = self.length;
+        let Some(end) = longer(at) else {
+            return Err(GrowFault::Block(BlockFault::NoMemory));
+        };
+        let mut block = match self.backing.buffer() {
+            Ok(block) => block,
+            Err(fault) => return Err(fault),
+        };
+        match self
+            .backing
+            .add_page(self.bitmap, self.edits, &mut block, at, from)
+        {
+            Ok(()) => {}
+            Err(fault) => {
+                self.failed = Some(fault);
+                return Err(fault);
+            }
+        }
+        self.length = end;
+        Ok(at)
+    }
+}
+
+impl<E: Edits> Drop for StreamPages<'_, '_, E> {
+    fn drop(self)
+        ensures edits { self.exit.0.now ≡ self.entry.edits.now }
+        ensures bitmap { self.exit.1.0.now ≡ self.entry.bitmap.now }
+    {
+        let StreamPages {
+            edits: _,
+            bitmap: _,
+            backing: _,
+            length: _,
+            failed: _,
+            start: _,
+        } = self;
+    }
+}

@@ -1,0 +1,14 @@
+mod Answered
+mod Causes
+mod Chaining
+mod Composed
+mod Gained
+mod Holding
+mod Lengthened
+mod Linked
+mod Moved
+mod Opened
+mod Ordered
+mod Pages
+mod Scanning
+mod Slotted

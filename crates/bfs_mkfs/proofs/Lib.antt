@@ -1,5 +1,16 @@
+mod Bits
+mod Bytes
+mod Fields
+mod Leaves
 mod Meets
-pub mod Planned
-pub mod Trees
-pub mod Whole
+mod NewSuper
+mod NewTrees
+mod NewVolume
+mod Planned
+mod Prepared
+mod Standing
+mod Stood
+mod Streams
+mod Trees
+mod Whole
 mod Wider

@@ -155,13 +155,13 @@ opened block a b s long behind known = meets_written 1 block known
       record { super = is; first = λ inside below. absurd (omega (arith, inside, at_one, behind.0)); second = λ inside below. absurd (omega (arith, inside, at_one, behind.1)) },
     ))
 
-pub opening_image : {Q : ℕ → List ℕ → Type 0} (block : List ℕ) (a b : Area) (s : State) (c : List ℕ) → AreBehind a b → end_of b ≤ s.size → Meets (Opening block a b) Q s → IsImage s c → IsBlank c ⊎ IsWritten block a b c
-opening_image block a b s c behind room known image =
+pub opening_image : {Q : ℕ → List ℕ → Type 0} (block : List ℕ) (a b : Area) (n : ℕ) (s : State) (c : List ℕ) → AreBehind a b → end_of b ≤ n → n ≤ s.size → Meets (Opening block a b) Q s → IsImage s c → IsBlank c ⊎ IsWritten block a b n c
+opening_image block a b n s c behind fits room known image =
     let at = meets_image known image in
     let inside : (k : ℕ) → k < length c / 512 → k < s.size = λ k lt. omega (arith, image.size, lt) in
-    let some : 1 < s.size = omega (arith, behind.1, room) in
+    let some : 1 < s.size = omega (arith, behind.1, fits, room) in
     ⊎_elim (λ blank. inl blank)
-    (λ new. inr (record { long = omega (arith, image.size, room); super = new; first = λ k lt. (at k (inside k lt)).first; second = λ k lt. (at k (inside k lt)).second }))
+    (λ new. inr (record { inside = fits; long = omega (arith, image.size, room); super = new; first = λ k lt. (at k (inside k lt)).first; second = λ k lt. (at k (inside k lt)).second }))
     ((at 1 some).super refl)
 
 -- a property, and that there is a superblock's sector

@@ -80,15 +80,15 @@ places_of g stamp bitmap trees is is_bitmap is_trees =
 -- what is written is laid
 pub laid : (g : Geometry) (label : List ℕ) (stamp : ℤ) (block bitmap trees c : List ℕ) → IsPlanned g
     → bitmap ≡ bitmap_bytes g.used (bitmap_length g.blocks g.block_size * g.block_size) → HasTrees g stamp trees → block ≡ sector_of (made g label)
-    → IsWritten block (area (g.block_size / 512) bitmap) (area (g.block_size / 512 * g.root) trees) c → IsLaid g label stamp c
-laid g label stamp block bitmap trees c is is_bitmap is_trees is_block written =
+    → (n : ℕ) → IsWritten block (area (g.block_size / 512) bitmap) (area (g.block_size / 512 * g.root) trees) n c → IsLaid g label stamp c
+laid g label stamp block bitmap trees c is is_bitmap is_trees is_block n written =
     let size = g.block_size in
     let r = size / 512 in
     let bl = bitmap_length g.blocks size in
     let p = places_of g stamp bitmap trees is is_bitmap is_trees in
     let nb = r * bl in
     let nt = r * (5 * tree_blocks g) in
-    let long = written.long in
+    let long : 512 * end_of (area (r * g.root) trees) ≤ length c = omega (arith, written.inside, written.long) in
     let the_bitmap : take (512 * nb) (drop (512 * r) c) ≡ bitmap = area_is c bitmap r nb p.long_bitmap (omega (arith, p.order, p.long_bitmap, long)) (λ k low high. written.first k (omega (arith, high, p.order, p.long_bitmap, long)) low (omega (arith, high, p.long_bitmap))) in
     let the_trees : take (512 * nt) (drop (512 * (r * g.root)) c) ≡ trees = area_is c trees (r * g.root) nt p.long_trees (omega (arith, p.long_trees, long)) (λ k low high. written.second k (omega (arith, high, p.long_trees, long)) low (omega (arith, high, p.long_trees))) in
     let from_blocks : (first n : ℕ) → blocks_in size first n c ≡ take (512 * (r * n)) (drop (512 * (r * first)) c) = λ first n.
@@ -102,10 +102,11 @@ laid g label stamp block bitmap trees c is is_bitmap is_trees is_block written =
     }
 
 -- a disk reads as what was opened
-pub reads_written : {P : ℕ → List ℕ → Type 0} (block : List ℕ) (a b : Area) (s : State) (c : List ℕ) → 1 < s.size → end_of b ≤ s.size → Meets P (Opened block a b) s → ReadsAs s c → IsWritten block a b c
-reads_written block a b s c some room known reads =
+pub reads_written : {P : ℕ → List ℕ → Type 0} (block : List ℕ) (a b : Area) (n : ℕ) (s : State) (c : List ℕ) → 1 < s.size → end_of b ≤ n → n ≤ s.size → Meets P (Opened block a b) s → ReadsAs s c → IsWritten block a b n c
+reads_written block a b n s c some fits room known reads =
     let inside : (k : ℕ) → k < length c / 512 → k < s.size = λ k lt. omega (arith, reads.size, lt) in
     record {
+      inside = fits;
       long = omega (arith, reads.size, room);
       super = reads.each 1 some ∙ (known.reads 1 some).super refl;
       first = λ k lt low high. reads.each k (inside k lt) ∙ (known.reads k (inside k lt)).first low high;

@@ -62,9 +62,10 @@ pub record Opened (block : List ℕ) (a b : Area) (k : ℕ) (c : List ℕ) : Typ
   pub first : Fits a k c
   pub second : Fits b k c
 
--- the whole of what is written: the superblock's sector and both areas
-pub record IsWritten (block : List ℕ) (a b : Area) (image : List ℕ) : Type 0 where
-  pub long : 512 * end_of b ≤ length image
+-- the whole of what is written: the superblock's sector and both areas, which lie in the image's first n sectors
+pub record IsWritten (block : List ℕ) (a b : Area) (n : ℕ) (image : List ℕ) : Type 0 where
+  pub inside : end_of b ≤ n
+  pub long : 512 * n ≤ length image
   pub super : sector 1 image ≡ block
   pub first : (k : ℕ) → k < length image / 512 → Fits a k (sector k image)
   pub second : (k : ℕ) → k < length image / 512 → Fits b k (sector k image)

@@ -1,5 +1,6 @@
-// Formats a volume. What is written is the definition `Laid` (specs/Laid.antt); what a crash may leave on the way is the
-// old image, an image whose superblock is blank, or the whole new volume (specs/Written.antt).
+// Formats a volume. What is written is the definition `Laid` (specs/Laid.antt), and it is whole with the empty tree
+// (`IsNew`, specs/Format.antt); what a crash may leave on the way is the old image, an image whose superblock is blank, or
+// the whole new volume (specs/Written.antt).
 #![tactic(auto)]
 
 mod layout;

@@ -5,8 +5,8 @@ ghost use Rattle.bfs_base.specs.Moments.{Passed};
 ghost use Rattle.bfs_disk.specs.State.{State, Tells, Holds, IsQuiet, ReadsAs};
 ghost use Rattle.bfs_disk.specs.Disk.{HasSectors};
 ghost use Rattle.bfs_super.specs.Label.{IsLabel};
-ghost use Rattle.bfs_mkfs.specs.Laid.{IsPlanned, IsLaid};
-ghost use Rattle.bfs_mkfs.specs.Format.{IsRefused, HasCauseIn};
+ghost use Rattle.bfs_mkfs.specs.Laid.{IsPlanned};
+ghost use Rattle.bfs_mkfs.specs.Format.{IsNew, IsRefused, HasCauseIn};
 
 use crate::steps::write_volume;
 use crate::volume::{bitmap, superblock, trees};
@@ -37,16 +37,16 @@ pub fn format<D: Disk>(
     requires label { IsLabel label.now }
     requires room { HasSectors (D.size disk.old) (geometry.now.blocks * (geometry.now.block_size / 512)) }
 
-    // At Ok the disk is quiet and reads as the new volume.
-    ensures laid { (image : List ℕ) → Tells (D.state disk.old) (Holds image)
-        → OnOk result (Tells (D.state disk.new) (λ s. IsQuiet s × ((c : List ℕ) → ReadsAs s c → IsLaid geometry.now label.now stamp c))) }
+    // At Ok the disk is quiet and reads as the new volume, which is whole with the empty tree.
+    ensures made { (image : List ℕ) → Tells (D.state disk.old) (Holds image)
+        → OnOk result (Tells (D.state disk.new) (λ s. IsQuiet s × ((c : List ℕ) → ReadsAs s c → IsNew geometry.now label.now stamp c))) }
 
     // A crash at any moment leaves the old image, one whose superblock is refused, or the new volume; so it is for the
     // moments since an earlier one.
     ensures time { (image : List ℕ) → Tells (D.state disk.old) (Holds image)
-        → Passed (D.clock disk.old) (D.clock disk.new) (D.since disk.old) (D.since disk.new) (λ c. (c ≡ image) ⊎ (IsRefused c ⊎ IsLaid geometry.now label.now stamp c)) }
+        → Passed (D.clock disk.old) (D.clock disk.new) (D.since disk.old) (D.since disk.new) (λ c. (c ≡ image) ⊎ (IsRefused c ⊎ IsNew geometry.now label.now stamp c)) }
     ensures moments { (image : List ℕ) → Tells (D.state disk.old) (Holds image) → (c : List ℕ) → D.since disk.new (D.clock disk.old) c
-        → (c ≡ image) ⊎ (IsRefused c ⊎ IsLaid geometry.now label.now stamp c) }
+        → (c ≡ image) ⊎ (IsRefused c ⊎ IsNew geometry.now label.now stamp c) }
 
     // Want of memory leaves the disk as it was. A failed disk has its cause in a count that rose.
     ensures untouched { IfErr result (λ fault. fault ≡ FormatFault.NoMemory → D.state disk.new ≡ D.state disk.old) }

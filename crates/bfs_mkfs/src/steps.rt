@@ -52,8 +52,8 @@ pub fn open<D: Disk>(disk: &mut D, block: &[u8; 512]) -> Result<(), Failed>
     ensures cause { HasCause (D.faults disk.old) (D.faults disk.new) result }
     ensures next { (a b : Area) → AreBehind a b → HasSectors (D.size disk.old) (end_of b) → Tells (D.state disk.old) (Meets (Filled a b) (Filled a b))
         → OnOk result (Tells (D.state disk.new) (λ s. IsQuiet s × Meets (Opened block.now a b) (Opened block.now a b) s)) }
-    ensures time { (a b : Area) → AreBehind a b → HasSectors (D.size disk.old) (end_of b) → Tells (D.state disk.old) (Meets (Filled a b) (Filled a b))
-        → Passed (D.clock disk.old) (D.clock disk.new) (D.since disk.old) (D.since disk.new) (λ c. IsBlank c ⊎ IsWritten block.now a b c) }
+    ensures time { (a b : Area) (n : ℕ) → AreBehind a b → end_of b ≤ n → HasSectors (D.size disk.old) n → Tells (D.state disk.old) (Meets (Filled a b) (Filled a b))
+        → Passed (D.clock disk.old) (D.clock disk.new) (D.since disk.old) (D.since disk.new) (λ c. IsBlank c ⊎ IsWritten block.now a b n c) }
 {
     disk.write(1, block)?;
     disk.barrier()
@@ -77,8 +77,8 @@ pub fn write_volume<D: Disk>(
     ensures cause { HasCause (D.faults disk.old) (D.faults disk.new) result }
     ensures done { (image : List ℕ) → Tells (D.state disk.old) (Holds image)
         → OnOk result (Tells (D.state disk.new) (λ s. IsQuiet s × Meets (Opened block.now (area at first.now) (area behind second.now)) (Opened block.now (area at first.now) (area behind second.now)) s)) }
-    ensures time { (image : List ℕ) → Tells (D.state disk.old) (Holds image)
-        → Passed (D.clock disk.old) (D.clock disk.new) (D.since disk.old) (D.since disk.new) (λ c. (c ≡ image) ⊎ (IsBlank c ⊎ IsWritten block.now (area at first.now) (area behind second.now) c)) }
+    ensures time { (n : ℕ) (image : List ℕ) → behind + length second.now / 512 ≤ n → HasSectors (D.size disk.old) n → Tells (D.state disk.old) (Holds image)
+        → Passed (D.clock disk.old) (D.clock disk.new) (D.since disk.old) (D.since disk.new) (λ c. (c ≡ image) ⊎ (IsBlank c ⊎ IsWritten block.now (area at first.now) (area behind second.now) n c)) }
 {
     clear(disk)?;
     fill(disk, at, first, behind, second)?;

@@ -2,7 +2,7 @@
 use Rattle.std.specs.Prelude.{◌≡◌, ◌⊎◌, ◌<◌, ◌≤◌, ℕ, pos, ◌*◌, ◌/◌, ◌^◌, List, [], ◌++◌, Option, Some, codes}
 use Rattle.std.specs.Fmt.{decimal}
 use Rattle.bfs_disk.specs.Disk.{HasSectors}
-use Rattle.bfs_mkfs.specs.Laid.{IsLaid}
+use Rattle.bfs_mkfs.specs.Format.{IsNew}
 use Rattle.bfs_ports.specs.Ports.{StandsAt}
 use Rattle.bfs_super.specs.declared.geometry.Geometry.{Geometry}
 use Rattle.bfs_super.specs.Geometry.{IsPlan, log_length, least_blocks}
@@ -10,14 +10,15 @@ use Rattle.bfs_tool.specs.declared.make.Making.{Making}
 use Rattle.bfs_tool.specs.declared.make.Making.TheVariants as makings
 
 -- The image of a new volume with so many blocks of this size and this label, made at the second of the clock: where the
--- clock tells at which second it stands, at that one.
+-- clock tells at which second it stands, at that one. It is laid out by these numbers, and whole with the empty tree of that
+-- second.
 pub record IsNewVolume (blocks size : ℕ) (label : List ℕ) (stands : Option ℕ) (image : List ℕ) : Type 0 where
   pub layout : Geometry
   pub plan : IsPlan blocks size (log_length blocks) layout
   pub seconds : ℕ
   pub early : seconds < 2 ^ 40
   pub told : StandsAt stands seconds
-  pub laid : IsLaid layout label (pos (seconds * 65536)) image
+  pub new : IsNew layout label (pos (seconds * 65536)) image
 
 -- the blocks that such a volume takes, and the sectors that it fills
 abbrev pub least : ℕ → ℕ → ℕ

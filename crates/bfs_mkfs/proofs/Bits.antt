@@ -8,7 +8,7 @@ use Rattle.std.proofs.lemmas.List.{get_or-take, get_or-drop, get_or-append-add, 
 use Rattle.bfs_bitmap.specs.Bits.{bit_of}
 use Rattle.bfs_bitmap.specs.Runs.{marked}
 use Rattle.bfs_mkfs.specs.Laid.{bitmap_bytes, blocks_in}
-use Rattle.bfs_fresh.proofs.Bytes.{blocks_by, part_of}
+use Rattle.bfs_mkfs.proofs.Bytes.{blocks_by, part_of}
 
 -- the bits of a byte whose lowest are set
 low_bits : (u i : ℕ) → bit_at (2 ^ u - 1) i ≡ cond (nat_lt i u) 1 0

@@ -32,10 +32,10 @@ use Rattle.bfs_sound.specs.Nodes.{HasNode, AreApart}
 use Rattle.bfs_sound.specs.Listings.{IsChild, IsRow, Lists, IsIndex, IsIndexRow, IsIndexOf, Stands}
 use Rattle.bfs_mkfs.specs.Laid.{tree_blocks, blocks_in, name_at, size_at, modified_at, root_rows, index_rows, root_tree, indices_tree, name_tree, size_tree, modified_tree, IsPlanned, HasTrees}
 use Rattle.bfs_mkfs.specs.declared.tree.NewTree.{NewTree}
-use Rattle.bfs_fresh.proofs.Bytes.{blocks_by}
-use Rattle.bfs_fresh.proofs.Fields.{uid_is, gid_is, created_is, modified_is, changed_is, attributes_are, small_data_is}
-use Rattle.bfs_fresh.proofs.Stood.{Stood}
-use Rattle.bfs_fresh.proofs.Leaves.{root_stood, indices_stood, name_stood, size_stood, modified_stood}
+use Rattle.bfs_mkfs.proofs.Bytes.{blocks_by}
+use Rattle.bfs_mkfs.proofs.Fields.{uid_is, gid_is, created_is, modified_is, changed_is, attributes_are, small_data_is}
+use Rattle.bfs_mkfs.proofs.Stood.{Stood}
+use Rattle.bfs_mkfs.proofs.Leaves.{root_stood, indices_stood, name_stood, size_stood, modified_stood}
 
 -- keys that tie are the same
 tied : (o : Ordering) → is_eq o ≡ true → o ≡ Equal

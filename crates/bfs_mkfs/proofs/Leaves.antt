@@ -15,8 +15,8 @@ use Rattle.bfs_values.specs.Links.{link_by, link_in}
 use Rattle.bfs_sound.specs.Volumes.{Volume}
 use Rattle.bfs_mkfs.specs.Laid.{pages_length, blocks_in, tree_blocks, name_at, size_at, modified_at, root_rows, index_rows, root_tree, indices_tree, name_tree, size_tree, modified_tree, IsPlanned, HasTrees}
 use Rattle.bfs_mkfs.proofs.Planned.{used_bound}
-use Rattle.bfs_fresh.proofs.Bytes.{part_of, middle, blocks_by}
-use Rattle.bfs_fresh.proofs.Stood.{IsPlainLeaf, Stood, stood}
+use Rattle.bfs_mkfs.proofs.Bytes.{part_of, middle, blocks_by}
+use Rattle.bfs_mkfs.proofs.Stood.{IsPlainLeaf, Stood, stood}
 
 -- a small number is no link
 plain_link : (n : ℕ) → n < 2 ^ 62 → link_in (pos n) ≡ Number n

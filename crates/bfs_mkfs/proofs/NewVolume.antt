@@ -28,10 +28,10 @@ use Rattle.bfs_sound.specs.Whole.{HasIndices, IsSound}
 use Rattle.bfs_mkfs.specs.Laid.{pages_length, tree_blocks, blocks_in, bitmap_bytes, name_at, size_at, modified_at, IsPlanned, HasTrees}
 use Rattle.bfs_bitmap.specs.Runs.{marked}
 use Rattle.bfs_mkfs.proofs.Trees.{block_bounds}
-use Rattle.bfs_fresh.proofs.Bytes.{blocks_by}
-use Rattle.bfs_fresh.proofs.Bits.{new_marked}
-use Rattle.bfs_fresh.proofs.Leaves.{root_stood, indices_stood, name_stood, size_stood, modified_stood, indices_at, used_at}
-use Rattle.bfs_fresh.proofs.Standing.{the_root, no_directory, rows_proper, index_row, new_stands}
+use Rattle.bfs_mkfs.proofs.Bytes.{blocks_by}
+use Rattle.bfs_mkfs.proofs.Bits.{new_marked}
+use Rattle.bfs_mkfs.proofs.Leaves.{root_stood, indices_stood, name_stood, size_stood, modified_stood, indices_at, used_at}
+use Rattle.bfs_mkfs.proofs.Standing.{the_root, no_directory, rows_proper, index_row, new_stands}
 
 -- the only entry of the tree's nodes
 no_entries : {X : Type 0} (es : List X) → length es ≡ 0 → es ≡ []

@@ -19,10 +19,10 @@ use Rattle.bfs_sound.specs.Inodes.{mode_bits, content, inode_blocks, IsOwner}
 use Rattle.bfs_mkfs.specs.Laid.{pages_length, IsNewInode, IsNewTree, IsLeaf, new_header}
 use Rattle.bfs_mkfs.specs.declared.tree.NewTree.{NewTree}
 use Rattle.bfs_mkfs.proofs.Trees.{pages_of}
-use Rattle.bfs_fresh.proofs.Bytes.{part_of, take_of, blocks_by, joined_blocks}
-use Rattle.bfs_fresh.proofs.Fields.{is_inode, mode_is}
-use Rattle.bfs_fresh.proofs.NewTrees.{rows_are, whole_tree}
-use Rattle.bfs_fresh.proofs.Streams.{has_stream, content_is, inode_blocks_are}
+use Rattle.bfs_mkfs.proofs.Bytes.{part_of, take_of, blocks_by, joined_blocks}
+use Rattle.bfs_mkfs.proofs.Fields.{is_inode, mode_is}
+use Rattle.bfs_mkfs.proofs.NewTrees.{rows_are, whole_tree}
+use Rattle.bfs_mkfs.proofs.Streams.{has_stream, content_is, inode_blocks_are}
 
 -- rows that can be a leaf of a tree, each value a plain number
 pub record IsPlainLeaf (kind : KeyKind) (rows : List Row) : Type 0 where

@@ -18,11 +18,11 @@ use Rattle.bfs_mkfs.specs.Laid.{made, shift_of_size, address, IsPlanned, IsLaid}
 use Rattle.bfs_mkfs.proofs.Planned.{some_blocks, used_bound}
 use Rattle.bfs_mkfs.proofs.Trees.{block_bounds}
 use Rattle.bfs_mkfs.proofs.Whole.{sectors_of}
-use Rattle.bfs_fresh.proofs.Bytes.{blocks_by}
+use Rattle.bfs_mkfs.proofs.Bytes.{blocks_by}
 use Rattle.std.proofs.Math.Pow.{pow_mono}
 use Rattle.std.proofs.Math.Nat.{mul-le-mul_right}
-use Rattle.bfs_fresh.proofs.Leaves.{indices_at, used_at}
-use Rattle.bfs_fresh.proofs.NewVolume.{new_sound}
+use Rattle.bfs_mkfs.proofs.Leaves.{indices_at, used_at}
+use Rattle.bfs_mkfs.proofs.NewVolume.{new_sound}
 
 has_block_size : (size : ℕ) → IsBlockSize size → (10 ≤ shift_of_size size) × (shift_of_size size ≤ 13) × (size ≡ 2 ^ shift_of_size size)
 has_block_size size (inl e) = subst (λ n. (10 ≤ shift_of_size n) × (shift_of_size n ≤ 13) × (n ≡ 2 ^ shift_of_size n)) (sym e) (omega arith, omega arith, refl)

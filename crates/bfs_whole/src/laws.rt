@@ -1,0 +1,17 @@
+// Laws of whole images: each is the contract of a function that does nothing.
+ghost use Rattle.bfs_whole.specs.OneTree.{RecoveredTreeIsOne, SoundTreeIsOne, TreeIsOne};
+
+/// At most one tree is whole with an image.
+pub fn tree_is_one()
+    ensures { TreeIsOne }
+{}
+
+/// A volume is sound with at most one tree.
+pub fn sound_tree_is_one()
+    ensures { SoundTreeIsOne }
+{}
+
+/// An image recovers to at most one tree.
+pub fn recovered_tree_is_one()
+    ensures { RecoveredTreeIsOne }
+{}

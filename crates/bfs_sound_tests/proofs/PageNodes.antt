@@ -1,0 +1,179 @@
+-- The volume with an interior page, duplicates and a free page is whole.
+use Rattle.std.proofs.Common.{◌≡◌, inl, inr, ℕ, List, [], ◌∷◌, ◌≤◌, Some, false, refl, ap, arith, length}
+use Rattle.std.specs.Prelude.{codes, ◌==◌}
+use Rattle.std.specs.Ordering.{nat_cmp}
+use Rattle.std.specs.FinMap.{find}
+use Rattle.std.specs.Str.{is_utf8, chars}
+use Rattle.std.specs.Char.{encode_utf8}
+use Rattle.bfs_base.specs.Keys.{number_of}
+use Rattle.bfs_base.specs.Lists.{times}
+use Rattle.bfs_base.specs.declared.kind.KeyKind.TheVariants.{Text, I64}
+use Rattle.bfs_bitmap.specs.Bits.{bit_of}
+use Rattle.bfs_bytes.specs.Fields.{unsigned_at, signed32_at, signed64_at, run_in, unsigned_bytes, signed32_bytes, signed64_bytes, run_bytes}
+use Rattle.bfs_inode.specs.Inode.{runs_in}
+use Rattle.bfs_node.specs.Header.{header_bytes}
+use Rattle.bfs_node.specs.Page.{rows_of, head_bytes}
+use Rattle.bfs_smalldata.specs.Items.{Item, items_of, bytes_of}
+use Rattle.bfs_stream.specs.Places.{array_runs, level_blocks, arrays_of, bytes_at}
+use Rattle.bfs_tree.specs.Trees.{Node}
+use Rattle.bfs_rows.specs.Rows.{rows_in}
+use Rattle.bfs_values.specs.Links.{link_in}
+use Rattle.bfs_sound.specs.Listings.{IsChild, Lists, IsIndex}
+use Rattle.bfs_sound.specs.Inodes.{kind_bits}
+use Rattle.bfs_sound.specs.Nodes.{HasNode}
+use Rattle.bfs_sound.specs.Owners.{node_blocks, index_blocks, reach}
+use Rattle.bfs_sound.specs.Whole.{IsSound}
+use Rattle.bfs_sound_tests.specs.Bytes.{zero_block, level_bytes, inode_block, header_block, leaf_block, bitmap_block}
+use Rattle.bfs_sound_tests.specs.Worked.{index_kinds, root_node, tree_of}
+use Rattle.bfs_sound_tests.specs.Pages.{block_list, blocks, root_rows, name_rows, size_rows, a_node, b_node, c_node, nodes, PagesAreWhole}
+use Rattle.bfs_sound_tests.proofs.Finite.{most, one_named, all_long}
+use Rattle.bfs_sound_tests.proofs.Plain.{IsTested, is_node}
+use Rattle.bfs_sound_tests.proofs.Streams.{names_of}
+use Rattle.bfs_sound_tests.proofs.Standing.{lists, listing, reached, children_of, apart_by, IsListing, IsCounted, sound}
+use Rattle.bfs_sound_tests.proofs.PageTrees.{v, root_tree, indices_tree, name_tree, size_tree, time_rows, time_tree, a_owner, b_owner, c_owner}
+use Rattle.bfs_sound_tests.proofs.Supers.{whole, reads_28, full_28}
+use Rattle.bfs_sound_tests.proofs.Images.{to_image}
+
+tested : IsTested 4 nodes index_kinds
+unfolding is_utf8 chars encode_utf8
+tested = record { sorted = tt; in_order = tt; top = root_node; there = refl; dir = refl; unnamed = refl; own = refl; parents = refl; lead = refl; named = refl; apart = refl; by_name = refl; by_size = refl; by_time = refl }
+
+abbrev called : List ℕ → Item
+called name = record { kind = 0x43535452; name = 19 ∷ []; bytes = name }
+
+root : HasNode v 4 root_node
+unfolding unsigned_at signed32_at signed64_at run_in runs_in unsigned_bytes signed32_bytes signed64_bytes run_bytes array_runs level_blocks bytes_at rows_of header_bytes head_bytes bytes_of level_bytes inode_block header_block leaf_block blocks items_of rows_in
+root = record {
+  inode = root_tree.owner.inode;
+  kind = refl;
+  mode = refl;
+  uid = refl;
+  gid = refl;
+  created = refl;
+  modified = refl;
+  changed = refl;
+  content_is = (root_tree.owner.stream, root_tree.tree, refl, refl);
+  items = [];
+  area = refl;
+  distinct = λ name. omega arith;
+  short = tt;
+  called = record { root_name = λ _. refl; root_parent = λ _. refl; name = λ other. absurd (other refl); parent = λ other. absurd (other refl) };
+  directory = tt;
+  apart = λ name. omega arith;
+  attributes = refl;
+}
+
+a_has : HasNode v 23 a_node
+unfolding unsigned_at signed32_at signed64_at run_in runs_in unsigned_bytes signed32_bytes signed64_bytes run_bytes array_runs level_blocks bytes_at rows_of header_bytes head_bytes bytes_of level_bytes inode_block header_block leaf_block blocks items_of rows_in
+a_has = record {
+  inode = a_owner.inode;
+  kind = refl;
+  mode = refl;
+  uid = refl;
+  gid = refl;
+  created = refl;
+  modified = refl;
+  changed = refl;
+  content_is = (a_owner.stream, refl, refl);
+  items = called (codes "a") ∷ [];
+  area = refl;
+  distinct = one_named (λ (item : Item). item.name) (called (codes "a") ∷ []) refl;
+  short = (most 1 255 refl, tt);
+  called = record { root_name = λ e. absurd (apart_by 23 4 refl e); root_parent = λ e. absurd (apart_by 23 4 refl e); name = λ _. (_, refl, refl, refl); parent = λ _. names_of _ 4 13 refl refl };
+  directory = tt;
+  apart = λ name. omega arith;
+  attributes = refl;
+}
+
+b_has : HasNode v 24 b_node
+unfolding unsigned_at signed32_at signed64_at run_in runs_in unsigned_bytes signed32_bytes signed64_bytes run_bytes array_runs level_blocks bytes_at rows_of header_bytes head_bytes bytes_of level_bytes inode_block header_block leaf_block blocks items_of rows_in
+b_has = record {
+  inode = b_owner.inode;
+  kind = refl;
+  mode = refl;
+  uid = refl;
+  gid = refl;
+  created = refl;
+  modified = refl;
+  changed = refl;
+  content_is = (b_owner.stream, refl, refl);
+  items = called (codes "b") ∷ [];
+  area = refl;
+  distinct = one_named (λ (item : Item). item.name) (called (codes "b") ∷ []) refl;
+  short = (most 1 255 refl, tt);
+  called = record { root_name = λ e. absurd (apart_by 24 4 refl e); root_parent = λ e. absurd (apart_by 24 4 refl e); name = λ _. (_, refl, refl, refl); parent = λ _. names_of _ 4 13 refl refl };
+  directory = tt;
+  apart = λ name. omega arith;
+  attributes = refl;
+}
+
+c_has : HasNode v 26 c_node
+unfolding unsigned_at signed32_at signed64_at run_in runs_in unsigned_bytes signed32_bytes signed64_bytes run_bytes array_runs level_blocks bytes_at rows_of header_bytes head_bytes bytes_of level_bytes inode_block header_block leaf_block blocks items_of rows_in
+c_has = record {
+  inode = c_owner.inode;
+  kind = refl;
+  mode = refl;
+  uid = refl;
+  gid = refl;
+  created = refl;
+  modified = refl;
+  changed = refl;
+  content_is = (c_owner.stream, refl, refl);
+  items = called (codes "c") ∷ [];
+  area = refl;
+  distinct = one_named (λ (item : Item). item.name) (called (codes "c") ∷ []) refl;
+  short = (most 1 255 refl, tt);
+  called = record { root_name = λ e. absurd (apart_by 26 4 refl e); root_parent = λ e. absurd (apart_by 26 4 refl e); name = λ _. (_, refl, refl, refl); parent = λ _. names_of _ 4 13 refl refl };
+  directory = tt;
+  apart = λ name. omega arith;
+  attributes = refl;
+}
+
+root_lists : Lists v (tree_of nodes) 4 root_node
+root_lists = lists v (tree_of nodes) 4 root_node root_rows root_tree.rows_of
+    (inl (refl, refl), (inr (inl (refl, refl)), (inr (inr (23, refl, child (codes "a") 23 a_node refl refl refl refl)), (inr (inr (24, refl, child (codes "b") 24 b_node refl refl refl refl)), (inr (inr (26, refl, child (codes "c") 26 c_node refl refl refl refl)), tt))))) refl refl
+    (children_of nodes 4 root_rows tested ((λ other _. absurd (other refl)), ((λ _ _. refl), ((λ _ _. refl), ((λ _ _. refl), tt)))))
+  where
+    child : (name : List ℕ) (id : ℕ) (n : Node) → find nat_cmp id nodes ≡ Some n → (id == 4) ≡ false → n.parent ≡ 4 → n.name ≡ name → IsChild (tree_of nodes) 4 name id
+    child name id n there other up named = record { node = n; there = is_node 4 nodes index_kinds tested id n there; not_root = apart_by id 4 other; parent = up; named = named }
+
+index_directory : IsIndex v 7 Text
+unfolding unsigned_at signed32_at signed64_at run_in runs_in unsigned_bytes signed32_bytes signed64_bytes run_bytes array_runs level_blocks bytes_at rows_of header_bytes head_bytes bytes_of level_bytes inode_block header_block leaf_block blocks
+index_directory = record { owner = indices_tree.owner; mode = refl; kind_is = tt; tree = indices_tree.tree }
+
+two_once : (k : ℕ) → times k (23 ∷ 24 ∷ []) ≤ 1
+two_once k = grind arith
+
+by_time : IsListing v (tree_of nodes) (codes "last_modified") 16 I64
+unfolding unsigned_at signed32_at signed64_at run_in runs_in unsigned_bytes signed32_bytes signed64_bytes run_bytes array_runs level_blocks bytes_at rows_of header_bytes head_bytes bytes_of level_bytes inode_block header_block leaf_block blocks link_in number_of
+by_time = listing v nodes (codes "last_modified") 16 I64 time_rows tested time_tree refl tt (((most 1 4096 refl, refl), (0, refl), (record { some = most 1 2 refl; fits = most 2 125 refl; ascend = refl }, tt), two_once), (tt, tt)) refl
+
+by_name : IsListing v (tree_of nodes) (codes "name") 10 Text
+unfolding unsigned_at signed32_at signed64_at run_in runs_in unsigned_bytes signed32_bytes signed64_bytes run_bytes array_runs level_blocks bytes_at rows_of header_bytes head_bytes bytes_of level_bytes inode_block header_block leaf_block blocks link_in
+by_name = listing v nodes (codes "name") 10 Text name_rows tested name_tree refl tt (tt, (tt, (tt, tt))) refl
+
+by_size : IsListing v (tree_of nodes) (codes "size") 13 I64
+unfolding unsigned_at signed32_at signed64_at run_in runs_in unsigned_bytes signed32_bytes signed64_bytes run_bytes array_runs level_blocks bytes_at rows_of header_bytes head_bytes bytes_of level_bytes inode_block header_block leaf_block blocks link_in number_of
+by_size = listing v nodes (codes "size") 13 I64 size_rows tested size_tree refl tt (tt, (tt, (tt, tt))) refl
+
+abbrev xs : List ℕ
+xs = 0 ∷ 2 ∷ 3 ∷ 1 ∷ 4 ∷ 5 ∷ 6 ∷ 23 ∷ 24 ∷ 25 ∷ 26 ∷ 27 ∷ 7 ∷ 8 ∷ 9 ∷ 16 ∷ 17 ∷ 18 ∷ 19 ∷ 20 ∷ 21 ∷ 22 ∷ 10 ∷ 11 ∷ 12 ∷ 13 ∷ 14 ∷ 15 ∷ []
+
+reach_is : reach v (tree_of nodes) ≡ xs
+unfolding unsigned_at signed32_at signed64_at run_in runs_in unsigned_bytes signed32_bytes signed64_bytes run_bytes array_runs level_blocks bytes_at rows_of header_bytes head_bytes bytes_of level_bytes inode_block header_block leaf_block blocks arrays_of rows_in node_blocks index_blocks
+reach_is = reached v nodes xs tested refl
+
+counted : IsCounted v xs
+unfolding unsigned_at bit_of bitmap_block blocks
+counted = record { bits = refl; inside = refl; used = refl }
+
+is_sound : IsSound v (tree_of nodes)
+is_sound = sound v nodes refl refl tested (root, (a_has, (b_has, (c_has, tt)))) ((λ _. root_lists), ((λ e. absurd (apart_by 8 4 refl (ap kind_bits e))), ((λ e. absurd (apart_by 8 4 refl (ap kind_bits e))), ((λ e. absurd (apart_by 8 4 refl (ap kind_bits e))), tt))))
+    index_directory indices_tree.rows_of by_time by_name by_size xs reach_is counted
+
+pub blocks_long : (k : ℕ) → length (blocks k) ≡ 1024
+unfolding unsigned_bytes signed32_bytes signed64_bytes run_bytes header_bytes head_bytes bytes_of level_bytes inode_block header_block leaf_block bitmap_block blocks
+blocks_long k = all_long 1024 block_list zero_block refl refl k
+
+pub pages_whole : PagesAreWhole
+pages_whole = to_image 28 blocks blocks_long reads_28 full_28 (tree_of nodes) (whole 28 blocks (tree_of nodes) blocks_long is_sound)

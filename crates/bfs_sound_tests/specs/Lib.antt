@@ -1,0 +1,9 @@
+pub mod Bytes
+pub mod Worked
+pub mod Directory
+pub mod Nested
+pub mod Links
+pub mod Files
+pub mod Pages
+pub mod Logged
+pub mod Levels

@@ -1,0 +1,43 @@
+// Volumes that are whole: each is the contract of a function that does nothing.
+ghost use Rattle.bfs_sound_tests.specs.Directory.{DirectoryIsWhole};
+ghost use Rattle.bfs_sound_tests.specs.Files.{FilesAreWhole};
+ghost use Rattle.bfs_sound_tests.specs.Levels.{LevelsAreKept};
+ghost use Rattle.bfs_sound_tests.specs.Logged.{LoggedRecovers};
+ghost use Rattle.bfs_sound_tests.specs.Nested.{NestedIsWhole};
+ghost use Rattle.bfs_sound_tests.specs.Pages.{PagesAreWhole};
+ghost use Rattle.bfs_sound_tests.specs.Links.{LinksAreWhole};
+
+/// A volume whose root directory has one empty directory is whole.
+pub fn directory_is_whole()
+    ensures { DirectoryIsWhole }
+{}
+
+/// A volume with a short link, a long link, and a file with an attribute in its small data and one in an attribute directory is whole.
+pub fn links_are_whole()
+    ensures { LinksAreWhole }
+{}
+
+/// A volume with a file that has an indirect table, an empty file, and an index with a fragment for both is whole.
+pub fn files_are_whole()
+    ensures { FilesAreWhole }
+{}
+
+/// A volume whose index has an interior page, two leaves, a page of duplicates and a free page is whole.
+pub fn pages_are_whole()
+    ensures { PagesAreWhole }
+{}
+
+/// A volume with a directory in a directory is whole.
+pub fn nested_is_whole()
+    ensures { NestedIsWhole }
+{}
+
+/// A volume with one block that is only in the log recovers to the tree that it is whole with after replay.
+pub fn logged_recovers()
+    ensures { LoggedRecovers }
+{}
+
+/// A stream with direct runs, a full indirect table and a double indirect level keeps its format.
+pub fn levels_are_kept()
+    ensures { LevelsAreKept }
+{}

@@ -297,12 +297,56 @@ const PLANS: [Plan; 8] = [
     },
 ];
 
-// Is each crash after so many steps recovered?
+// The sectors of a volume that a crash now may leave old or new, where the two differ.
+fn open_sectors(alloc: Global, volume: &Volume, disk: &MemDisk) -> Result<Vec<u32>, AllocError> {
+    let old = disk.crash(0)?;
+    let new = disk.crash(u64::MAX)?;
+    let mut sectors = Vec::new(alloc);
+    for sector in 0..volume.blocks.wrapping_mul(2) {
+        let start = (sector as usize).wrapping_mul(512);
+        let Some(before) = old.get(start..start.wrapping_add(512)) else {
+            return Err(AllocError);
+        };
+        let Some(after) = new.get(start..start.wrapping_add(512)) else {
+            return Err(AllocError);
+        };
+        if before != after {
+            sectors.push(sector)?;
+        }
+    }
+    Ok(sectors)
+}
+
+// Is the image of this pick recovered?
+fn is_right_for(
+    alloc: Global,
+    plan: &Plan,
+    steps: u64,
+    disk: &MemDisk,
+    pick: u64,
+) -> Result<bool, AllocError> {
+    let groups = standing(plan, steps, pick & 2 == 2);
+    is_right(alloc, plan, groups, disk.crash(pick)?)
+}
+
+// Is each crash after so many steps recovered? Every pick is tried where at most ten sectors are open, else all old and all new.
 fn is_right_after(alloc: Global, plan: &Plan, steps: u64) -> Result<bool, AllocError> {
-    for pick in [0, u64::MAX] {
-        let groups = standing(plan, steps, pick & 2 == 2);
-        let image = crashed(alloc, plan, steps, pick)?;
-        if !is_right(alloc, plan, groups, image)? {
+    let Some(mut device) = sealed(alloc, &plan.volume, plan.sizes) else {
+        return Err(AllocError);
+    };
+    if !step_on(&mut device, steps) {
+        return Err(AllocError);
+    }
+    let disk = device.into_disk();
+    let sectors = open_sectors(alloc, &plan.volume, &disk)?;
+    if sectors.len() > 10 {
+        return Ok(
+            is_right_for(alloc, plan, steps, &disk, 0)?
+                && is_right_for(alloc, plan, steps, &disk, u64::MAX)?,
+        );
+    }
+    for number in 0..1u64.wrapping_shl(sectors.len() as u32) {
+        if !is_right_for(alloc, plan, steps, &disk, pick_of(&sectors, number))? {
             return Ok(false);
         }
     }
@@ -331,10 +375,7 @@ fn three_groups_are_recovered(rt: HostRuntime) -> Result<(), Fail> {
     let alloc = rt.alloc();
     for (plan, total) in [(PLANS[5], 1332u64), (PLANS[6], 821), (PLANS[7], 1074)] {
         for steps in 0..=total {
-            let is_at_a_gate = plan.gates.iter().any(|gate| steps / 4 == *gate / 4);
-            if is_at_a_gate || steps % 16 == 0 || steps == total {
-                assert!(rt; is_right_after(alloc, &plan, steps)?, "{steps}");
-            }
+            assert!(rt; is_right_after(alloc, &plan, steps)?, "{steps}");
         }
     }
     Ok(())

@@ -25,6 +25,7 @@ pub struct StreamPages<'a, 'b, E: Edits> {
     length: u64,
     failed: Option<GrowFault>,
     start: Snapshot<E>,
+    last: Snapshot<u64>,
     ghost size: { E.size edits.now ≡ backing.sizes.block_size },
     ghost volume: { IsOfVolume backing.sizes bitmap.now },
     ghost whole: { length % 1024 ≡ 0 },
@@ -65,6 +66,7 @@ impl<'a, 'b, E: Edits> StreamPages<'a, 'b, E> {
             length,
             failed: None,
             start,
+            last: Snapshot::of(&0),
         }
     }
 }
@@ -111,6 +113,8 @@ impl<E: Edits> Pages for StreamPages<'_, '_, E> {
 
     ghost frame = { λ p. p.edits.ghost_name ∷ p.bitmap.ghost_name ∷ [] };
 
+    ghost last = { λ p. p.last.value };
+
     ghost goes_on = { λ p q. (q.backing ≡ p.backing) × (E.frame q.edits.now ≡ E.frame p.edits.now) × GoesOn p.backing p.bitmap.now q.bitmap.now p.length q.length (known p.failed (E.told p.start.value) (E.told p.edits.now)) (known q.failed (E.told q.start.value) (E.told q.edits.now)) p.failed q.failed (E.changed p.edits.now) (E.changed q.edits.now) (E.counts p.edits.now) (E.counts q.edits.now) };
 
     ghost is_cause = { λ p q fault. IsPageCause p.backing p.bitmap.now p.length (known p.failed (E.told p.start.value) (E.told p.edits.now)) p.failed (E.counts p.edits.now) (E.counts q.edits.now) fault };
@@ -152,6 +156,7 @@ impl<E: Edits> Pages for StreamPages<'_, '_, E> {
             Ok(()) => {}
             Err(fault) => return Err(fault),
         }
+        self.last = Snapshot::of(&at);
         Ok(())
     }
 
@@ -215,6 +220,7 @@ impl<E: Edits> Drop for StreamPages<'_, '_, E> {
             length: _,
             failed: _,
             start: _,
+            last: _,
         } = self;
     }
 }

@@ -23,6 +23,9 @@ pub trait Pages {
     /// The names of the references that it holds, and what else stays.
     ghost frame: { Self → List ℕ };
 
+    /// The place of the page that was read last.
+    ghost last: { Self → ℕ };
+
     /// The second is the first after some calls: what no call may change stays.
     ghost goes_on: { Self → Self → Type 0 };
 
@@ -43,6 +46,7 @@ pub trait Pages {
         requires whole { at % 1024 ≡ 0 }
         requires inside { at < size self.old }
         ensures page { OnOk result (IsPageAt (told self.old) at into.new) }
+        ensures last { OnOk result (last self.new ≡ at) }
         ensures steps { steps.new ≡ steps.old + 1 }
         ensures told { told self.new ≡ told self.old }
         ensures size { size self.new ≡ size self.old }

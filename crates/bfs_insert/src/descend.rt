@@ -3,7 +3,7 @@ ghost use Rattle.std.specs.Prelude.{◌≡◌, ◌≤◌, ◌<◌, ◌+◌, ◌�
 ghost use Rattle.bfs_base.specs.Keys.{IsTreeKind};
 ghost use Rattle.bfs_node.specs.Page.{IsPage, HasLayout};
 ghost use Rattle.bfs_node.specs.Search.{IsSought};
-ghost use Rattle.bfs_pages.specs.Answers.{IsChild, IsRefused, IsSpared};
+ghost use Rattle.bfs_pages.specs.Answers.{IsChild, IsRefused, IsSpared, IsBlamed};
 ghost use Rattle.bfs_insert.specs.Divided.{IsRoomy, IsFullPage};
 ghost use Rattle.bfs_pages.specs.Shapes.{Shape, place as shape_place};
 ghost use Rattle.bfs_pages.specs.Trees.{IsTree, page_in, state_of};
@@ -45,6 +45,7 @@ fn enter_leaf<P: Pages, L: Ledger>(
     ensures next { IfOk result (IsChild (P.size pages.new)) }
     ensures step { IfOk result (λ next. Makes (P.told pages.old) (P.told pages.new) (λ b c. IsStep kind b c at.0 at.1 key.now next)) }
     ensures refused { IfErr result (IsRefused kind (P.told pages.new) (P.is_cause pages.old pages.new)) }
+    ensures blamed { IfErr result (IsBlamed (P.told pages.new) (P.size pages.new) (P.last pages.new)) }
     ensures spared { (b reached : List ℕ) (t : Shape) (fs : List ℕ) (d : ℕ) → P.told pages.old ≡ Some b → IsTree kind b reached t fs → d ≡ (state_of kind b).levels → shape_place (under kind d t key.now) ≡ at.1 → IsRoomy above.old → IfErr result (IsSpared (P.told pages.new)) }
     ensures kept { Kept (P.counts pages.old) (P.counts pages.new) (P.frame pages.old) (P.frame pages.new) (P.goes_on pages.old pages.new) }
 {
@@ -83,6 +84,7 @@ fn enter_interior<P: Pages, L: Ledger>(
     ensures next { IfOk result (IsChild (P.size pages.new)) }
     ensures step { IfOk result (λ next. Makes (P.told pages.old) (P.told pages.new) (λ b c. IsStep kind b c at.0 at.1 key.now next)) }
     ensures refused { IfErr result (IsRefused kind (P.told pages.new) (P.is_cause pages.old pages.new)) }
+    ensures blamed { IfErr result (IsBlamed (P.told pages.new) (P.size pages.new) (P.last pages.new)) }
     ensures spared { (b reached : List ℕ) (t : Shape) (fs : List ℕ) (d : ℕ) → P.told pages.old ≡ Some b → IsTree kind b reached t fs → suc d ≤ (state_of kind b).levels → shape_place (under kind d t key.now) ≡ at.1 → IsRoomy above.old → IfErr result (IsSpared (P.told pages.new)) }
     ensures kept { Kept (P.counts pages.old) (P.counts pages.new) (P.frame pages.old) (P.frame pages.new) (P.goes_on pages.old pages.new) }
 {
@@ -118,6 +120,7 @@ pub fn step_down<P: Pages, L: Ledger>(
     ensures next { IfOk result (IsChild (P.size pages.new)) }
     ensures step { IfOk result (λ next. Makes (P.told pages.old) (P.told pages.new) (λ b c. IsDown kind b c at key.now next)) }
     ensures refused { IfErr result (IsRefused kind (P.told pages.new) (P.is_cause pages.old pages.new)) }
+    ensures blamed { IfErr result (IsBlamed (P.told pages.new) (P.size pages.new) (P.last pages.new)) }
     ensures spared { (b reached : List ℕ) (t : Shape) (fs : List ℕ) (d : ℕ) → P.told pages.old ≡ Some b → IsTree kind b reached t fs → suc d ≤ (state_of kind b).levels → (IsTrue to_leaf ↔ suc d ≡ (state_of kind b).levels) → shape_place (under kind d t key.now) ≡ at → IsRoomy (page_in b at) → IfErr result (IsSpared (P.told pages.new)) }
     ensures kept { Kept (P.counts pages.old) (P.counts pages.new) (P.frame pages.old) (P.frame pages.new) (P.goes_on pages.old pages.new) }
 {

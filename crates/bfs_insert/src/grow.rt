@@ -3,7 +3,7 @@ ghost use Rattle.std.specs.Prelude.{◌≡◌, ◌≢◌, ◌≤◌, ◌<◌, �
 ghost use Rattle.bfs_base.specs.Keys.{IsTreeKind};
 ghost use Rattle.bfs_node.specs.Page.{IsPage, HasLayout, rows_of, links_of};
 ghost use Rattle.bfs_node.specs.Search.{IsSought};
-ghost use Rattle.bfs_pages.specs.Answers.{IsChild, IsLink, IsLeafPage, IsInteriorPage, IsRefused, IsSpared, IsUnread, IsAt};
+ghost use Rattle.bfs_pages.specs.Answers.{IsChild, IsLink, IsLeafPage, IsInteriorPage, IsRefused, IsSpared, IsUnread, IsAt, IsBlamed};
 ghost use Rattle.bfs_insert.specs.Growth.{StepsDown};
 ghost use Rattle.bfs_insert.specs.Divided.{IsRoomy, IsFullPage};
 ghost use Rattle.bfs_pages.specs.Shapes.{Shape, place as shape_place};
@@ -57,6 +57,7 @@ pub fn split_leaf<P: Pages, L: Ledger>(
     ensures step { IfOk result (λ next. Makes (P.told pages.old) (P.told pages.new) (λ b c. IsStep kind b c at.0 at.1 key.now next)) }
     ensures size { OnOk result (IsGrown (P.size pages.old) (P.size pages.new)) }
     ensures refused { IfErr result (IsRefused kind (P.told pages.new) (P.is_cause pages.old pages.new)) }
+    ensures blamed { IfErr result (IsBlamed (P.told pages.new) (P.size pages.new) (P.last pages.new)) }
     ensures spared { (b reached : List ℕ) (t : Shape) (fs : List ℕ) (d : ℕ) → P.told pages.old ≡ Some b → IsTree kind b reached t fs → d ≡ (state_of kind b).levels → shape_place (under kind d t key.now) ≡ at.1 → IfErr result (IsSpared (P.told pages.new)) }
     ensures kept { Kept (P.counts pages.old) (P.counts pages.new) (P.frame pages.old) (P.frame pages.new) (P.goes_on pages.old pages.new) }
 {
@@ -110,6 +111,7 @@ pub fn split_interior<P: Pages, L: Ledger>(
     ensures step { IfOk result (λ next. Makes (P.told pages.old) (P.told pages.new) (λ b c. IsStep kind b c at.0 at.1 key.now next)) }
     ensures size { OnOk result (IsGrown (P.size pages.old) (P.size pages.new)) }
     ensures refused { IfErr result (IsRefused kind (P.told pages.new) (P.is_cause pages.old pages.new)) }
+    ensures blamed { IfErr result (IsBlamed (P.told pages.new) (P.size pages.new) (P.last pages.new)) }
     ensures spared { (b reached : List ℕ) (t : Shape) (fs : List ℕ) → P.told pages.old ≡ Some b → IsTree kind b reached t fs → IfErr result (IsSpared (P.told pages.new)) }
     ensures kept { Kept (P.counts pages.old) (P.counts pages.new) (P.frame pages.old) (P.frame pages.new) (P.goes_on pages.old pages.new) }
 {

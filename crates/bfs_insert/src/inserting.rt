@@ -2,7 +2,7 @@
 ghost use Rattle.std.specs.Prelude.{◌≡◌, ◌≤◌, ◌<◌, ◌+◌, ◌-◌, ℕ, List, Some, None, length, OnOk, IfOk, IfErr, MatchResult};
 ghost use Rattle.bfs_base.specs.Keys.{IsTreeKind, IsKey};
 ghost use Rattle.bfs_node.specs.Search.{IsSought};
-ghost use Rattle.bfs_pages.specs.Answers.{IsChild, IsRefused, IsSpared};
+ghost use Rattle.bfs_pages.specs.Answers.{IsChild, IsRefused, IsSpared, IsBlamed};
 ghost use Rattle.bfs_insert.specs.Puts.{IsNotPut, IsHindered};
 ghost use Rattle.bfs_pages.specs.Maps.{assoc, put};
 ghost use Rattle.bfs_pages.specs.Shapes.{Shape, tree_rows};
@@ -30,6 +30,7 @@ fn reach_leaf<P: Pages, L: Ledger>(
     ensures at { IfOk result (IsChild (P.size pages.new)) }
     ensures way { IfOk result (λ at. Makes (P.told pages.old) (P.told pages.new) (λ b c. IsWay kind b c key.now at 0)) }
     ensures refused { IfErr result (IsRefused kind (P.told pages.new) (P.is_cause pages.old pages.new)) }
+    ensures blamed { IfErr result (IsBlamed (P.told pages.new) (P.size pages.new) (P.last pages.new)) }
     ensures spared { (b reached : List ℕ) (t : Shape) (fs : List ℕ) → P.told pages.old ≡ Some b → IsTree kind b reached t fs → IfErr result (IsSpared (P.told pages.new)) }
     ensures kept { Kept (P.counts pages.old) (P.counts pages.new) (P.frame pages.old) (P.frame pages.new) (P.goes_on pages.old pages.new) }
 {
@@ -66,6 +67,7 @@ pub fn insert<P: Pages, L: Ledger>(
     ensures absent { (b reached : List ℕ) (t : Shape) (fs : List ℕ) → P.told pages.old ≡ Some b → IsTree kind b reached t fs → OnOk result (assoc kind (tree_rows t) key.now ≡ None) }
     ensures levels { OnOk result (Makes (P.told pages.old) (P.told pages.new) (λ b c. HasRisen b (header_in c).levels)) }
     ensures refused { IfErr result (IsHindered kind (P.told pages.old) (P.told pages.new) (P.is_cause pages.old pages.new)) }
+    ensures blamed { IfErr result (IsBlamed (P.told pages.new) (P.size pages.new) (P.last pages.new)) }
     ensures kept { Kept (P.counts pages.old) (P.counts pages.new) (P.frame pages.old) (P.frame pages.new) (P.goes_on pages.old pages.new) }
 {
     match find(pages, kind, key, steps) {

@@ -1,7 +1,7 @@
 // Puts a row into a leaf.
 ghost use Rattle.std.specs.Prelude.{◌≡◌, ◌≤◌, ◌<◌, ◌+◌, ℕ, List, Some, length, OnOk, IfErr};
 ghost use Rattle.bfs_base.specs.Keys.{IsTreeKind, IsKey};
-ghost use Rattle.bfs_pages.specs.Answers.{IsChild, IsRefused, IsSpared};
+ghost use Rattle.bfs_pages.specs.Answers.{IsChild, IsRefused, IsSpared, IsBlamed};
 ghost use Rattle.bfs_pages.specs.Shapes.{Shape, place as shape_place};
 ghost use Rattle.bfs_pages.specs.Trees.{IsTree, page_in, state_of};
 ghost use Rattle.bfs_pages.specs.Ways.{under};
@@ -28,6 +28,7 @@ pub fn put_row<P: Pages, L: Ledger>(
     requires at { IsChild (P.size pages.old) at }
     ensures put { OnOk result (Makes (P.told pages.old) (P.told pages.new) (λ b c. IsPut kind b c at key.now value)) }
     ensures refused { IfErr result (IsRefused kind (P.told pages.new) (P.is_cause pages.old pages.new)) }
+    ensures blamed { IfErr result (IsBlamed (P.told pages.new) (P.size pages.new) (P.last pages.new)) }
     ensures spared { (b reached : List ℕ) (t : Shape) (fs : List ℕ) (d : ℕ) → P.told pages.old ≡ Some b → IsTree kind b reached t fs → d ≡ (state_of kind b).levels → shape_place (under kind d t key.now) ≡ at → IsRoomy (page_in b at) → IfErr result (IsSpared (P.told pages.new)) }
     ensures kept { Kept (P.counts pages.old) (P.counts pages.new) (P.frame pages.old) (P.frame pages.new) (P.goes_on pages.old pages.new) }
 {

@@ -2,7 +2,7 @@
 ghost use Rattle.std.specs.Prelude.{◌≡◌, ◌≤◌, ◌<◌, ◌+◌, ℕ, List, Some, length, OnOk, IfOk, IfErr, IfSome};
 ghost use Rattle.bfs_base.specs.Keys.{IsTreeKind};
 ghost use Rattle.bfs_node.specs.Page.{IsPage};
-ghost use Rattle.bfs_pages.specs.Answers.{IsChild, IsHeaderFor, IsUnread, IsRefused, IsSpared};
+ghost use Rattle.bfs_pages.specs.Answers.{IsChild, IsHeaderFor, IsUnread, IsRefused, IsSpared, IsBlamed};
 ghost use Rattle.bfs_pages.specs.Shapes.{Shape};
 ghost use Rattle.bfs_pages.specs.Trees.{IsTree, header_in, page_in, place_of};
 ghost use Rattle.bfs_pages.specs.Writes.{Makes, Kept, IsGrown};
@@ -38,6 +38,7 @@ fn read_root<P: Pages, L: Ledger>(
     ensures read { OnOk result (IfSome (P.told pages.old) (λ b. page.new ≡ page_in b (place_of header.root_pointer))) }
     ensures length { length page.new ≡ 1024 }
     ensures refused { IfErr result (IsUnread kind (P.told pages.new) (P.is_cause pages.old pages.new)) }
+    ensures blamed { IfErr result (IsBlamed (P.told pages.new) (P.size pages.new) (P.last pages.new)) }
     ensures spared { (b reached : List ℕ) (t : Shape) (fs : List ℕ) → P.told pages.old ≡ Some b → header ≡ header_in b → IsTree kind b reached t fs → IfErr result (IsSpared (P.told pages.new)) }
     ensures told { P.told pages.new ≡ P.told pages.old }
     ensures size { P.size pages.new ≡ P.size pages.old }
@@ -68,6 +69,7 @@ fn add_root<P: Pages, L: Ledger>(
     ensures some { IfOk result (λ t. 1 ≤ t.levels) }
     ensures top { IfOk result (λ t. Makes (P.told pages.old) (P.told pages.new) (λ b c. IsTop kind b c t.root t.levels × (t.levels ≡ (header_in b).levels + 1))) }
     ensures refused { IfErr result (IsRefused kind (P.told pages.new) (P.is_cause pages.old pages.new)) }
+    ensures blamed { IfErr result (IsBlamed (P.told pages.new) (P.size pages.new) (P.last pages.new)) }
     ensures spared { (b reached : List ℕ) (t : Shape) (fs : List ℕ) → P.told pages.old ≡ Some b → IsTree kind b reached t fs → IfErr result (IsSpared (P.told pages.new)) }
     ensures kept { Kept (P.counts pages.old) (P.counts pages.new) (P.frame pages.old) (P.frame pages.new) (P.goes_on pages.old pages.new) }
 {
@@ -110,6 +112,7 @@ pub fn reach_top<P: Pages, L: Ledger>(
     ensures some { IfOk result (λ t. 1 ≤ t.levels) }
     ensures top { IfOk result (λ t. Makes (P.told pages.old) (P.told pages.new) (λ b c. IsTop kind b c t.root t.levels × HasRisen b t.levels)) }
     ensures refused { IfErr result (IsRefused kind (P.told pages.new) (P.is_cause pages.old pages.new)) }
+    ensures blamed { IfErr result (IsBlamed (P.told pages.new) (P.size pages.new) (P.last pages.new)) }
     ensures spared { (b reached : List ℕ) (t : Shape) (fs : List ℕ) → P.told pages.old ≡ Some b → IsTree kind b reached t fs → IfErr result (IsSpared (P.told pages.new)) }
     ensures kept { Kept (P.counts pages.old) (P.counts pages.new) (P.frame pages.old) (P.frame pages.new) (P.goes_on pages.old pages.new) }
 {

@@ -74,6 +74,22 @@ IsAt at sort (Damaged page found) = (page ≡ at) × (found ≡ sort)
 IsAt at sort (Pages fault) = Unit {0}
 IsAt at sort NoMemory = Unit {0}
 
+-- only the page that was read last is blamed; a stream without pages has none to read, and there it is the header
+abbrev pub IsJustRead : {F : Type 0} → ℕ → ℕ → TreeFault F → Type 0
+IsJustRead size last Exists = Unit {0}
+IsJustRead size last Absent = Unit {0}
+IsJustRead size last (Damaged page sort) = (page ≡ last) ⊎ ((size ≡ 0) × (page ≡ 0))
+IsJustRead size last (Pages fault) = Unit {0}
+IsJustRead size last NoMemory = Unit {0}
+
+-- the same, or the header is blamed for its first free page, which was read last
+abbrev pub IsBlamed : {F : Type 0} → Option (List ℕ) → ℕ → ℕ → TreeFault F → Type 0
+IsBlamed told size last Exists = Unit {0}
+IsBlamed told size last Absent = Unit {0}
+IsBlamed told size last (Damaged page sort) = ((page ≡ last) ⊎ ((size ≡ 0) × (page ≡ 0))) ⊎ ((page ≡ 0) × (sort ≡ HeaderKind) × IfSome told (λ bytes. last ≡ place_of (header_in bytes).free_pointer))
+IsBlamed told size last (Pages fault) = Unit {0}
+IsBlamed told size last NoMemory = Unit {0}
+
 -- the call failed by the pages alone: over a tree's pages none is damaged
 abbrev pub IsOfPages : {F : Type 0} → TreeFault F → Type 0
 IsOfPages Exists = ⊥

@@ -3,7 +3,7 @@ ghost use Rattle.std.specs.Prelude.{◌≡◌, ◌≢◌, ◌≤◌, ◌+◌, le
 ghost use Rattle.bfs_base.specs.Keys.{IsTreeKind};
 ghost use Rattle.bfs_node.specs.Page.{IsPage};
 ghost use Rattle.bfs_node.specs.declared.fault.PageKind.TheVariants.{Leaf};
-ghost use Rattle.bfs_pages.specs.Answers.{IsLink, IsLeafPage, IsUnread, IsAt};
+ghost use Rattle.bfs_pages.specs.Answers.{IsLink, IsLeafPage, IsUnread, IsJustRead, IsAt};
 ghost use Rattle.bfs_pages.specs.Trees.{page_in};
 ghost use Rattle.bfs_pages.specs.Writes.{Makes, BesideSet, Kept, IsFailed};
 
@@ -29,6 +29,7 @@ pub fn read_beside<P: Pages, L: Ledger>(
     ensures read { OnOk result (at ≢ 0 → IfSome (P.told pages.old) (λ b. page.new ≡ page_in b at)) }
     ensures length { length page.new ≡ 1024 }
     ensures refused { IfErr result (IsUnread kind (P.told pages.new) (P.is_cause pages.old pages.new)) }
+    ensures just_read { IfErr result (IsJustRead (P.size pages.new) (P.last pages.new)) }
     ensures at { IfErr result (IsAt at Leaf) }
     ensures some { IfErr result (λ fault. at ≢ 0) }
     ensures steps { steps.new ≤ steps.old + 1 }

@@ -3,12 +3,14 @@ ghost use Rattle.std.specs.Prelude.{◌≡◌, ◌%◌, ℕ, List, length};
 
 use bfs_txn::{Pages, Steps};
 use std::alloc::AllocError;
+use std::snapshot::Snapshot;
 use std::sync::ledger::Ledger;
 
 /// The pages of one stream in memory, which tells what it holds.
 #[derive(Drop)]
 pub struct MemPages {
     bytes: Vec<u8>,
+    last: Snapshot<u64>,
     ghost pages: { length bytes.items % 1024 ≡ 0 },
 }
 
@@ -18,7 +20,10 @@ impl MemPages {
         requires { length bytes.items % 1024 ≡ 0 }
         ensures { result.bytes.items ≡ bytes.items }
     {
-        MemPages { bytes }
+        MemPages {
+            bytes,
+            last: Snapshot::of(&0),
+        }
     }
 
     /// The bytes of all pages.
@@ -41,6 +46,8 @@ impl Pages for MemPages {
     ghost counts = { λ p. record { faults = 0; stops = 0; stop = None } };
 
     ghost frame = { λ p. [] };
+
+    ghost last = { λ p. p.last.value };
 
     ghost goes_on = { λ p q. Unit {0} };
 
@@ -69,6 +76,7 @@ impl Pages for MemPages {
         steps.count();
         let start = at as usize;
         into.copy_from_slice(&self.bytes[start..start + 1024]);
+        self.last = Snapshot::of(&at);
         Ok(())
     }
 

@@ -1,7 +1,7 @@
 // Takes pages for a tree: the first free one, or where there is none, a new one at the end.
 ghost use Rattle.std.specs.Prelude.{◌≡◌, ◌≢◌, ◌≤◌, ◌<◌, ◌+◌, ℕ, List, Some, length, OnOk, IfOk, IfErr, IfSome, MatchOption};
 ghost use Rattle.bfs_base.specs.Keys.{IsTreeKind};
-ghost use Rattle.bfs_pages.specs.Answers.{IsChild, IsLink, IsHeaderFor, IsRefused, IsTurned, IsSpared};
+ghost use Rattle.bfs_pages.specs.Answers.{IsChild, IsLink, IsHeaderFor, IsRefused, IsBlamed, IsTurned, IsSpared};
 ghost use Rattle.bfs_pages.specs.Shapes.{Shape};
 ghost use Rattle.bfs_pages.specs.Trees.{IsTree, IsTreeHeader, header_in, page_in, place_of, free_in};
 ghost use Rattle.bfs_pages.specs.Writes.{Makes, Kept, IsFailed, IsTaken, IsGrown};
@@ -84,6 +84,7 @@ fn take_first<P: Pages, L: Ledger>(
     ensures taken { IfOk result (λ f. (b : List ℕ) → P.told pages.old ≡ Some b → header ≡ header_in b → (c : List ℕ) × (P.told pages.new ≡ Some c) × IsTaken kind b c f.page f.header) }
     ensures size { OnOk result (P.size pages.new ≡ P.size pages.old) }
     ensures refused { IfSome (P.told pages.old) (λ b. header ≡ header_in b) → IfErr result (IsRefused kind (P.told pages.new) (P.is_cause pages.old pages.new)) }
+    ensures blamed { IfSome (P.told pages.old) (λ b. header ≡ header_in b) → IfErr result (IsBlamed (P.told pages.new) (P.size pages.new) (P.last pages.new)) }
     ensures spared { (b reached : List ℕ) (t : Shape) (fs : List ℕ) → P.told pages.old ≡ Some b → header ≡ header_in b → IsTree kind b reached t fs → IfErr result (IsSpared (P.told pages.new)) }
     ensures kept { Kept (P.counts pages.old) (P.counts pages.new) (P.frame pages.old) (P.frame pages.new) (P.goes_on pages.old pages.new) }
 {
@@ -124,6 +125,7 @@ pub fn take_page<P: Pages, L: Ledger>(
     ensures taken { IfOk result (λ f. (b : List ℕ) → P.told pages.old ≡ Some b → (c : List ℕ) × (P.told pages.new ≡ Some c) × IsTaken kind b c f.page f.header) }
     ensures size { OnOk result (IsGrown (P.size pages.old) (P.size pages.new)) }
     ensures refused { IfErr result (IsRefused kind (P.told pages.new) (P.is_cause pages.old pages.new)) }
+    ensures blamed { IfErr result (IsBlamed (P.told pages.new) (P.size pages.new) (P.last pages.new)) }
     ensures spared { (b reached : List ℕ) (t : Shape) (fs : List ℕ) → P.told pages.old ≡ Some b → IsTree kind b reached t fs → IfErr result (IsSpared (P.told pages.new)) }
     ensures kept { Kept (P.counts pages.old) (P.counts pages.new) (P.frame pages.old) (P.frame pages.new) (P.goes_on pages.old pages.new) }
 {

@@ -1,7 +1,7 @@
 // Takes roots without keys away.
 ghost use Rattle.std.specs.Prelude.{◌≡◌, ◌≤◌, ◌<◌, ◌+◌, ℕ, List, Some, length, OnOk, IfErr, IfSome, MatchResult};
 ghost use Rattle.bfs_base.specs.Keys.{IsTreeKind};
-ghost use Rattle.bfs_pages.specs.Answers.{IsHeaderFor, IsUnread, IsOfPages};
+ghost use Rattle.bfs_pages.specs.Answers.{IsHeaderFor, IsUnread, IsOfPages, IsJustRead};
 ghost use Rattle.bfs_pages.specs.Shapes.{Shape, tree_rows};
 ghost use Rattle.bfs_pages.specs.Trees.{header_in, IsTree, HasRows};
 ghost use Rattle.bfs_pages.specs.Writes.{Kept, SamePages};
@@ -27,6 +27,7 @@ pub fn collapse<P: Pages, L: Ledger>(
     ensures filled { (b reached : List ℕ) (t : Shape) (fs : List ℕ) → P.told pages.old ≡ Some b → header ≡ header_in b → IsTree kind b reached t fs → IsFilled t → OnOk result ((c : List ℕ) × (t2 : Shape) × (fs2 : List ℕ) × (P.told pages.new ≡ Some c) × IsTree kind c reached t2 fs2 × IsFilled t2) }
     ensures size { OnOk result (P.size pages.new ≡ P.size pages.old) }
     ensures refused { IfErr result (IsUnread kind (P.told pages.new) (P.is_cause pages.old pages.new)) }
+    ensures just_read { IfErr result (IsJustRead (P.size pages.new) (P.last pages.new)) }
     ensures steps { steps.new + 1 ≤ steps.old + header.levels }
     ensures kept { Kept (P.counts pages.old) (P.counts pages.new) (P.frame pages.old) (P.frame pages.new) (P.goes_on pages.old pages.new) }
 {

@@ -3,7 +3,7 @@ ghost use Rattle.std.specs.Prelude.{◌≡◌, ◌≤◌, ◌<◌, ◌+◌, ℕ,
 ghost use Rattle.bfs_base.specs.Keys.{IsTreeKind};
 ghost use Rattle.bfs_node.specs.Page.{IsPage, rows_of};
 ghost use Rattle.bfs_node.specs.Search.{IsSought};
-ghost use Rattle.bfs_pages.specs.Answers.{IsChild, IsHeaderFor, IsInteriorPage, IsLeafPage, IsUnread, IsOfPages};
+ghost use Rattle.bfs_pages.specs.Answers.{IsChild, IsHeaderFor, IsInteriorPage, IsLeafPage, IsUnread, IsOfPages, IsJustRead};
 ghost use Rattle.bfs_pages.specs.Maps.{without};
 ghost use Rattle.bfs_pages.specs.Shapes.{Shape, tree_rows};
 ghost use Rattle.bfs_pages.specs.Trees.{page_in, header_in, IsTree, HasRows};
@@ -34,6 +34,7 @@ pub fn drop_child<P: Pages, L: Ledger>(
     ensures made { OnOk result (Makes (P.told pages.old) (P.told pages.new) (λ b c. IsDropped kind b c at key.now)) }
     ensures size { OnOk result (P.size pages.new ≡ P.size pages.old) }
     ensures refused { IfErr result (IsUnread kind (P.told pages.new) (P.is_cause pages.old pages.new)) }
+    ensures just_read { IfErr result (IsJustRead (P.size pages.new) (P.last pages.new)) }
     ensures spared { (b : List ℕ) → P.told pages.old ≡ Some b → IsInteriorPage kind (length b) (page_in b at) → IfErr result IsOfPages }
     ensures steps { steps.new ≤ steps.old + 1 }
     ensures kept { Kept (P.counts pages.old) (P.counts pages.new) (P.frame pages.old) (P.frame pages.new) (P.goes_on pages.old pages.new) }
@@ -76,6 +77,7 @@ pub fn drop_leaf<P: Pages, L: Ledger>(
         → IfOk result (λ h. (c : List ℕ) × (t2 : Shape) × (fs2 : List ℕ) × (P.told pages.new ≡ Some c) × (h ≡ header_in c) × IsTree kind c reached t2 fs2 × IsFilled t2) }
     ensures size { OnOk result (P.size pages.new ≡ P.size pages.old) }
     ensures refused { IfErr result (IsUnread kind (P.told pages.new) (P.is_cause pages.old pages.new)) }
+    ensures just_read { IfErr result (IsJustRead (P.size pages.new) (P.last pages.new)) }
     ensures steps { steps.new ≤ steps.old + branch.below + 3 }
     ensures kept { Kept (P.counts pages.old) (P.counts pages.new) (P.frame pages.old) (P.frame pages.new) (P.goes_on pages.old pages.new) }
 {

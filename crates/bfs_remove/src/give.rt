@@ -1,7 +1,7 @@
 // Gives pages back to a tree's free list.
 ghost use Rattle.std.specs.Prelude.{◌≡◌, ◌≤◌, ◌<◌, ◌+◌, ◌++◌, ℕ, pos, List, Some, length, OnOk, IfOk, IfErr, IfSome, MatchResult};
 ghost use Rattle.bfs_base.specs.Keys.{IsTreeKind};
-ghost use Rattle.bfs_pages.specs.Answers.{IsChild, IsHeaderFor, IsUnread, IsOfPages};
+ghost use Rattle.bfs_pages.specs.Answers.{IsChild, IsHeaderFor, IsUnread, IsOfPages, IsJustRead};
 ghost use Rattle.bfs_pages.specs.Shapes.{Shape};
 ghost use Rattle.bfs_pages.specs.Trees.{header_in, state_of, Holds};
 ghost use Rattle.bfs_pages.specs.Writes.{Makes, Kept, IsFailed, SamePages};
@@ -65,6 +65,7 @@ pub fn release<P: Pages, L: Ledger>(
     ensures released { (b reached : List ℕ) (t : Shape) (fs : List ℕ) (u : Shape) → P.told pages.old ≡ Some b → header ≡ header_in b → InHand kind (state_of kind b) reached from below t fs u → MatchResult result (λ h. (c : List ℕ) × (P.told pages.new ≡ Some c) × (h ≡ header_in c) × IsReleased kind b c reached t) IsOfPages }
     ensures size { OnOk result (P.size pages.new ≡ P.size pages.old) }
     ensures refused { IfErr result (IsUnread kind (P.told pages.new) (P.is_cause pages.old pages.new)) }
+    ensures just_read { IfErr result (IsJustRead (P.size pages.new) (P.last pages.new)) }
     ensures steps { steps.new ≤ steps.old + below }
     ensures kept { Kept (P.counts pages.old) (P.counts pages.new) (P.frame pages.old) (P.frame pages.new) (P.goes_on pages.old pages.new) }
 {

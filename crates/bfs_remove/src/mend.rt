@@ -1,7 +1,7 @@
 // Links leaves past one that goes.
 ghost use Rattle.std.specs.Prelude.{◌≡◌, ◌≢◌, ◌≤◌, ◌<◌, ◌+◌, ℕ, List, Some, length, OnOk, IfErr};
 ghost use Rattle.bfs_base.specs.Keys.{IsTreeKind};
-ghost use Rattle.bfs_pages.specs.Answers.{IsLink, IsLeafPage, IsUnread, IsOfPages};
+ghost use Rattle.bfs_pages.specs.Answers.{IsLink, IsLeafPage, IsUnread, IsOfPages, IsJustRead};
 ghost use Rattle.bfs_pages.specs.Trees.{page_in, place_of, neighbours_in};
 ghost use Rattle.bfs_pages.specs.Writes.{Makes, Kept};
 ghost use Rattle.bfs_remove.specs.Removed.{IsMended};
@@ -24,6 +24,7 @@ pub fn mend_right<P: Pages, L: Ledger>(
     ensures made { OnOk result (Makes (P.told pages.old) (P.told pages.new) (λ b c. IsMended kind b c at ((neighbours_in (page_in b at)).0, place_of right))) }
     ensures size { OnOk result (P.size pages.new ≡ P.size pages.old) }
     ensures refused { IfErr result (IsUnread kind (P.told pages.new) (P.is_cause pages.old pages.new)) }
+    ensures just_read { IfErr result (IsJustRead (P.size pages.new) (P.last pages.new)) }
     ensures spared { (b : List ℕ) → P.told pages.old ≡ Some b → (at ≢ 0 → IsLeafPage kind (length b) (page_in b at)) → IfErr result IsOfPages }
     ensures steps { steps.new ≤ steps.old + 1 }
     ensures kept { Kept (P.counts pages.old) (P.counts pages.new) (P.frame pages.old) (P.frame pages.new) (P.goes_on pages.old pages.new) }
@@ -53,6 +54,7 @@ pub fn mend_left<P: Pages, L: Ledger>(
     ensures made { OnOk result (Makes (P.told pages.old) (P.told pages.new) (λ b c. IsMended kind b c at (place_of left, (neighbours_in (page_in b at)).1))) }
     ensures size { OnOk result (P.size pages.new ≡ P.size pages.old) }
     ensures refused { IfErr result (IsUnread kind (P.told pages.new) (P.is_cause pages.old pages.new)) }
+    ensures just_read { IfErr result (IsJustRead (P.size pages.new) (P.last pages.new)) }
     ensures spared { (b : List ℕ) → P.told pages.old ≡ Some b → (at ≢ 0 → IsLeafPage kind (length b) (page_in b at)) → IfErr result IsOfPages }
     ensures steps { steps.new ≤ steps.old + 1 }
     ensures kept { Kept (P.counts pages.old) (P.counts pages.new) (P.frame pages.old) (P.frame pages.new) (P.goes_on pages.old pages.new) }

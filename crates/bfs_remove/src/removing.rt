@@ -3,7 +3,7 @@ ghost use Rattle.std.specs.Prelude.{◌≡◌, ◌≤◌, ◌<◌, ◌+◌, ◌*
 ghost use Rattle.bfs_base.specs.Keys.{IsTreeKind};
 ghost use Rattle.bfs_node.specs.Page.{IsPage, HasLayout, rows_of, key_of, row_in};
 ghost use Rattle.bfs_node.specs.Search.{IsSought};
-ghost use Rattle.bfs_pages.specs.Answers.{IsChild, IsHeaderFor, IsLeafPage, IsUnread, IsOfPages};
+ghost use Rattle.bfs_pages.specs.Answers.{IsChild, IsHeaderFor, IsLeafPage, IsUnread, IsOfPages, IsJustRead};
 ghost use Rattle.bfs_pages.specs.Maps.{assoc, without};
 ghost use Rattle.bfs_pages.specs.Shapes.{Shape, tree_rows};
 ghost use Rattle.bfs_pages.specs.Trees.{page_in, header_in, IsTree, HasRows};
@@ -54,6 +54,7 @@ fn take_out<P: Pages, L: Ledger>(
         → IfOk result (λ h. (c : List ℕ) × (t2 : Shape) × (fs2 : List ℕ) × (P.told pages.new ≡ Some c) × (h ≡ header_in c) × IsTree kind c reached t2 fs2 × IsFilled t2) }
     ensures size { OnOk result (P.size pages.new ≡ P.size pages.old) }
     ensures refused { IfErr result (IsUnread kind (P.told pages.new) (P.is_cause pages.old pages.new)) }
+    ensures just_read { IfErr result (IsJustRead (P.size pages.new) (P.last pages.new)) }
     ensures steps { steps.new ≤ steps.old + way.header.levels + 1 }
     ensures kept { Kept (P.counts pages.old) (P.counts pages.new) (P.frame pages.old) (P.frame pages.new) (P.goes_on pages.old pages.new) }
 {
@@ -86,6 +87,7 @@ pub fn remove<P: Pages, L: Ledger>(
     ensures filled { (b reached : List ℕ) (t : Shape) (fs : List ℕ) → P.told pages.old ≡ Some b → IsTree kind b reached t fs → IsFilled t → OnOk result ((c : List ℕ) × (t2 : Shape) × (fs2 : List ℕ) × (P.told pages.new ≡ Some c) × IsTree kind c reached t2 fs2 × IsFilled t2) }
     ensures size { OnOk result (P.size pages.new ≡ P.size pages.old) }
     ensures refused { IfErr result (IsWithheld kind (P.told pages.old) (P.told pages.new) (P.is_cause pages.old pages.new)) }
+    ensures just_read { IfErr result (IsJustRead (P.size pages.new) (P.last pages.new)) }
     ensures steps { (b : List ℕ) → P.told pages.old ≡ Some b → steps.new ≤ steps.old + 3 * (header_in b).levels + 1 }
     ensures kept { Kept (P.counts pages.old) (P.counts pages.new) (P.frame pages.old) (P.frame pages.new) (P.goes_on pages.old pages.new) }
 {

@@ -3,7 +3,7 @@ ghost use Rattle.std.specs.Prelude.{◌≡◌, ◌≤◌, ◌<◌, ◌+◌, ℕ,
 ghost use Rattle.bfs_base.specs.Keys.{IsTreeKind};
 ghost use Rattle.bfs_node.specs.Page.{IsPage, HasLayout, rows_of};
 ghost use Rattle.bfs_node.specs.Search.{IsSought};
-ghost use Rattle.bfs_pages.specs.Answers.{IsChild, IsHeaderFor, IsLeafPage, IsUnread, IsOfPages};
+ghost use Rattle.bfs_pages.specs.Answers.{IsChild, IsHeaderFor, IsLeafPage, IsUnread, IsOfPages, IsJustRead};
 ghost use Rattle.bfs_pages.specs.Shapes.{Shape};
 ghost use Rattle.bfs_pages.specs.Trees.{header_in, page_in, IsTree};
 ghost use Rattle.bfs_pages.specs.Writes.{Kept};
@@ -64,6 +64,7 @@ pub fn way_to<P: Pages, L: Ledger>(
     ensures told_page { IfOk result (λ w. IfSome (P.told pages.old) (λ b. page.new ≡ page_in b w.leaf)) }
     ensures way { (b reached : List ℕ) (t : Shape) (fs : List ℕ) → P.told pages.old ≡ Some b → IsTree kind b reached t fs → MatchResult result (IsWayTo kind b t key.now page.new) IsOfPages }
     ensures refused { IfErr result (IsUnread kind (P.told pages.new) (P.is_cause pages.old pages.new)) }
+    ensures just_read { IfErr result (IsJustRead (P.size pages.new) (P.last pages.new)) }
     ensures steps { (b : List ℕ) → P.told pages.old ≡ Some b → steps.new ≤ steps.old + (header_in b).levels + 1 }
     ensures told { P.told pages.new ≡ P.told pages.old }
     ensures size { P.size pages.new ≡ P.size pages.old }

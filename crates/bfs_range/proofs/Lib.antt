@@ -1,3 +1,4 @@
+mod Answering
 mod Between
 mod LeafLists
 mod Least

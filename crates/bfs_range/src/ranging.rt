@@ -1,12 +1,13 @@
 // The rows of a tree in a range of keys.
-ghost use Rattle.std.specs.Prelude.{◌≡◌, ◌≤◌, ◌+◌, ℕ, List, Option, Some, IfErr, IfSome, MatchResult, length};
+ghost use Rattle.std.specs.Prelude.{◌≡◌, ◌≤◌, ◌+◌, ℕ, List, Option, Some, IfOk, IfErr, IfSome, MatchResult, length};
 ghost use Rattle.std.specs.Option.{option_copied};
 ghost use Rattle.bfs_base.specs.Keys.{IsTreeKind};
 ghost use Rattle.bfs_node.specs.Search.{IsSought};
 ghost use Rattle.bfs_txn.specs.Faults.{AreLater};
+ghost use Rattle.bfs_pages.specs.Answers.{IsJustRead};
 ghost use Rattle.bfs_pages.specs.Shapes.{Shape, tree_rows};
 ghost use Rattle.bfs_pages.specs.Trees.{header_in, IsTree, state_of};
-ghost use Rattle.bfs_range.specs.Answers.{answer_of};
+ghost use Rattle.bfs_range.specs.Answers.{answer_of, AreAnswers};
 ghost use Rattle.bfs_values.specs.Kinds.{IsCut, IsLacking, Stays};
 ghost use Rattle.bfs_range.specs.Leaves.{leaf_list, first_leaf, right_of, leaves_upto};
 ghost use Rattle.bfs_range.specs.Meant.{AllMean, pages_of};
@@ -35,6 +36,8 @@ pub fn range_from<P: Pages, L: Ledger>(
     ensures ranged { (b reached : List ℕ) (t : Shape) (fs : List ℕ) → P.told pages.old ≡ Some b → IsTree kind b reached t fs → AllMean b (rows_between kind (Some ends.entry.0.now) (option_copied ends.entry.1) (tree_rows t)) → MatchResult result (λ found. found.items ≡ answer_of b (rows_between kind (Some ends.entry.0.now) (option_copied ends.entry.1) (tree_rows t))) IsLacking }
     ensures steps { (b reached : List ℕ) (t : Shape) (fs : List ℕ) → P.told pages.old ≡ Some b → IsTree kind b reached t fs → AllMean b (rows_between kind (Some ends.entry.0.now) (option_copied ends.entry.1) (tree_rows t)) → steps.new ≤ steps.old + (header_in b).levels + 1 + leaves_upto kind (option_copied ends.entry.1) (right_of (first_leaf kind (state_of kind b).levels t (Some ends.entry.0.now)) (leaf_list t)) + pages_of b (rows_between kind (Some ends.entry.0.now) (option_copied ends.entry.1) (tree_rows t)) }
     ensures refused { IfErr result (IsCut kind (P.told pages.new) (P.is_cause pages.old pages.new)) }
+    ensures sure { (b : List ℕ) → P.told pages.old ≡ Some b → IfOk result (λ rows. AreAnswers kind b rows.items) }
+    ensures just_read { IfErr result (IsJustRead (P.size pages.new) (P.last pages.new)) }
     ensures stays { Stays (P.told pages.old) (P.told pages.new) (P.size pages.old) (P.size pages.new) (P.counts pages.old) (P.counts pages.new) (P.frame pages.old) (P.frame pages.new) (P.goes_on pages.old pages.new) }
 {
     let mut page = [0u8; PAGE];
@@ -83,6 +86,8 @@ pub fn range<P: Pages, L: Ledger>(
     ensures ranged { (b reached : List ℕ) (t : Shape) (fs : List ℕ) → P.told pages.old ≡ Some b → IsTree kind b reached t fs → AllMean b (rows_between kind (option_copied low.entry) (option_copied high.entry) (tree_rows t)) → MatchResult result (λ found. found ≡ answer_of b (rows_between kind (option_copied low.entry) (option_copied high.entry) (tree_rows t))) IsLacking }
     ensures steps { (b reached : List ℕ) (t : Shape) (fs : List ℕ) → P.told pages.old ≡ Some b → IsTree kind b reached t fs → AllMean b (rows_between kind (option_copied low.entry) (option_copied high.entry) (tree_rows t)) → steps.new ≤ steps.old + (header_in b).levels + 1 + leaves_upto kind (option_copied high.entry) (right_of (first_leaf kind (state_of kind b).levels t (option_copied low.entry)) (leaf_list t)) + pages_of b (rows_between kind (option_copied low.entry) (option_copied high.entry) (tree_rows t)) }
     ensures refused { IfErr result (IsCut kind (P.told pages.new) (P.is_cause pages.old pages.new)) }
+    ensures sure { (b : List ℕ) → P.told pages.old ≡ Some b → IfOk result (λ rows. AreAnswers kind b rows) }
+    ensures just_read { IfErr result (IsJustRead (P.size pages.new) (P.last pages.new)) }
     ensures told { P.told pages.new ≡ P.told pages.old }
     ensures size { P.size pages.new ≡ P.size pages.old }
     ensures counts { AreLater (P.counts pages.old) (P.counts pages.new) }

@@ -1,7 +1,7 @@
 -- The pages of a chain: the first and the others.
-use Rattle.std.proofs.Common.{◌≡◌, ◌≢◌, ◌≤◌, ◌<◌, ◌-◌, ℕ, zero, suc, List, [], ◌∷◌, ◌++◌, length, Bool, true, false, cond, ◌==◌, inl, inr, refl, ap, sym, ◌∙◌, subst, arith, append_assoc, append-nil}
+use Rattle.std.proofs.Common.{◌≡◌, ◌≢◌, ◌≤◌, ◌<◌, ◌+◌, ◌-◌, ◌/◌, ◌%◌, ℕ, zero, suc, List, [], ◌∷◌, ◌++◌, length, Bool, true, false, cond, ◌==◌, inl, inr, refl, ap, sym, ◌∙◌, subst, arith, append_assoc, append-nil}
 use Rattle.bfs_pages.specs.Answers.{IsChild, IsLink}
-use Rattle.bfs_pages.specs.Trees.{page_in}
+use Rattle.bfs_pages.specs.Trees.{page_in, is_place}
 use Rattle.bfs_values.specs.Values.{IsDuplicates, page_numbers, next_of, EndsAfter, chain_from, numbers_of_pages, AreDuplicates}
 
 eq_yes : (a b : ℕ) → a ≡ b → (a == b) ≡ true
@@ -58,3 +58,20 @@ some_pages b (suc n) at l = omega arith
 
 pub nothing-more : (xs : List ℕ) → xs ++ [] ≡ xs
 nothing-more xs = append-nil xs
+
+-- a duplicate page before those of a chain
+pub good-before : (b : List ℕ) (left at next : ℕ) → 1 ≤ left → next_of b at ≢ 0 → next ≡ next_of b at → IsDuplicates (page_in b at) → AreDuplicates b (chain_from b (left - 1) next) → AreDuplicates b (chain_from b left at)
+good-before b left at next l off e good rest =
+    subst (λ z. AreDuplicates b z) (sym (chain-next b left at (omega (arith, l)) off)) (good, subst (λ x. AreDuplicates b (chain_from b (left - 1) x)) e rest)
+
+below : (size at : ℕ) → is_place size at ≡ true → at + 1 ≤ size
+below size at p = grind (arith, p)
+
+-- a stream with a page beside the header has a page
+pub first-page : (size at long : ℕ) → long ≡ size → size % 1024 ≡ 0 → IsChild size at → 1 ≤ long / 1024
+first-page size at long e w p = omega (arith, e, w, below size at p.1)
+
+-- a page after which there are no more has no next one
+pub last-page : (b : List ℕ) (n at : ℕ) → n ≡ 0 → EndsAfter b n at → next_of b at ≡ 0
+last-page b zero at e d = d
+last-page b (suc n) at e d = absurd (omega (arith, e))

@@ -1,4 +1,4 @@
-mod Chains
+pub mod Chains
 pub mod Ending
 pub mod Lasting
 mod Orders

@@ -90,6 +90,13 @@ HasNumbers bytes (Fragment page i) = IsChild (length bytes) page × IsFragment (
 HasNumbers bytes (Chain page) = IsChild (length bytes) page × ((n : ℕ) × EndsAfter bytes n page) × AreDuplicates bytes (chain_of bytes page) × IsOnce (numbers_of_pages bytes (chain_of bytes page))
 HasNumbers bytes Nothing = ⊥
 
+-- the same, but that a number may be twice in the chain: what a reader can tell
+abbrev pub IsReadable : List ℕ → Link → Type 0
+IsReadable bytes (Number n) = Unit {0}
+IsReadable bytes (Fragment page i) = IsChild (length bytes) page × IsFragment (page_in bytes page) i
+IsReadable bytes (Chain page) = IsChild (length bytes) page × ((n : ℕ) × EndsAfter bytes n page) × AreDuplicates bytes (chain_of bytes page)
+IsReadable bytes Nothing = ⊥
+
 -- the numbers: that one; those of the fragment; or those of all pages of the chain, put in ascending order
 abbrev pub numbers_in : List ℕ → Link → List ℕ
 numbers_in bytes (Number n) = n ∷ []

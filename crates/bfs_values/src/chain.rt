@@ -1,6 +1,6 @@
 // Reads a chain of duplicate pages.
 ghost use Rattle.std.specs.Prelude.{◌≡◌, ◌≤◌, ◌+◌, ◌++◌, ℕ, List, Some, length, IfErr, IfOk, IfSome, OnOk, MatchResult};
-ghost use Rattle.bfs_pages.specs.Answers.{IsChild, IsLink};
+ghost use Rattle.bfs_pages.specs.Answers.{IsChild, IsLink, IsJustRead};
 ghost use Rattle.bfs_pages.specs.Trees.{page_in};
 ghost use Rattle.bfs_values.specs.Kinds.{IsCut, IsLacking, Stays};
 ghost use Rattle.bfs_values.specs.Values.{IsDuplicates, page_numbers, next_of, EndsAfter, AreDuplicates, chain_of, numbers_of_pages};
@@ -25,6 +25,9 @@ fn add_page<P: Pages, L: Ledger>(
     ensures numbers { OnOk result (IfSome (P.told pages.old) (λ b. numbers.new.items ≡ numbers.old.items ++ page_numbers (page_in b at))) }
     ensures spared { (b : List ℕ) → P.told pages.old ≡ Some b → IsDuplicates (page_in b at) → IsLink (length b) (next_of b at) → IfErr result IsLacking }
     ensures refused { IfErr result (IsCut kind (P.told pages.new) (P.is_cause pages.old pages.new)) }
+    ensures good { OnOk result (IfSome (P.told pages.old) (λ b. IsDuplicates (page_in b at))) }
+    ensures last { OnOk result (P.last pages.new ≡ at) }
+    ensures just_read { IfErr result (IsJustRead (P.size pages.new) (P.last pages.new)) }
     ensures steps { steps.new ≤ steps.old + 1 }
     ensures stays { Stays (P.told pages.old) (P.told pages.new) (P.size pages.old) (P.size pages.new) (P.counts pages.old) (P.counts pages.new) (P.frame pages.old) (P.frame pages.new) (P.goes_on pages.old pages.new) }
 {
@@ -63,11 +66,13 @@ pub fn add_chain<P: Pages, L: Ledger>(
     ensures numbers { (b : List ℕ) → P.told pages.old ≡ Some b → ((n : ℕ) × EndsAfter b n first) → AreDuplicates b (chain_of b first) → MatchResult result (λ _. numbers.new.items ≡ numbers.old.items ++ numbers_of_pages b (chain_of b first)) IsLacking }
     ensures steps { (b : List ℕ) → P.told pages.old ≡ Some b → ((n : ℕ) × EndsAfter b n first) → AreDuplicates b (chain_of b first) → steps.new ≤ steps.old + length (chain_of b first) }
     ensures refused { IfErr result (IsCut kind (P.told pages.new) (P.is_cause pages.old pages.new)) }
+    ensures sure { (b : List ℕ) → P.told pages.old ≡ Some b → OnOk result (((n : ℕ) × EndsAfter b n first) × AreDuplicates b (chain_of b first)) }
+    ensures just_read { IfErr result (IsJustRead (P.size pages.new) (P.last pages.new)) }
     ensures stays { Stays (P.told pages.old) (P.told pages.new) (P.size pages.old) (P.size pages.new) (P.counts pages.old) (P.counts pages.new) (P.frame pages.old) (P.frame pages.new) (P.goes_on pages.old pages.new) }
 {
     let mut at = first;
     let mut left = pages.length() / 1024;
-    while left > 0 {
+    loop {
         let next = match add_page(pages, kind, at, numbers, steps) {
             Ok(next) => next,
             Err(fault) => return Err(fault),
@@ -75,11 +80,13 @@ pub fn add_chain<P: Pages, L: Ledger>(
         if next == 0 {
             return Ok(());
         }
+        if left == 1 {
+            return Err(TreeFault::Damaged {
+                page: at,
+                kind: PageKind::Duplicates,
+            });
+        }
         at = next;
         left -= 1;
     }
-    Err(TreeFault::Damaged {
-        page: at,
-        kind: PageKind::Duplicates,
-    })
 }

@@ -7,6 +7,6 @@ mod numbers;
 mod packed;
 
 pub use chain::add_chain;
-pub use link::{Link, link_of};
+pub use link::{Link, is_named, link_of};
 pub use numbers::{Numbers, numbers_of};
 pub use packed::{add_numbers, ascends, duplicates_size, fragment_size, number_at};

@@ -1,6 +1,9 @@
 // What a value of a leaf names.
-ghost use Rattle.std.specs.Prelude.{◌≡◌};
+ghost use Rattle.std.specs.Prelude.{◌≡◌, ◌↔◌, IsTrue};
+ghost use Rattle.bfs_values.specs.Kinds.{IsNamed};
 ghost use Rattle.bfs_values.specs.Links.{link_in};
+
+use bfs_pages::is_child;
 
 /// What a value of a leaf names. A page is named by the byte of the stream at which it begins.
 #[derive(Clone, Copy, Debug, PartialEq, Eq)]
@@ -34,5 +37,17 @@ pub fn link_of(value: i64) -> Link
         }
     } else {
         Link::Nothing
+    }
+}
+
+/// Whether a value is a plain number, or leads to a page of a stream with so many bytes.
+pub fn is_named(value: i64, size: u64) -> bool
+    ensures { IsTrue result ↔ IsNamed size (link_in value) }
+{
+    match link_of(value) {
+        Link::Number(_) => true,
+        Link::Fragment { page, .. } => is_child(page, size),
+        Link::Chain { page } => is_child(page, size),
+        Link::Nothing => false,
     }
 }

@@ -1,10 +1,10 @@
 // The numbers that a value of a leaf means.
-ghost use Rattle.std.specs.Prelude.{◌≡◌, ◌≤◌, ◌+◌, ◌++◌, ◌∷◌, [], ℕ, ℤ, List, Some, length, IfErr, IfOk, IfSome, MatchResult};
-ghost use Rattle.bfs_pages.specs.Answers.{IsChild, IsLink};
+ghost use Rattle.std.specs.Prelude.{◌≡◌, ◌⊎◌, ◌≤◌, ◌+◌, ◌++◌, ◌∷◌, [], ℕ, ℤ, List, Some, length, OnOk, IfErr, IfOk, IfSome, MatchResult};
+ghost use Rattle.bfs_pages.specs.Answers.{IsChild, IsLink, IsJustRead};
 ghost use Rattle.bfs_pages.specs.Trees.{page_in};
-ghost use Rattle.bfs_values.specs.Kinds.{IsValueOf, IsCut, IsLacking, Stays};
+ghost use Rattle.bfs_values.specs.Kinds.{IsValueOf, IsNamed, IsCut, IsLacking, Stays};
 ghost use Rattle.bfs_values.specs.Links.{link_in};
-ghost use Rattle.bfs_values.specs.Values.{IsFragment, fragment_numbers, HasValues, values_in, pages_for, EndsAfter, AreDuplicates, chain_of, numbers_of_pages, in_order};
+ghost use Rattle.bfs_values.specs.Values.{IsFragment, fragment_numbers, IsReadable, HasValues, values_in, pages_for, EndsAfter, AreDuplicates, chain_of, numbers_of_pages, in_order};
 ghost use Rattle.bfs_values.specs.declared.link.Link.TheVariants.{Fragment as FragmentLink};
 
 use crate::chain::add_chain;
@@ -73,6 +73,8 @@ fn read_fragment<P: Pages, L: Ledger>(
     requires at { IsChild (P.size pages.old) at.0 }
     ensures found { (b : List ℕ) → P.told pages.old ≡ Some b → IsFragment (page_in b at.0) at.1 → MatchResult result (λ v. v.items ≡ fragment_numbers (page_in b at.0) at.1) IsLacking }
     ensures refused { (leaf : ℕ) (value : ℤ) → IfSome (P.told pages.old) (λ b. IsValueOf kind b leaf value) → link_in value ≡ FragmentLink at.0 at.1 → IfErr result (IsCut kind (P.told pages.new) (P.is_cause pages.old pages.new)) }
+    ensures sure { (b : List ℕ) → P.told pages.old ≡ Some b → OnOk result (IsFragment (page_in b at.0) at.1) }
+    ensures just_read { IfErr result (IsJustRead (P.size pages.new) (P.last pages.new)) }
     ensures steps { steps.new ≤ steps.old + 1 }
     ensures stays { Stays (P.told pages.old) (P.told pages.new) (P.size pages.old) (P.size pages.new) (P.counts pages.old) (P.counts pages.new) (P.frame pages.old) (P.frame pages.new) (P.goes_on pages.old pages.new) }
 {
@@ -106,6 +108,8 @@ fn read_chain<P: Pages, L: Ledger>(
     ensures found { (b : List ℕ) → P.told pages.old ≡ Some b → ((n : ℕ) × EndsAfter b n first) → AreDuplicates b (chain_of b first) → MatchResult result (λ v. v.items ≡ in_order (numbers_of_pages b (chain_of b first))) IsLacking }
     ensures steps { (b : List ℕ) → P.told pages.old ≡ Some b → ((n : ℕ) × EndsAfter b n first) → AreDuplicates b (chain_of b first) → steps.new ≤ steps.old + length (chain_of b first) }
     ensures refused { IfErr result (IsCut kind (P.told pages.new) (P.is_cause pages.old pages.new)) }
+    ensures sure { (b : List ℕ) → P.told pages.old ≡ Some b → OnOk result (((n : ℕ) × EndsAfter b n first) × AreDuplicates b (chain_of b first)) }
+    ensures just_read { IfErr result (IsJustRead (P.size pages.new) (P.last pages.new)) }
     ensures stays { Stays (P.told pages.old) (P.told pages.new) (P.size pages.old) (P.size pages.new) (P.counts pages.old) (P.counts pages.new) (P.frame pages.old) (P.frame pages.new) (P.goes_on pages.old pages.new) }
 {
     let mut items = Vec::new(alloc);
@@ -131,6 +135,8 @@ pub fn numbers_of<P: Pages, L: Ledger>(
     ensures meant { (b : List ℕ) → P.told pages.old ≡ Some b → HasValues b value → MatchResult result (λ n. n ≡ values_in b value) IsLacking }
     ensures steps { (b : List ℕ) → P.told pages.old ≡ Some b → HasValues b value → steps.new ≤ steps.old + pages_for b value }
     ensures refused { IfSome (P.told pages.old) (λ b. IsValueOf kind b leaf value) → IfErr result (IsCut kind (P.told pages.new) (P.is_cause pages.old pages.new)) }
+    ensures sure { (b : List ℕ) → P.told pages.old ≡ Some b → IfOk result (λ n. IsReadable b (link_in value) × (n ≡ values_in b value)) }
+    ensures just_read { (P.last pages.old ≡ leaf) ⊎ IsNamed (P.size pages.old) (link_in value) → IfErr result (IsJustRead (P.size pages.new) (P.last pages.new)) }
     ensures stays { Stays (P.told pages.old) (P.told pages.new) (P.size pages.old) (P.size pages.new) (P.counts pages.old) (P.counts pages.new) (P.frame pages.old) (P.frame pages.new) (P.goes_on pages.old pages.new) }
 {
     let damaged = TreeFault::Damaged {

@@ -7,7 +7,9 @@ use Rattle.bfs_pages.specs.Order.{Key}
 use Rattle.bfs_pages.specs.Trees.{page_in, place_of, neighbours_in, state_of}
 use Rattle.bfs_pages.proofs.Faulted.{of-pages}
 use Rattle.bfs_pages.proofs.OfKind.{if_some}
-use Rattle.bfs_range.specs.Answers.{answer_of, IsRead}
+use Rattle.bfs_range.specs.declared.ranged.RangedRow.{RangedRow}
+use Rattle.bfs_range.specs.Answers.{answer_of, IsRead, AreAnswers}
+use Rattle.bfs_range.proofs.Answering.{is-read}
 use Rattle.bfs_values.specs.Values.{next_of, EndsAfter}
 use Rattle.bfs_range.specs.Leaves.{LeafAt, leaf_list, first_leaf, right_of, leaves_upto}
 use Rattle.bfs_range.specs.Meant.{pages_of}
@@ -27,6 +29,8 @@ loop-left-init g c = record {
   stays = record { told_is = c.in-Ok.ensures.told; size_is = c.in-Ok.ensures.size; counts = c.in-Ok.ensures.counts; frame_is = c.in-Ok.ensures.frame; goes_on = c.in-Ok.ensures.goes_on };
   page = c.in-Ok.ensures.page;
   at = c.in-Ok.ensures.place;
+  last = c.in-Ok.ensures.last;
+  sure = λ b e. subst (λ (z : List RangedRow). AreAnswers c.args.kind b z) (sym c.new-rows.ensures.items) tt;
   fields = c.in-Ok.ensures.fields;
   read = c.in-Ok.ensures.read;
   spare = λ b e n d.
@@ -177,6 +181,8 @@ loop-left-preserved g c =
     let child : IsChild (g.P.Pages.size c.args.pages.now) c.place-next.result =
     subst (λ z. IsChild (g.P.Pages.size c.args.pages.now) z) (sym link) (the_child (g.P.Pages.size c.args.pages.now) (neighbours_in c.loop-left.page).1 c.loop-left.invariant.fields.right (λ z. c.if-next-eq0.false (link ∙ z))) in
     let told : g.P.Pages.told c.take_leaf.new.pages ≡ g.P.Pages.told c.args.pages.now = both.told_is in
+    let read-here : (b : List ℕ) → g.P.Pages.told c.args.pages.now ≡ Some b → IsRead c.args.kind b c.loop-left.at c.loop-left.page =
+    λ b e. is-read c.args.kind (g.P.Pages.told c.args.pages.now) (g.P.Pages.size c.args.pages.now) c.loop-left.at c.loop-left.page b (g.met.P.Pages.sized c.args.pages.now) c.loop-left.invariant.read c.loop-left.invariant.fields e in
     let seen = subst (λ (o : Option (List ℕ)). IfSome o (λ b. c.read_leaf.new.page ≡ page_in b c.place-next.result)) told c.in-Ok-read_leaf.ensures.read in
     record {
       stays = stays-twice both (record {
@@ -188,6 +194,8 @@ loop-left-preserved g c =
       }) (g.met.P.Pages.goes_on_twice c.args.pages.now c.take_leaf.new.pages c.read_leaf.new.pages);
       page = c.in-Ok-read_leaf.ensures.page;
       at = child;
+      last = c.in-Ok-read_leaf.ensures.last;
+      sure = λ b e. c.in-Ok-false.ensures.sure b (c.loop-left.invariant.stays.told_is ∙ e) (read-here b e) (c.loop-left.invariant.sure b e);
       fields = subst (λ (n : ℕ). IsLeafPage c.args.kind n c.read_leaf.new.page) both.size_is c.in-Ok-read_leaf.ensures.leaf;
       read = seen;
       spare = λ b e n d.
@@ -250,3 +258,13 @@ returns-in-Err-take_leaf-clause-refused g c =
     let told : g.P.Pages.told c.args.pages.now ≡ Some b = sym c.loop-left.invariant.stays.told_is ∙ e in
     let size : length b ≡ g.P.Pages.size c.args.pages.now = if_some (λ (b : List ℕ). length b ≡ g.P.Pages.size c.args.pages.now) (g.P.Pages.told c.args.pages.now) b (g.met.P.Pages.sized c.args.pages.now) told in
     (if_some (λ b. c.loop-left.page ≡ page_in b c.loop-left.at) (g.P.Pages.told c.args.pages.now) b c.loop-left.invariant.read told, subst (λ (n : ℕ). IsLeafPage c.args.kind n c.loop-left.page) (sym size) c.loop-left.invariant.fields))))
+
+pub returns-in-Ok-true-clause-sure : goal.returns-in-Ok-true-clause-sure
+returns-in-Ok-true-clause-sure g c b e =
+    let here = is-read c.args.kind (g.P.Pages.told c.args.pages.now) (g.P.Pages.size c.args.pages.now) c.loop-left.at c.loop-left.page b (g.met.P.Pages.sized c.args.pages.now) c.loop-left.invariant.read c.loop-left.invariant.fields e in
+    c.in-Ok-true.ensures.sure b (c.loop-left.invariant.stays.told_is ∙ e) here (c.loop-left.invariant.sure b e)
+
+pub returns-then-next-eq0-clause-sure : goal.returns-then-next-eq0-clause-sure
+returns-then-next-eq0-clause-sure g c b e =
+    let here = is-read c.args.kind (g.P.Pages.told c.args.pages.now) (g.P.Pages.size c.args.pages.now) c.loop-left.at c.loop-left.page b (g.met.P.Pages.sized c.args.pages.now) c.loop-left.invariant.read c.loop-left.invariant.fields e in
+    c.in-Ok-false.ensures.sure b (c.loop-left.invariant.stays.told_is ∙ e) here (c.loop-left.invariant.sure b e)

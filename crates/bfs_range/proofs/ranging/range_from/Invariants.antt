@@ -4,7 +4,7 @@ use Rattle.bfs_node.specs.Page.{IsPage, rows_of}
 use Rattle.bfs_pages.specs.Answers.{IsChild, IsLeafPage}
 use Rattle.bfs_pages.specs.Shapes.{Shape, tree_rows}
 use Rattle.bfs_pages.specs.Trees.{header_in, page_in, IsTree, state_of}
-use Rattle.bfs_range.specs.Answers.{answer_of}
+use Rattle.bfs_range.specs.Answers.{answer_of, AreAnswers}
 use Rattle.bfs_values.specs.Kinds.{Stays}
 use Rattle.bfs_values.specs.Values.{EndsAfter}
 use Rattle.bfs_range.specs.Leaves.{LeafAt, leaf_list, first_leaf, right_of, leaves_upto}
@@ -25,6 +25,8 @@ invariant-loop-left g l =
       page : IsPage l.kind l.page;
       at : IsChild (g.P.Pages.size l.fn.pages) l.at;
       fields : IsLeafPage l.kind (g.P.Pages.size l.fn.pages) l.page;
+      last : g.P.Pages.last l.pages ≡ l.at;
+      sure : (b : List ℕ) → told l.fn.pages ≡ Some b → AreAnswers l.kind b l.rows.items;
       read : IfSome (told l.fn.pages) (λ b. l.page ≡ page_in b l.at);
       spare : (b : List ℕ) → told l.fn.pages ≡ Some b → (n : ℕ) → EndsAfter b n l.at → n < l.left;
       way : (b reached : List ℕ) (t : Shape) (fs : List ℕ) → told l.fn.pages ≡ Some b → IsTree l.kind b reached t fs

@@ -1,7 +1,7 @@
-// Numbers added to the keys of one leaf, in memory, beside plain tables.
+// Numbers added to the keys of one leaf and taken out again, in memory, beside plain tables.
 ghost use Rattle.std.specs.Prelude.{◌≡◌, ◌<◌, ◌^◌, length};
 
-use crate::dups_add;
+use crate::{dups_add, dups_remove};
 use bfs_node::{
     Header, KeyKind, PAGE, TreeFault, blank, check, has_room, insert_row, row_count, row_value,
     set_row_value,
@@ -190,67 +190,6 @@ fn form_of(pages: &mut MemPages, row: usize) -> u8 {
     }
 }
 
-/// Numbers 0 to 125 of one key: the form of its value, and how many pages there are, after each.
-fn one_key(alloc: Global, pages: &mut MemPages) -> bool {
-    if form_of(pages, 0) != 1 || pages.length() != 2048 {
-        return false;
-    }
-    for number in 1..126u64 {
-        if !adds(pages, 0, number) || !has_all(alloc, pages, 0, 0, number) {
-            return false;
-        }
-        let form = if number < 7 { 2 } else { 3 };
-        let size = if number < 125 { 3072 } else { 4096 };
-        if form_of(pages, 0) != form || pages.length() != size {
-            return false;
-        }
-    }
-    adds(pages, 0, 77) && has_all(alloc, pages, 0, 0, 125) && pages.length() == 4096
-}
-
-#[test]
-fn seven_numbers_are_a_fragment_and_126_take_two_pages(rt: HostRuntime) -> Result<(), Fail> {
-    let alloc = rt.alloc();
-    let mut bytes = Vec::new(alloc);
-    make_tree(&mut bytes, 1)?;
-    match stream_of(bytes) {
-        Some(mut pages) => assert!(rt; one_key(alloc, &mut pages)),
-        None => assert!(rt; false),
-    }
-    Ok(())
-}
-
-/// Two numbers for each of seventeen keys: sixteen have one page of fragments, and the seventeenth begins another.
-fn pairs(alloc: Global, pages: &mut MemPages) -> bool {
-    for row in 0..17usize {
-        if !adds(pages, row, row as u64 + 1) {
-            return false;
-        }
-        let size = if row < 16 { 3072 } else { 4096 };
-        if pages.length() != size {
-            return false;
-        }
-    }
-    for row in 0..17usize {
-        if !has_all(alloc, pages, row, row as u64, row as u64 + 1) {
-            return false;
-        }
-    }
-    true
-}
-
-#[test]
-fn seventeen_pairs_take_two_pages_of_fragments(rt: HostRuntime) -> Result<(), Fail> {
-    let alloc = rt.alloc();
-    let mut bytes = Vec::new(alloc);
-    make_tree(&mut bytes, 17)?;
-    match stream_of(bytes) {
-        Some(mut pages) => assert!(rt; pairs(alloc, &mut pages)),
-        None => assert!(rt; false),
-    }
-    Ok(())
-}
-
 /// Whether a row means the numbers that stand in its part of a table, and no others.
 fn is_table(alloc: Global, pages: &mut MemPages, table: &[bool], row: usize) -> bool {
     let value = match value_at(pages, row) {
@@ -283,15 +222,146 @@ fn next_seed(seed: u64) -> u64 {
         .wrapping_add(1442695040888963407)
 }
 
-/// So many random additions to twenty keys; after each forty all numbers are read back.
-fn agrees(alloc: Global, pages: &mut MemPages, table: &mut [bool], calls: u32) -> bool {
+fn removed<L: Ledger>(
+    pages: &mut MemPages,
+    value: i64,
+    number: u64,
+    ledger: Blank,
+) -> Result<Option<i64>, TreeFault<AllocError>>
+    requires number { number < 2 ^ 62 }
+    requires name { ledger.name ≡ L.name }
+    requires parts { ledger.parts ≡ L.parts }
+    requires some { L.parts ≡ 1 }
+{
+    let mut steps = Steps::<L>::begin(ledger);
+    dups_remove(pages, KeyKind::Text, LEAF, value, number, &mut steps)
+}
+
+/// Takes a number out of a row of the leaf; whether some number was left.
+fn takes(pages: &mut MemPages, row: usize, number: u64) -> bool {
+    if number >= 1_000_000_000 {
+        return false;
+    }
+    let value = match value_at(pages, row) {
+        Some(value) => value,
+        None => return false,
+    };
+    match removed::<Brand>(pages, value, number, Blank::new(1)) {
+        Ok(Some(new)) => set_value(pages, row, new),
+        _ => false,
+    }
+}
+
+/// Whether no number is left of a row without this one.
+fn is_last(pages: &mut MemPages, row: usize, number: u64) -> bool {
+    if number >= 1_000_000_000 {
+        return false;
+    }
+    let value = match value_at(pages, row) {
+        Some(value) => value,
+        None => return false,
+    };
+    match removed::<Brand>(pages, value, number, Blank::new(1)) {
+        Ok(None) => true,
+        _ => false,
+    }
+}
+
+/// Numbers 0 to 129 of one key, taken out from the greatest down: the form of the value after each, and no page more.
+fn back_to_one(alloc: Global, pages: &mut MemPages) -> bool {
+    for number in 1..130u64 {
+        if !adds(pages, 0, number) {
+            return false;
+        }
+    }
+    for taken in 0..129u64 {
+        let number = 129 - taken;
+        if !takes(pages, 0, number)
+            || !takes(pages, 0, 500)
+            || !has_all(alloc, pages, 0, 0, number - 1)
+        {
+            return false;
+        }
+        let form = if number > 7 {
+            3
+        } else if number > 1 {
+            2
+        } else {
+            1
+        };
+        if form_of(pages, 0) != form || pages.length() != 4096 {
+            return false;
+        }
+    }
+    is_last(pages, 0, 0)
+}
+
+#[test]
+fn numbers_go_until_one_is_plain(rt: HostRuntime) -> Result<(), Fail> {
+    let alloc = rt.alloc();
+    let mut bytes = Vec::new(alloc);
+    make_tree(&mut bytes, 1)?;
+    match stream_of(bytes) {
+        Some(mut pages) => assert!(rt; back_to_one(alloc, &mut pages)),
+        None => assert!(rt; false),
+    }
+    Ok(())
+}
+
+/// From eight numbers to seven and back, so often, without a page more.
+fn to_and_fro(alloc: Global, pages: &mut MemPages, times: u64) -> bool {
+    for number in 1..8u64 {
+        if !adds(pages, 0, number) {
+            return false;
+        }
+    }
+    let size = pages.length();
+    for n in 0..times {
+        let number = n % 8;
+        if form_of(pages, 0) != 3 || !takes(pages, 0, number) || form_of(pages, 0) != 2 {
+            return false;
+        }
+        if !adds(pages, 0, number) || !has_all(alloc, pages, 0, 0, 7) || pages.length() != size {
+            return false;
+        }
+    }
+    true
+}
+
+#[test]
+fn a_hundred_times_from_eight_to_seven_takes_no_page(rt: HostRuntime) -> Result<(), Fail> {
+    let alloc = rt.alloc();
+    let mut bytes = Vec::new(alloc);
+    make_tree(&mut bytes, 1)?;
+    match stream_of(bytes) {
+        Some(mut pages) => assert!(rt; to_and_fro(alloc, &mut pages, 100)),
+        None => assert!(rt; false),
+    }
+    Ok(())
+}
+
+/// Whether the part of a table that is a row's has no number but this one.
+fn is_only(table: &[bool], row: usize, number: u64) -> bool {
+    for other in 0..64usize {
+        if row >= 32 || row * 64 + other >= table.len() {
+            return false;
+        }
+        if table[row * 64 + other] && other as u64 != number {
+            return false;
+        }
+    }
+    true
+}
+
+/// So many random additions and removals; after each forty all numbers are read back.
+fn agrees_throughout(alloc: Global, pages: &mut MemPages, table: &mut [bool], calls: u32) -> bool {
     for row in 0..20usize {
         if row * 64 + row >= table.len() {
             return false;
         }
         table[row * 64 + row] = true;
     }
-    let mut seed = 7;
+    let mut seed = 11;
     for n in 0..calls {
         seed = next_seed(seed);
         let row = ((seed >> 33) % 20) as usize;
@@ -300,8 +370,16 @@ fn agrees(alloc: Global, pages: &mut MemPages, table: &mut [bool], calls: u32) -
         if at >= table.len() {
             return false;
         }
-        table[at] = true;
-        if !adds(pages, row, number) {
+        let good = if (seed >> 40) % 2 == (n as u64 / 600) % 2 {
+            table[at] = true;
+            adds(pages, row, number)
+        } else if table[at] && is_only(table, row, number) {
+            is_last(pages, row, number)
+        } else {
+            table[at] = false;
+            takes(pages, row, number)
+        };
+        if !good {
             return false;
         }
         if n % 40 == 0 {
@@ -321,13 +399,13 @@ fn agrees(alloc: Global, pages: &mut MemPages, table: &mut [bool], calls: u32) -
 }
 
 #[test]
-fn random_numbers_of_twenty_keys_are_those_of_a_table(rt: HostRuntime) -> Result<(), Fail> {
+fn random_calls_leave_the_numbers_of_a_table(rt: HostRuntime) -> Result<(), Fail> {
     let alloc = rt.alloc();
     let mut bytes = Vec::new(alloc);
     make_tree(&mut bytes, 20)?;
     let mut table = vec![in alloc; false; 1280]?;
     match stream_of(bytes) {
-        Some(mut pages) => assert!(rt; agrees(alloc, &mut pages, &mut table, 1200)),
+        Some(mut pages) => assert!(rt; agrees_throughout(alloc, &mut pages, &mut table, 2400)),
         None => assert!(rt; false),
     }
     Ok(())

@@ -1,0 +1,167 @@
+-- A tree stands where pages that values reach change, are taken, or are given back.
+use Rattle.std.proofs.Common.{◌≡◌, ◌≢◌, ◌≤◌, ◌+◌, ◌-◌, ◌%◌, ℕ, pos, List, [], ◌∷◌, length, Some, Bool, true, false, cond, ◌==◌, ◌⊎◌, refl, ap, sym, ◌∙◌, subst, arith, inl, inr}
+use Rattle.bfs_base.specs.Lists.{times}
+use Rattle.bfs_base.specs.declared.kind.KeyKind.{KeyKind}
+use Rattle.bfs_node.specs.declared.header.Header.{Header}
+use Rattle.bfs_pages.specs.Answers.{IsChild}
+use Rattle.bfs_pages.specs.Shapes.{Shape, met_by, leaves_of, IsDeep}
+use Rattle.bfs_pages.specs.Trees.{State, state_of, header_in, page_in, place_of, body_in, free_in, neighbours_in, head_or, FreeFrom, held, IsTreeHeader, IsTree}
+use Rattle.bfs_pages.specs.Writes.{PageSet, IsTaken}
+use Rattle.bfs_pages.proofs.Exchange.{met-once, same-free}
+use Rattle.bfs_pages.proofs.Laws.{same-links}
+use Rattle.bfs_pages.proofs.Leaves.{times-leaves}
+use Rattle.bfs_pages.proofs.OfKind.{one-place}
+use Rattle.bfs_pages.proofs.Placed.{same_held, held_most, held_end, held_more}
+use Rattle.bfs_pages.proofs.Splice.{same_shape, self}
+use Rattle.bfs_remove.specs.Removed.{IsGiven}
+use Rattle.bfs_remove.proofs.Giving.{given-back}
+use Rattle.bfs_dups_add.specs.Written.{IsPut}
+
+-- the pages that values reach, in another order
+pub exchange : (kind : KeyKind) (b r s : List ℕ) (t : Shape) (fs : List ℕ) → ((x : ℕ) → times x s ≡ times x r) → IsTree kind b r t fs → IsTree kind b s t fs
+exchange kind b r s t fs e tree = record {
+  header = tree.header;
+  holds = record {
+    built = record {
+      root = tree.holds.built.root;
+      stands = tree.holds.built.stands;
+      deep = tree.holds.built.deep;
+      chain = tree.holds.built.chain;
+      once = λ x. omega (arith, tree.holds.built.once x, e x);
+    };
+    ascends = tree.holds.ascends;
+    linked = tree.holds.linked;
+  };
+}
+
+-- what stands where the tree's own pages stay
+pub stays : (kind : KeyKind) (b c r s : List ℕ) (t : Shape) (fs gs : List ℕ) → IsTree kind b r t fs → IsTreeHeader kind (length c) (header_in c)
+    → (state_of kind c).root ≡ (state_of kind b).root → (state_of kind c).levels ≡ (state_of kind b).levels
+    → ((x : ℕ) → 1 ≤ times x (met_by t) → page_in c x ≡ page_in b x) → FreeFrom (state_of kind c).frees (state_of kind c).free gs
+    → ((x : ℕ) → times x (0 ∷ []) + times x s + times x (met_by t) + times x gs ≡ held (length c) x) → IsTree kind c s t gs
+stays kind b c r s t fs gs tree header root levels pages free once = record {
+  header = header;
+  holds = record {
+    built = record {
+      root = tree.holds.built.root ∙ sym root;
+      stands = same_shape (state_of kind b).bodies (state_of kind c).bodies t (λ x i. ap (body_in kind) (pages x i)) tree.holds.built.stands;
+      deep = subst (λ m. IsDeep m t) (sym levels) tree.holds.built.deep;
+      chain = free;
+      once = once;
+    };
+    ascends = tree.holds.ascends;
+    linked = same-links (state_of kind b).links (state_of kind c).links 0 (leaves_of t) 0 (λ x i. ap neighbours_in (pages x (omega (arith, i, times-leaves x t)))) tree.holds.linked;
+  };
+}
+
+eq_is : (a d : ℕ) → (a == d) ≡ true → a ≡ d
+eq_is a d e = grind (arith, e)
+
+eq_no : (a d : ℕ) → a ≢ d → (a == d) ≡ false
+eq_no a d n = by_test (a == d) refl
+  where
+    by_test : (t : Bool) → (a == d) ≡ t → (a == d) ≡ false
+    by_test true e = absurd (n (eq_is a d e))
+    by_test false e = e
+
+less : (x y : ℕ) (ys : List ℕ) → times x ys ≤ times x (y ∷ ys)
+less x y ys = omega arith
+
+first : (x y : ℕ) (ys : List ℕ) → times x (y ∷ ys) ≡ times x (y ∷ []) + times x ys
+first x y ys = omega arith
+
+-- a page that values reach is written
+pub set : (kind : KeyKind) (b c r : List ℕ) (t : Shape) (fs : List ℕ) (at : ℕ) (page : List ℕ) → IsTree kind b r t fs → PageSet b c at page → 1 ≤ times at r → IsTree kind c r t fs
+set kind b c r t fs at page tree p i = stays kind b c r r t fs fs tree
+    (subst (λ h. IsTreeHeader kind (length c) h) (sym p.header) (subst (λ n. IsTreeHeader kind n (header_in b)) (sym p.size) tree.header))
+    (ap (λ (h : Header). place_of h.root_pointer) p.header) (ap (λ (h : Header). h.levels - 1) p.header)
+    (λ x m. same x (off x (omega (arith, m))))
+    (subst (λ z. FreeFrom (state_of kind c).frees z fs) (sym (ap (λ (h : Header). place_of h.free_pointer) p.header))
+    (same-free (state_of kind b).frees (state_of kind c).frees (state_of kind b).free fs (λ x m. ap free_in (same x (off x (omega (arith, m))))) tree.holds.built.chain))
+    (λ x. omega (arith, tree.holds.built.once x, same_held x (length c) (length b) p.size))
+  where
+    off : (x : ℕ) → 1 ≤ times x (met_by t) + times x fs → x ≢ at
+    off x m = λ e. let n : 1 ≤ times at (met_by t) + times at fs = subst (λ w. 1 ≤ times w (met_by t) + times w fs) e m in omega (arith, n, i, met-once (state_of kind b) r t fs tree.holds.built at)
+
+    same : (x : ℕ) → x ≢ at → page_in c x ≡ page_in b x
+    same x n = p.pages x ∙ ap (λ t. cond t page (page_in b x)) (eq_no x at n)
+
+-- a page is given back
+pub give : (kind : KeyKind) (b c r : List ℕ) (t : Shape) (fs : List ℕ) (at : ℕ) → IsTree kind b (at ∷ r) t fs → IsGiven b c at (header_in b) → IsTree kind c r t (at ∷ fs)
+give kind b c r t fs at tree g = record {
+  header = subst (λ h. IsTreeHeader kind (length c) h) (sym g.header) (record {
+    header = record { magic_is = tree.header.header.magic_is; size = tree.header.header.size; kind = tree.header.header.kind };
+    kind_is = tree.header.kind_is;
+    levels = tree.header.levels;
+    maximum = tree.header.maximum ∙ ap pos (sym g.size);
+  });
+  holds = given-back kind b c at (header_in b) r t fs g refl tree.holds;
+}
+
+-- a page is taken
+pub take : (kind : KeyKind) (b c r : List ℕ) (t : Shape) (fs : List ℕ) (q : ℕ) (h : Header) → IsTree kind b r t fs → 1 ≤ length b → IsTreeHeader kind (length c) h → IsTaken kind b c q h
+    → (gs : List ℕ) × IsTree kind c (q ∷ r) t gs × (times q r ≡ 0)
+take kind b c r t fs q h tree some good taken = by_case taken.taken.3
+  where
+    st : State
+    st = state_of kind b
+
+    new : State
+    new = state_of kind c
+
+    header : IsTreeHeader kind (length c) (header_in c)
+    header = subst (λ h. IsTreeHeader kind (length c) h) (sym taken.header) good
+
+    not : (x : ℕ) → 1 ≤ times x (met_by t) → times q (met_by t) ≡ 0 → x ≢ q
+    not x m z = λ e. let n : 1 ≤ times q (met_by t) = subst (λ w. 1 ≤ times w (met_by t)) e m in omega (arith, n, z)
+
+    not_free : (x : ℕ) (ys : List ℕ) → 1 ≤ times x ys → times q ys ≡ 0 → x ≢ q
+    not_free x ys m z = λ e. let n : 1 ≤ times q ys = subst (λ w. 1 ≤ times w ys) e m in omega (arith, n, z)
+
+    some_is : (a d : ℕ) → Some a ≡ Some d → a ≡ d
+    some_is a d e = cc
+
+    from_list : (ys : List ℕ) → IsTree kind b r t ys → st.free ≢ 0 → q ≡ st.free → st.frees q ≡ Some new.free → new.frees q ≡ st.frees q → length c ≡ length b → (gs : List ℕ) × IsTree kind c (q ∷ r) t gs × (times q r ≡ 0)
+    from_list [] tree n is f k size = absurd (n tree.holds.built.chain)
+    from_list (y ∷ ys) tree n is f k size =
+        let e : q ≡ y = is ∙ tree.holds.built.chain.0 in
+        let o : times q (met_by t) + times q r + times q (y ∷ ys) ≤ 1 = met-once st r t (y ∷ ys) tree.holds.built q in
+        let m : 1 ≤ times q (y ∷ []) = subst (λ z. 1 ≤ times q (z ∷ [])) e (self q []) in
+        let next : new.free ≡ head_or 0 ys = some_is new.free (head_or 0 ys) (sym f ∙ ap st.frees e ∙ tree.holds.built.chain.1) in (
+          ys,
+          stays kind b c r (q ∷ r) t (y ∷ ys) ys tree header taken.taken.1 taken.taken.2 (λ x i. taken.others x (not x i (omega (arith, o, m, first q y ys))))
+              (subst (λ z. FreeFrom new.frees z ys) (sym next) (same-free st.frees new.frees (head_or 0 ys) ys (λ x i. ap free_in (taken.others x (not_free x ys i (omega (arith, o, m, first q y ys))))) tree.holds.built.chain.2))
+              (λ x. let w : times x (q ∷ []) ≡ times x (y ∷ []) = ap (λ z. times x (z ∷ [])) e in omega (arith, tree.holds.built.once x, same_held x (length c) (length b) size, w, first x y ys, first x q r)),
+          omega (arith, o, m, first q y ys),
+        )
+
+    by_case : ((st.free ≢ 0) × (q ≡ st.free) × (st.frees q ≡ Some new.free) × (new.frees q ≡ st.frees q) × (new.bodies q ≡ st.bodies q) × (new.links q ≡ st.links q) × (new.size ≡ st.size))
+        ⊎ ((st.free ≡ 0) × (q ≡ st.size) × (new.free ≡ st.free) × (new.size ≡ st.size + 1024) × (st.size % 1024 ≡ 0)) → (gs : List ℕ) × IsTree kind c (q ∷ r) t gs × (times q r ≡ 0)
+    by_case (inl f) = from_list fs tree f.0 f.1 f.2 f.3 f.6
+    by_case (inr f) =
+        let h0 : held (length b) q ≡ 0 = ap (λ z. held (length b) z) f.1 ∙ held_end (length b) in
+        let o = tree.holds.built.once q in
+        let none : times q r + times q (met_by t) + times q fs ≡ 0 = omega (arith, o, h0) in (
+          fs,
+          stays kind b c r (q ∷ r) t fs fs tree header taken.taken.1 taken.taken.2 (λ x i. taken.others x (not x i (omega (arith, none))))
+              (subst (λ z. FreeFrom new.frees z fs) (sym f.2) (same-free st.frees new.frees st.free fs (λ x i. ap free_in (taken.others x (not_free x fs i (omega (arith, none))))) tree.holds.built.chain))
+              (λ x.
+              let w : times x (q ∷ []) ≡ times x (length b ∷ []) = ap (λ z. times x (z ∷ [])) f.1 in
+              let v : held (length c) x ≡ held (length b + 1024) x = same_held x (length c) (length b + 1024) f.3 in
+              omega (arith, tree.holds.built.once x, v, held_more (length b) x f.4, w, first x q r)),
+          omega (arith, none),
+        )
+
+-- a page is taken and written
+pub put : (kind : KeyKind) (b c r : List ℕ) (t : Shape) (fs : List ℕ) (q : ℕ) (page : List ℕ) → IsTree kind b r t fs → 1 ≤ length b → IsPut kind b c q page
+    → (gs : List ℕ) × IsTree kind c (q ∷ r) t gs × (times q r ≡ 0)
+put kind b c r t fs q page tree some p =
+    let k = take kind b p.middle r t fs q p.header tree some p.good p.taken in
+    (k.0, set kind p.middle c (q ∷ r) t k.0 q page k.1 p.set (self q r), k.2)
+
+-- the pages that values reach are pages other than the header
+pub reached-child : (kind : KeyKind) (b r : List ℕ) (t : Shape) (fs : List ℕ) (x : ℕ) → IsTree kind b r t fs → 1 ≤ times x r → IsChild (length b) x
+reached-child kind b r t fs x tree i = one-place (length b) x (omega (arith, tree.holds.built.once x, i))
+
+pub reached-once : (kind : KeyKind) (b r : List ℕ) (t : Shape) (fs : List ℕ) (x : ℕ) → IsTree kind b r t fs → times x r ≤ 1
+reached-once kind b r t fs x tree = omega (arith, tree.holds.built.once x, held_most (length b) x)

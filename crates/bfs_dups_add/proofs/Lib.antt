@@ -1,0 +1,16 @@
+pub mod Answered
+pub mod Causes
+pub mod Chaining
+pub mod Composed
+pub mod Crowding
+pub mod Forms
+pub mod Gained
+pub mod Holding
+pub mod Lengthened
+pub mod Linked
+pub mod Moved
+pub mod Opened
+pub mod Ordered
+pub mod Pages
+pub mod Scanning
+pub mod Slotted

@@ -1,0 +1,12 @@
+mod Crowding
+mod Folded
+mod Forms
+mod Lesser
+mod Merged
+mod Passed
+mod Plucked
+mod PluckedChain
+mod Righted
+mod Settled
+mod Walking
+mod Without

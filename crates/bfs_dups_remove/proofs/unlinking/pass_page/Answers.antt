@@ -1,0 +1,51 @@
+use Rattle.std.proofs.Common.{◌≡◌, ◌≤◌, ◌++◌, ◌∷◌, [], ℕ, List, ap, sym, subst, ◌∙◌, arith}
+use Rattle.bfs_base.specs.Lists.{times}
+use Rattle.bfs_pages.specs.Trees.{page_in, neighbours_in}
+use Rattle.bfs_pages.proofs.Splice.{times-append}
+use Rattle.bfs_values.specs.Values.{page_numbers, chain_of, numbers_of_pages, in_order}
+use Rattle.bfs_dups_add.proofs.Composed.{told-whole}
+use Rattle.bfs_dups_add.proofs.Answered.{linked-open}
+use Rattle.bfs_dups_add.proofs.Opened.{own_pages, pages_of}
+use Rattle.bfs_values.specs.declared.link.Link.TheVariants.{Chain}
+use Rattle.bfs_dups_remove.proofs.Passed.{here-in}
+use Rattle.bfs_dups_remove.proofs.Lesser.{passed-row, passed-whole, passed-next, mended-row, revalued-twice}
+use Rattle.bfs_dups_remove.proofs.Forms.{told-some, passed-page, mended-page}
+use Rattle.bfs_dups_remove.proofs.unlinking.pass_page.Goals as goal
+
+pub returns-then-gone-eq0-clause-passed : goal.returns-then-gone-eq0-clause-passed
+returns-then-gone-eq0-clause-passed g c b t front back key value first us xs e s link is good r once =
+    let w = told-whole (g.P.Pages.told c.args.pages.now) (g.P.Pages.size c.args.pages.now) b (g.met.P.Pages.sized c.args.pages.now) (g.met.P.Pages.whole c.args.pages.now) e in
+    let x = c.in-Ok.ensures.passed b e good r in
+    (x.0, x.1, passed-row c.args.kind b x.0 t front key back value first c.args.at c.args.gone.at us xs (page_numbers c.args.page.now) s link w is x.2 once)
+
+pub returns-in-Ok-mend_left-clause-passed : goal.returns-in-Ok-mend_left-clause-passed
+returns-in-Ok-mend_left-clause-passed g c b t front back key value first us xs e s link is good r once =
+    let w = told-whole (g.P.Pages.told c.args.pages.now) (g.P.Pages.size c.args.pages.now) b (g.met.P.Pages.sized c.args.pages.now) (g.met.P.Pages.whole c.args.pages.now) e in
+    let x = c.in-Ok.ensures.passed b e good r in
+    let v = passed-row c.args.kind b x.0 t front key back value first c.args.at c.args.gone.at us xs (page_numbers c.args.page.now) s link w is x.2 once in
+    let i = passed-next c.args.kind b x.0 t front key back value first c.args.at c.args.gone.at c.args.gone.next us xs (page_numbers c.args.page.now) s link w is x.2 once (c.requires.behind ∙ ap (λ (p : List ℕ). (neighbours_in p).1) r) c.if-gone-eq0.false in
+    let y = c.in-Ok-mend_left.ensures.mended x.0 x.1 i.1 in
+    let m = mended-row c.args.kind x.0 y.0 t front key back value first c.args.gone.next v.stored link (passed-whole b x.0 c.args.at c.args.gone.at (page_numbers c.args.page.now) x.2 w) i.0 y.2 in
+    (y.0, y.1, revalued-twice c.args.kind b x.0 y.0 t front key back value value (in_order (numbers_of_pages b us ++ (page_numbers c.args.page.now ++ numbers_of_pages b xs))) v m)
+
+pub returns-in-Err-clause-passed : goal.returns-in-Err-clause-passed
+returns-in-Err-clause-passed g c b t front back key value first us xs e s link is good r once =
+    let o = linked-open c.args.kind b t front key back value (Chain first) s link in
+    let here : 1 ≤ times c.args.at (chain_of b first) = subst (λ z. 1 ≤ times c.args.at z) (sym is) (here-in us c.args.at (c.args.gone.at ∷ xs)) in
+    c.in-Err.ensures.spared b (own_pages b (Chain first) ++ (o.fragments ++ pages_of b (front ++ back))) t o.free e o.tree
+    (omega (arith, here, times-append c.args.at (own_pages b (Chain first)) (o.fragments ++ pages_of b (front ++ back)), times-append c.args.at (chain_of b first) []))
+
+pub returns-then-gone-eq0-clause-written : goal.returns-then-gone-eq0-clause-written
+returns-then-gone-eq0-clause-written g c b t front back key value first us xs e s link is good r once =
+    let x = c.in-Ok.ensures.passed b e good r in
+    told-some (λ (d : List ℕ). page_numbers (page_in d c.args.at) ≡ page_numbers c.args.page.now) (g.P.Pages.told c.pass_by.new.pages) x.0 x.1
+    (passed-page c.args.kind b x.0 t front key back value first c.args.at c.args.gone.at us xs (page_numbers c.args.page.now) s link is x.2)
+
+pub returns-in-Ok-mend_left-clause-written : goal.returns-in-Ok-mend_left-clause-written
+returns-in-Ok-mend_left-clause-written g c b t front back key value first us xs e s link is good r once =
+    let w = told-whole (g.P.Pages.told c.args.pages.now) (g.P.Pages.size c.args.pages.now) b (g.met.P.Pages.sized c.args.pages.now) (g.met.P.Pages.whole c.args.pages.now) e in
+    let x = c.in-Ok.ensures.passed b e good r in
+    let i = passed-next c.args.kind b x.0 t front key back value first c.args.at c.args.gone.at c.args.gone.next us xs (page_numbers c.args.page.now) s link w is x.2 once (c.requires.behind ∙ ap (λ (p : List ℕ). (neighbours_in p).1) r) c.if-gone-eq0.false in
+    let y = c.in-Ok-mend_left.ensures.mended x.0 x.1 i.1 in
+    told-some (λ (d : List ℕ). page_numbers (page_in d c.args.at) ≡ page_numbers c.args.page.now) (g.P.Pages.told c.mend_left.new.pages) y.0 y.1
+    (mended-page x.0 y.0 c.args.gone.next c.args.at y.2 ∙ passed-page c.args.kind b x.0 t front key back value first c.args.at c.args.gone.at us xs (page_numbers c.args.page.now) s link is x.2)

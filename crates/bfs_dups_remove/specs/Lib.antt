@@ -1,0 +1,2 @@
+pub mod Lessened
+pub mod Shortened

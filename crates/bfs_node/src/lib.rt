@@ -23,7 +23,7 @@ pub use edit::{
 pub use fault::{PageFault, PageKind, TreeFault};
 pub use header::{Header, PAGE, data_type};
 pub use links::{Links, NULL_LINKS};
-pub use lookup::search;
+pub use lookup::{compare, search};
 pub use page_mut::PageMut;
 pub use read::{
     key_bytes, left_link, overflow_link, page_links, right_link, row_count, row_key, row_value,

@@ -12,7 +12,7 @@ use std::cmp::Ordering;
 
 /// The order of a page's key and a key that is looked for.
 #[tactic(auto, unfolding(bfs_base::specs::Keys::number_of, bfs_bytes::specs::Fields::unsigned_at, bfs_bytes::specs::Fields::signed32_at, bfs_bytes::specs::Fields::signed64_at))]
-fn compare(kind: KeyKind, key: &[u8], sought: &[u8]) -> Ordering
+pub fn compare(kind: KeyKind, key: &[u8], sought: &[u8]) -> Ordering
     requires key { IsKeyLength kind (length key.now) }
     requires sought { IsSought kind sought.now }
     ensures { result ≡ key_cmp kind key.now sought.now }

@@ -15,6 +15,10 @@ natural (negsuc n) = 0
 abbrev pub ceil : ℕ → ℕ → ℕ
 ceil a b = (a + (b - 1)) / b
 
+-- the zero run, whose eight bytes are zero
+abbrev pub IsZeroRun : Run → Type 0
+IsZeroRun run = (run.group ≡ pos 0) × (run.start ≡ 0) × (run.len ≡ 0)
+
 module _ (s : Super) where
   abbrev pub group_blocks : ℕ
   group_blocks = 2 ^ natural s.ag_shift
@@ -67,8 +71,9 @@ module _ (s : Super) where
   IsInodeRun run = InGroups run × (run.len ≡ 1) × (bitmap_blocks < block_of_run run) × (block_of_run run < natural s.num_blocks)
       × ((block_of_run run < block_of_run s.log_blocks) ⊎ (block_of_run s.log_blocks + s.log_blocks.len ≤ block_of_run run))
 
+  -- the index directory's inode is a block of its own, or the run is zero and the volume has no index directory
   abbrev pub HasIndices : Type 0
-  HasIndices = IsInodeRun s.indices × (block_of_run s.indices ≡ block_of_run s.root_dir → ⊥)
+  HasIndices = IsZeroRun s.indices ⊎ (IsInodeRun s.indices × (block_of_run s.indices ≡ block_of_run s.root_dir → ⊥))
 
 -- all ten conditions
 pub record IsValid (s : Super) : Type 0 where

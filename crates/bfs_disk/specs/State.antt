@@ -1,6 +1,6 @@
 -- What a disk holds: for each sector of 512 bytes its contents since the last barrier that succeeded, the newest first.
 use Rattle.std.specs.Prelude.{◌≡◌, ◌⊎◌, ◌<◌, ℕ, ◌+◌, ◌-◌, ◌*◌, ◌/◌, List, [], ◌∷◌, length, take, Bool, if◌then◌else◌, nat_le, nat_lt, get_or, IsTrue, ◌&&◌, Option, Some}
-use Rattle.bfs_base.specs.Images.{sector}
+use Rattle.bfs_base.specs.Images.{sector, IsBytes}
 
 pub record State : Type 0 where
   pub size : ℕ
@@ -18,10 +18,11 @@ newest state k = get_or (state.contents k) 0 []
 abbrev pub oldest : State → ℕ → List ℕ
 oldest state k = get_or (state.contents k) (length (state.contents k) - 1) []
 
--- each sector has contents, of 512 bytes each
+-- each sector has contents, of 512 numbers below 256 each
 pub record Filled (state : State) : Type 0 where
   pub some : (k : ℕ) → k < state.size → 0 < length (state.contents k)
   pub long : (k : ℕ) → k < state.size → (c : List ℕ) → IsOneOf (state.contents k) c → length c ≡ 512
+  pub bytes : (k : ℕ) → k < state.size → (c : List ℕ) → IsOneOf (state.contents k) c → IsBytes c
 
 -- a crash may leave this: one content of each sector
 pub record IsImage (state : State) (image : List ℕ) : Type 0 where

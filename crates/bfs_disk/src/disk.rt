@@ -6,8 +6,11 @@ ghost use Rattle.bfs_base.specs.Moments.{Elapses};
 ghost use Rattle.bfs_disk.specs.State.{State, Filled, settled};
 ghost use Rattle.bfs_disk.specs.Disk.{MayLeave, HalfWritten, told_written, ReadsSectors, InRange, StaysKnown};
 
+use thiserror::Error;
+
 /// A disk call failed. The disk has counted it.
-#[derive(Clone, Copy, Debug, PartialEq, Eq)]
+#[derive(Clone, Copy, Debug, PartialEq, Eq, Error)]
+#[error("a disk call failed")]
 pub struct Failed;
 
 /// A disk of sectors of 512 bytes. `at` is a sector's number, and a length is a multiple of 512 bytes.
@@ -80,6 +83,12 @@ pub trait Disk {
 
     /// This moment is one of those since an earlier one.
     ghost counts_now: { (d : Self) (t : ℕ) (c : List ℕ) → t ≤ clock d → MayLeave (state d) c → since d t c };
+
+    /// What a crash since a later moment might have left, one since an earlier moment might have left too.
+    ghost fewer: { (d : Self) (t u : ℕ) (c : List ℕ) → t ≤ u → since d u c → since d t c };
+
+    /// No moment since a time is still to come, where the disk tells what it holds.
+    ghost begun: { (d : Self) → IfSome (state d) (λ _. (t : ℕ) (c : List ℕ) → since d t c → t ≤ clock d) };
 
     /// Since this moment there is no other.
     ghost only_now: { (d : Self) (c : List ℕ) → since d (clock d) c → MayLeave (state d) c };

@@ -9,9 +9,23 @@ use std::fs::{OpenFile, OpenOptions};
 use std::io;
 use std::io::{Read, Seek, SeekFrom, Write};
 use std::rt::Files;
+use thiserror::Error;
+
+/// Which call of a file failed, and what the system said of it.
+#[derive(Debug, Drop, Error)]
+pub enum FileFailure {
+    #[error("it can't be opened as an image: {0}")]
+    Open(io::Error),
+    #[error("a read of it failed: {0}")]
+    Read(io::Error),
+    #[error("a write to it failed, and it may be changed: {0}")]
+    Write(io::Error),
+    #[error("it could not be brought to its medium, and it may be changed: {0}")]
+    Barrier(io::Error),
+}
 
 /// A file, opened at its first call. It tells no content. Its sectors are the file's length divided by 512,
-/// rounded down. A barrier brings the file to its medium.
+/// rounded down. A barrier brings the file to its medium. Each call that a signal interrupts is made again.
 #[derive(Drop)]
 pub struct FileDisk<R: Files + Drop> {
     rt: R,
@@ -20,6 +34,7 @@ pub struct FileDisk<R: Files + Drop> {
     sectors: Option<u64>,
     faults: u64,
     stops: u64,
+    failure: Option<FileFailure>,
     ghost small: { ForSome sectors (λ n. 512 * n < 2 ^ 64) },
 }
 
@@ -40,14 +55,22 @@ impl<R: Files + AllocGlobal + Drop> FileDisk<R> {
             sectors: None,
             faults: 0,
             stops: 0,
+            failure: None,
         })
     }
 }
 
-// Opens the file, and tells its length.
+impl<R: Files + Drop> FileDisk<R> {
+    /// The last call of the file that failed, for a message to who runs the program.
+    pub fn failure(&self) -> Option<&FileFailure> {
+        self.failure.as_ref()
+    }
+}
+
+// Opens the file, and tells its length by the place of its end, which a block device has too.
 fn open<R: Files>(rt: &R, path: &str) -> io::Result<(R::File, u64)> {
-    let file = OpenOptions::new().read(true).write(true).open(rt, path)?;
-    let length = file.metadata()?.len();
+    let mut file = OpenOptions::new().read(true).write(true).open(rt, path)?;
+    let length = file.seek(SeekFrom::End(0))?;
     Ok((file, length))
 }
 
@@ -77,6 +100,10 @@ impl<R: Files + Drop> Disk for FileDisk<R> {
 
     ghost counts_now = { λ _ _ _ _ _. tt };
 
+    ghost fewer = { λ _ _ _ _ _ _. tt };
+
+    ghost begun = { λ _. tt };
+
     ghost only_now = { λ _ _ _. tt };
 
     ghost sized = { λ _. tt };
@@ -94,7 +121,8 @@ impl<R: Files + Drop> Disk for FileDisk<R> {
                 self.sectors = Some(sectors);
                 Ok(sectors)
             }
-            Err(_) => {
+            Err(error) => {
+                self.failure = Some(FileFailure::Open(error));
                 self.faults = self.faults.saturating_add(1);
                 Err(Failed)
             }
@@ -102,20 +130,22 @@ impl<R: Files + Drop> Disk for FileDisk<R> {
     }
 
     fn read(&mut self, at: u64, into: &mut [u8]) -> Result<(), Failed> {
-        if let Some(file) = &mut self.file
-            && read_at(file, 512 * at, into).is_ok()
-        {
-            return Ok(());
+        if let Some(file) = &mut self.file {
+            match read_at(file, 512 * at, into) {
+                Ok(()) => return Ok(()),
+                Err(error) => self.failure = Some(FileFailure::Read(error)),
+            }
         }
         self.faults = self.faults.saturating_add(1);
         Err(Failed)
     }
 
     fn write(&mut self, at: u64, from: &[u8]) -> Result<(), Failed> {
-        if let Some(file) = &mut self.file
-            && write_at(file, 512 * at, from).is_ok()
-        {
-            return Ok(());
+        if let Some(file) = &mut self.file {
+            match write_at(file, 512 * at, from) {
+                Ok(()) => return Ok(()),
+                Err(error) => self.failure = Some(FileFailure::Write(error)),
+            }
         }
         self.faults = self.faults.saturating_add(1);
         self.stops = self.stops.saturating_add(1);
@@ -123,10 +153,11 @@ impl<R: Files + Drop> Disk for FileDisk<R> {
     }
 
     fn barrier(&mut self) -> Result<(), Failed> {
-        if let Some(file) = &self.file
-            && file.sync_all().is_ok()
-        {
-            return Ok(());
+        if let Some(file) = &self.file {
+            match file.sync_all() {
+                Ok(()) => return Ok(()),
+                Err(error) => self.failure = Some(FileFailure::Barrier(error)),
+            }
         }
         self.faults = self.faults.saturating_add(1);
         self.stops = self.stops.saturating_add(1);

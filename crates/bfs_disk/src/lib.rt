@@ -6,8 +6,10 @@ mod disk;
 mod file;
 mod memory;
 mod stopping;
+#[cfg(test)]
+mod tests;
 
 pub use disk::{Disk, Failed};
-pub use file::FileDisk;
+pub use file::{FileDisk, FileFailure};
 pub use memory::MemDisk;
 pub use stopping::Stopping;

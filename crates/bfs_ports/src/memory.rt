@@ -1,5 +1,7 @@
 // Sources, sinks, a clock and a gate in memory.
-ghost use Rattle.std.specs.Prelude.{◌≡◌, ◌≤◌, ◌<◌, ◌^◌, ◌+◌, ◌-◌, ◌*◌, ◌↔◌, ℕ, List, [], Some, length, take, drop, min, Contains, IfSome, IsSome};
+ghost use Rattle.std.specs.Prelude.{◌≡◌, ◌≤◌, ◌<◌, ◌⊎◌, ◌^◌, ◌+◌, ◌-◌, ◌*◌, ℕ, List, [], Some, length, take, drop, min, Contains, IfSome, MatchOption, IfOk, OnOk, OnErr};
+ghost use Rattle.bfs_base.specs.Counts.{HasCause, Rose};
+ghost use Rattle.bfs_ports.specs.Ports.{Takes, appended};
 
 use crate::{Clock, Failed, Gate, Point, Sink, Source};
 use std::alloc::Global;
@@ -12,6 +14,9 @@ pub struct Mem;
 pub struct MemSource {
     bytes: Vec<u8>,
     at: usize,
+    plan: Vec<u64>,
+    made: u64,
+    faults: u64,
     ghost inside: { at ≤ length bytes.items },
 }
 
@@ -27,11 +32,28 @@ pub struct MemSink {
 
 impl Mem {
     /// A source of these bytes.
-    pub fn source(bytes: Vec<u8>) -> MemSource
+    pub fn source(alloc: Global, bytes: Vec<u8>) -> MemSource
         ensures left { ⟦<MemSource as Source>⟧.left result ≡ Some bytes.items }
         ensures faults { ⟦<MemSource as Source>⟧.faults result ≡ 0 }
+        ensures plan { result.plan.items ≡ [] }
     {
-        MemSource { bytes, at: 0 }
+        Mem::failing_source(bytes, Vec::new(alloc))
+    }
+
+    /// The same, which fails the calls with these numbers. They count from 1.
+    pub fn failing_source(bytes: Vec<u8>, plan: Vec<u64>) -> MemSource
+        ensures left { ⟦<MemSource as Source>⟧.left result ≡ Some bytes.items }
+        ensures faults { ⟦<MemSource as Source>⟧.faults result ≡ 0 }
+        ensures plan { result.plan.items ≡ plan.items }
+        ensures made { result.made ≡ 0 }
+    {
+        MemSource {
+            bytes,
+            at: 0,
+            plan,
+            made: 0,
+            faults: 0,
+        }
     }
 
     /// A sink that takes all bytes. It fails and counts a call for which it finds no memory.
@@ -40,6 +62,7 @@ impl Mem {
         ensures faults { ⟦<MemSink as Sink>⟧.faults result ≡ 0 }
         ensures room { result.room ≡ 2 ^ 64 - 1 }
         ensures plan { result.plan.items ≡ [] }
+        ensures made { result.made ≡ 0 }
     {
         Mem::full_sink(alloc, u64::MAX)
     }
@@ -50,6 +73,7 @@ impl Mem {
         ensures faults { ⟦<MemSink as Sink>⟧.faults result ≡ 0 }
         ensures room { result.room ≡ room }
         ensures plan { result.plan.items ≡ [] }
+        ensures made { result.made ≡ 0 }
     {
         MemSink {
             bytes: Vec::new(alloc),
@@ -81,9 +105,27 @@ impl Mem {
 impl Source for MemSource {
     ghost left = { λ s. Some (drop s.at s.bytes.items) };
 
-    ghost faults = { λ _. 0 };
+    ghost faults = { λ s. s.faults };
 
-    fn take(&mut self, into: &mut [u8]) -> Result<usize, Failed> {
+    fn take(&mut self, into: &mut [u8]) -> Result<usize, Failed>
+        ensures bound { IfOk result (λ n. n ≤ length into.old) }
+        ensures taken { IfOk result (λ n. Takes (⟦<MemSource as Source>⟧.left self.old) (⟦<MemSource as Source>⟧.left self.new) n into.new) }
+        ensures kept { OnErr result (⟦<MemSource as Source>⟧.left self.new ≡ ⟦<MemSource as Source>⟧.left self.old) }
+        ensures cause { HasCause (⟦<MemSource as Source>⟧.faults self.old) (⟦<MemSource as Source>⟧.faults self.new) result }
+        ensures made { self.new.made ≡ min (self.old.made + 1) (2 ^ 64 - 1) }
+        ensures plan { self.new.plan ≡ self.old.plan }
+        // The calls of the plan fail, and no other does.
+        ensures planned { OnOk result (Contains self.old.plan.items self.new.made → ⊥) }
+        ensures others { OnErr result (Contains self.old.plan.items self.new.made) }
+        // Each other call gives as much as is left and has room.
+        ensures most { IfOk result (λ n. n ≡ min (length into.old) (length self.old.bytes.items - self.old.at)) }
+    {
+        self.made = self.made.saturating_add(1);
+        let planned = self.plan.contains(&self.made);
+        if planned {
+            self.faults = self.faults.saturating_add(1);
+            return Err(Failed);
+        }
         let rest = &self.bytes[self.at..];
         let n = into.len().min(rest.len());
         into[..n].copy_from_slice(&rest[..n]);
@@ -103,7 +145,8 @@ impl MemSink {
     // Counts a call. It is told how many of so many bytes have room, or nothing where it is to fail.
     fn granted(&mut self, wanted: usize) -> Option<usize>
         ensures made { self.new.made ≡ min (self.old.made + 1) (2 ^ 64 - 1) }
-        ensures plan { IsSome result ↔ (Contains self.old.plan.items self.new.made → ⊥) }
+        ensures plan { MatchOption result (Contains self.old.plan.items self.new.made) (λ n. Contains self.old.plan.items self.new.made → ⊥) }
+        ensures same_plan { self.new.plan ≡ self.old.plan }
         ensures room { IfSome result (λ n. n ≡ min wanted self.old.room) }
         ensures bytes { self.new.bytes ≡ self.old.bytes }
         ensures same_room { self.new.room ≡ self.old.room }
@@ -122,18 +165,35 @@ impl Sink for MemSink {
 
     ghost faults = { λ s. s.faults };
 
-    fn put(&mut self, from: &[u8]) -> Result<usize, Failed> {
-        if let Some(n) = self.granted(from.len())
-            && self.bytes.extend_from_slice(&from[..n]).is_ok()
-        {
-            self.room -= n as u64;
-            if n == 0 {
-                self.faults = self.faults.saturating_add(1);
-            }
-            return Ok(n);
+    fn put(&mut self, from: &[u8]) -> Result<usize, Failed>
+        ensures bound { IfOk result (λ n. n ≤ length from.now) }
+        ensures appended { IfOk result (λ n. ⟦<MemSink as Sink>⟧.written self.new ≡ appended (⟦<MemSink as Sink>⟧.written self.old) (take n from.now)) }
+        ensures kept { OnErr result (⟦<MemSink as Sink>⟧.written self.new ≡ ⟦<MemSink as Sink>⟧.written self.old) }
+        ensures none { IfOk result (λ n. n ≡ 0 → 0 < length from.now → Rose (⟦<MemSink as Sink>⟧.faults self.old) (⟦<MemSink as Sink>⟧.faults self.new)) }
+        ensures cause { HasCause (⟦<MemSink as Sink>⟧.faults self.old) (⟦<MemSink as Sink>⟧.faults self.new) result }
+        ensures made { self.new.made ≡ min (self.old.made + 1) (2 ^ 64 - 1) }
+        ensures plan { self.new.plan ≡ self.old.plan }
+        // The calls of the plan fail. Where nothing is to be taken, no other does.
+        ensures planned { OnOk result (Contains self.old.plan.items self.new.made → ⊥) }
+        ensures others { OnErr result (Contains self.old.plan.items self.new.made ⊎ (0 < min (length from.now) self.old.room)) }
+        // Each other call takes as much as has room.
+        ensures room { IfOk result (λ n. (n ≡ min (length from.now) self.old.room) × (self.new.room ≡ self.old.room - n)) }
+        ensures unused { OnErr result (self.new.room ≡ self.old.room) }
+    {
+        let Some(n) = self.granted(from.len()) else {
+            self.faults = self.faults.saturating_add(1);
+            return Err(Failed);
+        };
+        if n == 0 {
+            self.faults = self.faults.saturating_add(1);
+            return Ok(0);
         }
-        self.faults = self.faults.saturating_add(1);
-        Err(Failed)
+        if self.bytes.extend_from_slice(&from[..n]).is_err() {
+            self.faults = self.faults.saturating_add(1);
+            return Err(Failed);
+        }
+        self.room -= n as u64;
+        Ok(n)
     }
 }
 

@@ -9,7 +9,7 @@ fn bytes(alloc: Global, text: &[u8]) -> Result<Vec<u8>, AllocError> {
 
 #[test]
 fn a_source_gives_its_bytes_and_then_ends(rt: HostRuntime) -> Result<(), Fail> {
-    let mut source = Mem::source(bytes(rt.alloc(), b"abcdefg")?);
+    let mut source = Mem::source(rt.alloc(), bytes(rt.alloc(), b"abcdefg")?);
     let mut into = [0u8; 4];
     assert_eq!(rt; source.take(&mut into), Ok(4));
     assert!(rt; into == *b"abcd");
@@ -38,6 +38,19 @@ fn a_sink_fails_exactly_its_planned_calls(rt: HostRuntime) -> Result<(), Fail> {
         assert_eq!(rt; sink.put(b"ab").is_ok(), call != 2 && call != 4);
     }
     assert!(rt; sink.bytes() == b"ababab".as_slice());
+    Ok(())
+}
+
+#[test]
+fn a_source_fails_exactly_its_planned_calls(rt: HostRuntime) -> Result<(), Fail> {
+    let alloc = rt.alloc();
+    let plan = vec![in alloc; 1u64, 3]?;
+    let mut source = Mem::failing_source(bytes(alloc, b"abcd")?, plan);
+    let mut into = [0u8; 2];
+    for call in 1..5u64 {
+        assert_eq!(rt; source.take(&mut into).is_ok(), call != 1 && call != 3);
+    }
+    assert!(rt; into == *b"cd");
     Ok(())
 }
 

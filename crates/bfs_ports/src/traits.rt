@@ -46,7 +46,8 @@ pub trait Clock {
     /// Seconds since the clock's own beginning, below 2^40.
     fn seconds(&mut self) -> u64
         ensures below { result < 2 ^ 40 }
-        ensures told { StandsAt (stands self.old) result };
+        ensures told { StandsAt (stands self.old) result }
+        ensures still { stands self.new ≡ stands self.old };
 }
 
 /// Where a session may be made to wait.

@@ -24,12 +24,12 @@ pub fn kept(alloc: Global, bytes: &[u8], calls: &VecDeque<Call>) -> Result<Vec<u
     let mut image = bytes.to_vec(alloc)?;
     for at in 0..calls.len() {
         match &calls[at] {
-            Call::Keep => {}
             Call::Write {
                 at: place,
                 replaced,
+                idle: _,
             } => put(&mut image, *place, replaced),
-            Call::Barrier => break,
+            Call::Barrier { idle: _ } => break,
         }
     }
     Ok(image)

@@ -1,12 +1,15 @@
 // The disk in memory.
-ghost use Rattle.std.specs.Prelude.{◌≡◌, ◌≤◌, ◌<◌, ◌*◌, ◌/◌, ◌+◌, ◌^◌, ◌-◌, ◌==◌, min, [], ℕ, List, Some, length, true, IfOk};
-ghost use Rattle.bfs_disk.specs.Disk.{MayLeave};
-ghost use Rattle.bfs_disk.specs.Memory.{state_after, LeftSince, is_record, IsPicked};
-ghost use Rattle.bfs_disk.specs.State.{state_of, Tells};
+ghost use Rattle.std.specs.Prelude.{◌≡◌, ◌≤◌, ◌<◌, ◌*◌, ◌/◌, ◌+◌, ◌^◌, ◌-◌, ◌==◌, ◌⊎◌, min, [], ℕ, List, Some, length, true, Contains, IfOk, OnOk, OnErr, IsSome};
+ghost use Rattle.std.specs.Option.{option_map};
+ghost use Rattle.bfs_base.specs.Counts.{HasCause};
+ghost use Rattle.bfs_base.specs.Moments.{Elapses};
+ghost use Rattle.bfs_disk.specs.Disk.{MayLeave, HalfWritten, told_written, ReadsSectors, InRange, StaysKnown};
+ghost use Rattle.bfs_disk.specs.Memory.{state_after, moments, LeftSince, is_record, IsPicked};
+ghost use Rattle.bfs_disk.specs.State.{state_of, settled, ReadsAs, Tells};
 
 use crate::memory::Call;
 use crate::memory::crash::{kept, picked};
-use crate::memory::parts::{is_planned, note, overwrite, refuse};
+use crate::memory::parts::{count, is_planned, overwrite, refuse, see, settle};
 use crate::{Disk, Failed};
 use std::alloc::{AllocError, Global};
 use std::collections::VecDeque;
@@ -18,6 +21,7 @@ pub struct MemDisk {
     alloc: Global,
     bytes: Vec<u8>,
     calls: VecDeque<Call>,
+    idle: u64,
     plan: Vec<u64>,
     made: u64,
     faults: u64,
@@ -30,6 +34,8 @@ impl MemDisk {
     pub fn new(alloc: Global, bytes: Vec<u8>) -> MemDisk
         requires { length bytes.items ≡ 512 * (length bytes.items / 512) }
         ensures quiet { ⟦<MemDisk as Disk>⟧.state result ≡ Some (state_of bytes.items) }
+        ensures size { ⟦<MemDisk as Disk>⟧.size result ≡ Some (length bytes.items / 512) }
+        ensures clock { ⟦<MemDisk as Disk>⟧.clock result ≡ 0 }
         ensures faults { ⟦<MemDisk as Disk>⟧.faults result ≡ 0 }
         ensures stops { ⟦<MemDisk as Disk>⟧.stops result ≡ 0 }
         ensures plan { result.plan.items ≡ [] }
@@ -41,15 +47,19 @@ impl MemDisk {
     pub fn failing(alloc: Global, bytes: Vec<u8>, calls: Vec<u64>) -> MemDisk
         requires { length bytes.items ≡ 512 * (length bytes.items / 512) }
         ensures quiet { ⟦<MemDisk as Disk>⟧.state result ≡ Some (state_of bytes.items) }
+        ensures size { ⟦<MemDisk as Disk>⟧.size result ≡ Some (length bytes.items / 512) }
+        ensures clock { ⟦<MemDisk as Disk>⟧.clock result ≡ 0 }
         ensures faults { ⟦<MemDisk as Disk>⟧.faults result ≡ 0 }
         ensures stops { ⟦<MemDisk as Disk>⟧.stops result ≡ 0 }
         ensures plan { result.plan.items ≡ calls.items }
         ensures made { result.made ≡ 0 }
     {
+        see(&bytes);
         MemDisk {
             alloc,
             bytes,
             calls: VecDeque::new(alloc),
+            idle: 0,
             plan: calls,
             made: 0,
             faults: 0,
@@ -68,12 +78,14 @@ impl MemDisk {
 
     /// The last contents.
     pub fn bytes(self) -> Vec<u8>
-        ensures { result.items ≡ self.bytes.items }
+        ensures bytes { result.items ≡ self.bytes.items }
+        ensures reads { Tells (⟦<MemDisk as Disk>⟧.state self) (λ s. ReadsAs s result.items) }
     {
         let MemDisk {
             alloc: _,
             bytes,
             calls: _,
+            idle: _,
             plan: _,
             made: _,
             faults: _,
@@ -84,39 +96,69 @@ impl MemDisk {
 }
 
 impl Disk for MemDisk {
-    ghost use Rattle.bfs_disk.specs.MemoryLaws.{counts_now_of, only_now_of, sized_of, filled_of};
+    ghost use Rattle.bfs_disk.specs.MemoryLaws.{counts_now_of, fewer_of, left_bound, only_now_of, sized_of, filled_of};
 
     ghost state = { λ d. Some (state_after d.calls.items d.bytes.items) };
 
     ghost size = { λ d. Some (length d.bytes.items / 512) };
 
-    ghost clock = { λ d. length d.calls.items };
+    ghost clock = { λ d. moments d.idle d.calls.items };
 
-    ghost since = { λ d t c. LeftSince d.calls.items d.bytes.items t c };
+    ghost since = { λ d t c. LeftSince d.idle d.calls.items d.bytes.items t c };
 
     ghost faults = { λ d. d.faults };
 
     ghost stops = { λ d. d.stops };
 
-    ghost counts_now = { λ d t c le now. counts_now_of d.calls.items d.bytes.items t c le now };
+    ghost counts_now = { λ d t c le now. counts_now_of d.idle d.calls.items d.bytes.items t c le now };
 
-    ghost only_now = { λ d c left. only_now_of d.calls.items d.bytes.items c left };
+    ghost fewer = { λ d t u c le left. fewer_of d.idle d.calls.items d.bytes.items t u c le left };
+
+    ghost begun = { λ d t c left. left_bound d.idle d.calls.items d.bytes.items t c left };
+
+    ghost only_now = { λ d c left. only_now_of d.idle d.calls.items d.bytes.items c left };
 
     ghost sized = { λ d. sized_of d.calls.items d.bytes.items d.recorded };
 
     ghost filled = { λ d. filled_of d.calls.items d.bytes.items d.recorded };
 
-    fn sectors(&mut self) -> Result<u64, Failed> {
+    fn sectors(&mut self) -> Result<u64, Failed>
+        ensures size { IfOk result (λ n. ⟦<MemDisk as Disk>⟧.size self.new ≡ Some n) }
+        ensures known { StaysKnown (⟦<MemDisk as Disk>⟧.size self.old) (⟦<MemDisk as Disk>⟧.size self.new) }
+        ensures state { ⟦<MemDisk as Disk>⟧.state self.new ≡ ⟦<MemDisk as Disk>⟧.state self.old }
+        ensures time { Elapses (⟦<MemDisk as Disk>⟧.state self.old) result (⟦<MemDisk as Disk>⟧.clock self.old) (⟦<MemDisk as Disk>⟧.clock self.new) (⟦<MemDisk as Disk>⟧.since self.old) (⟦<MemDisk as Disk>⟧.since self.new) (MayLeave (⟦<MemDisk as Disk>⟧.state self.old)) }
+        ensures cause { HasCause (⟦<MemDisk as Disk>⟧.faults self.old) (⟦<MemDisk as Disk>⟧.faults self.new) result }
+        ensures stops { ⟦<MemDisk as Disk>⟧.stops self.new ≡ ⟦<MemDisk as Disk>⟧.stops self.old }
+        ensures made { self.new.made ≡ min (self.old.made + 1) (2 ^ 64 - 1) }
+        ensures plan { self.new.plan ≡ self.old.plan }
+        // A call of the plan fails, and no other does before the last value of the counter.
+        ensures planned { OnOk result (Contains self.old.plan.items self.new.made → ⊥) }
+        ensures others { OnErr result (Contains self.old.plan.items self.new.made ⊎ (self.old.idle ≡ 2 ^ 64 - 1)) }
+    {
         let planned = is_planned(&self.plan, &mut self.made);
-        match note(&mut self.calls, Call::Keep, planned, &mut self.faults) {
+        match count(&mut self.idle, planned, &mut self.faults) {
             Ok(()) => Ok((self.bytes.len() / 512) as u64),
             Err(_) => Err(Failed),
         }
     }
 
-    fn read(&mut self, at: u64, into: &mut [u8]) -> Result<(), Failed> {
+    fn read(&mut self, at: u64, into: &mut [u8]) -> Result<(), Failed>
+        requires whole { length into.old ≡ 512 * (length into.old / 512) }
+        requires range { InRange (⟦<MemDisk as Disk>⟧.size self.old) at into.old }
+        ensures bytes { OnOk result (ReadsSectors (⟦<MemDisk as Disk>⟧.state self.old) at into.new) }
+        ensures size { ⟦<MemDisk as Disk>⟧.size self.new ≡ ⟦<MemDisk as Disk>⟧.size self.old }
+        ensures state { ⟦<MemDisk as Disk>⟧.state self.new ≡ ⟦<MemDisk as Disk>⟧.state self.old }
+        ensures time { Elapses (⟦<MemDisk as Disk>⟧.state self.old) result (⟦<MemDisk as Disk>⟧.clock self.old) (⟦<MemDisk as Disk>⟧.clock self.new) (⟦<MemDisk as Disk>⟧.since self.old) (⟦<MemDisk as Disk>⟧.since self.new) (MayLeave (⟦<MemDisk as Disk>⟧.state self.old)) }
+        ensures cause { HasCause (⟦<MemDisk as Disk>⟧.faults self.old) (⟦<MemDisk as Disk>⟧.faults self.new) result }
+        ensures stops { ⟦<MemDisk as Disk>⟧.stops self.new ≡ ⟦<MemDisk as Disk>⟧.stops self.old }
+        ensures made { self.new.made ≡ min (self.old.made + 1) (2 ^ 64 - 1) }
+        ensures plan { self.new.plan ≡ self.old.plan }
+        // A call of the plan fails, and no other does before the last value of the counter.
+        ensures planned { OnOk result (Contains self.old.plan.items self.new.made → ⊥) }
+        ensures others { OnErr result (Contains self.old.plan.items self.new.made ⊎ (self.old.idle ≡ 2 ^ 64 - 1)) }
+    {
         let planned = is_planned(&self.plan, &mut self.made);
-        match note(&mut self.calls, Call::Keep, planned, &mut self.faults) {
+        match count(&mut self.idle, planned, &mut self.faults) {
             Ok(()) => {
                 let start = 512 * at as usize;
                 into.copy_from_slice(&self.bytes[start..start + into.len()]);
@@ -126,27 +168,65 @@ impl Disk for MemDisk {
         }
     }
 
-    fn write(&mut self, at: u64, from: &[u8]) -> Result<(), Failed> {
+    fn write(&mut self, at: u64, from: &[u8]) -> Result<(), Failed>
+        requires whole { length from.now ≡ 512 * (length from.now / 512) }
+        requires range { InRange (⟦<MemDisk as Disk>⟧.size self.old) at from.now }
+        ensures size { ⟦<MemDisk as Disk>⟧.size self.new ≡ ⟦<MemDisk as Disk>⟧.size self.old }
+        ensures written { OnOk result (⟦<MemDisk as Disk>⟧.state self.new ≡ told_written (⟦<MemDisk as Disk>⟧.state self.old) at from.now) }
+        ensures half { OnErr result (HalfWritten (⟦<MemDisk as Disk>⟧.state self.old) at from.now (⟦<MemDisk as Disk>⟧.state self.new)) }
+        ensures time { Elapses (⟦<MemDisk as Disk>⟧.state self.old) result (⟦<MemDisk as Disk>⟧.clock self.old) (⟦<MemDisk as Disk>⟧.clock self.new) (⟦<MemDisk as Disk>⟧.since self.old) (⟦<MemDisk as Disk>⟧.since self.new) (MayLeave (told_written (⟦<MemDisk as Disk>⟧.state self.old) at from.now)) }
+        ensures cause { HasCause (⟦<MemDisk as Disk>⟧.faults self.old) (⟦<MemDisk as Disk>⟧.faults self.new) result }
+        ensures stops { HasCause (⟦<MemDisk as Disk>⟧.stops self.old) (⟦<MemDisk as Disk>⟧.stops self.new) result }
+        ensures made { self.new.made ≡ min (self.old.made + 1) (2 ^ 64 - 1) }
+        ensures plan { self.new.plan ≡ self.old.plan }
+        // A call of the plan fails.
+        ensures planned { OnOk result (Contains self.old.plan.items self.new.made → ⊥) }
+        // Else it changes nothing.
+        ensures untouched { OnErr result (⟦<MemDisk as Disk>⟧.state self.new ≡ ⟦<MemDisk as Disk>⟧.state self.old) }
+    {
         if is_planned(&self.plan, &mut self.made) {
             self.stops = self.stops.saturating_add(1);
-            return Err(refuse(&mut self.calls, &mut self.faults));
+            return Err(refuse(&mut self.idle, &mut self.faults));
         }
-        match overwrite(self.alloc, &mut self.bytes, &mut self.calls, at, from) {
+        see(from);
+        match overwrite(
+            self.alloc,
+            &mut self.bytes,
+            &mut self.calls,
+            &mut self.idle,
+            at,
+            from,
+        ) {
             Ok(()) => Ok(()),
             Err(_) => {
                 self.stops = self.stops.saturating_add(1);
-                Err(refuse(&mut self.calls, &mut self.faults))
+                Err(refuse(&mut self.idle, &mut self.faults))
             }
         }
     }
 
-    fn barrier(&mut self) -> Result<(), Failed> {
-        let planned = is_planned(&self.plan, &mut self.made);
-        match note(&mut self.calls, Call::Barrier, planned, &mut self.faults) {
+    fn barrier(&mut self) -> Result<(), Failed>
+        requires known { IsSome (⟦<MemDisk as Disk>⟧.size self.old) }
+        ensures size { ⟦<MemDisk as Disk>⟧.size self.new ≡ ⟦<MemDisk as Disk>⟧.size self.old }
+        ensures settled { OnOk result (⟦<MemDisk as Disk>⟧.state self.new ≡ option_map settled (⟦<MemDisk as Disk>⟧.state self.old)) }
+        ensures kept { OnErr result (⟦<MemDisk as Disk>⟧.state self.new ≡ ⟦<MemDisk as Disk>⟧.state self.old) }
+        ensures time { Elapses (⟦<MemDisk as Disk>⟧.state self.old) result (⟦<MemDisk as Disk>⟧.clock self.old) (⟦<MemDisk as Disk>⟧.clock self.new) (⟦<MemDisk as Disk>⟧.since self.old) (⟦<MemDisk as Disk>⟧.since self.new) (MayLeave (⟦<MemDisk as Disk>⟧.state self.old)) }
+        ensures cause { HasCause (⟦<MemDisk as Disk>⟧.faults self.old) (⟦<MemDisk as Disk>⟧.faults self.new) result }
+        ensures stops { HasCause (⟦<MemDisk as Disk>⟧.stops self.old) (⟦<MemDisk as Disk>⟧.stops self.new) result }
+        ensures made { self.new.made ≡ min (self.old.made + 1) (2 ^ 64 - 1) }
+        ensures plan { self.new.plan ≡ self.old.plan }
+        // A call of the plan fails.
+        ensures planned { OnOk result (Contains self.old.plan.items self.new.made → ⊥) }
+    {
+        if is_planned(&self.plan, &mut self.made) {
+            self.stops = self.stops.saturating_add(1);
+            return Err(refuse(&mut self.idle, &mut self.faults));
+        }
+        match settle(&mut self.calls, &mut self.idle) {
             Ok(()) => Ok(()),
             Err(_) => {
                 self.stops = self.stops.saturating_add(1);
-                Err(Failed)
+                Err(refuse(&mut self.idle, &mut self.faults))
             }
         }
     }

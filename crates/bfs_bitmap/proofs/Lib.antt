@@ -4,3 +4,4 @@ pub mod Looks
 pub mod Searches
 pub mod Marked
 pub mod Back
+pub mod Counts

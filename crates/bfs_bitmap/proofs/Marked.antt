@@ -5,7 +5,7 @@ use Rattle.std.proofs.Math.Nat.{div-add-mod}
 use Rattle.bfs_txn.specs.Told.{AreOfBlock, with_block, with_number}
 use Rattle.bfs_bitmap.specs.Bits.{bit_of, in_run, Fills}
 use Rattle.bfs_bitmap.specs.Runs.{Room, marked, HasBitmap, Marks, per_block}
-use Rattle.bfs_bitmap.specs.Fills.{IsTold, IsBitmapBlock}
+use Rattle.bfs_bitmap.specs.Fills.{IsTold, IsBitmapBlock, HasBitOf}
 use Rattle.bfs_bitmap.proofs.Looks.{quotient_is}
 
 same : (j n : ℕ) → (j ≡ n) ⊎ (j ≢ n)
@@ -32,10 +32,11 @@ or_false true = refl
 or_false false = refl
 
 -- one block of the bitmap with the bits between two places set or cleared
-pub marks_part : (v : Room) (m : ℕ → Option (List ℕ)) (j from to bit : ℕ) (read new : List ℕ) → 0 < v.block_size → HasBitmap v m → per_block v * j < v.blocks → from ≤ to → to ≤ per_block v → AreOfBlock (Some m) (1 + j) read → Fills from to bit read new → length new ≡ v.block_size
+pub marks_part : (v : Room) (m : ℕ → Option (List ℕ)) (j from to bit : ℕ) (read new : List ℕ) → 0 < v.block_size → HasBitmap v m → per_block v * j < v.blocks → from ≤ to → to ≤ per_block v → per_block v * j + to ≤ v.blocks → AreOfBlock (Some m) (1 + j) read → Fills from to bit read new → length new ≡ v.block_size
     → Marks v (per_block v * j + from) (to - from) bit m (with_block (1 + j) new m)
-marks_part v m j from to bit read new some has inside order bits of fills long = record {
+marks_part v m j from to bit read new some has inside order bits end of fills long = record {
   marks = λ k h. by_block k (same (k / per_block v) j);
+  past = λ k h. by_block k (same (k / per_block v) j) ∙ ap (λ t. cond t bit (marked (per_block v) m k)) (above_it (per_block v * j + from) (to - from) k (omega (arith, order, end, h)));
   others = λ b w. by_number b w (same b (1 + j));
   has = record { told = λ i h. cell_of i h (same i j) };
 }
@@ -101,7 +102,7 @@ marks_part v m j from to bit read new some has inside order bits of fills long =
 
 -- nothing is marked yet
 pub marks_none : (v : Room) (m : ℕ → Option (List ℕ)) (first bit n : ℕ) → n ≡ 0 → HasBitmap v m → Marks v first n bit m m
-marks_none v m first bit n e has = record { marks = λ k h. none k; others = λ b w. refl; has = has }
+marks_none v m first bit n e has = record { marks = λ k h. none k; past = λ k h. refl; others = λ b w. refl; has = has }
   where
     none : (k : ℕ) → marked (per_block v) m k ≡ cond (in_run first n k) bit (marked (per_block v) m k)
     none k = let test : in_run first n k ≡ false = grind (arith, e) in rw test refl
@@ -110,6 +111,7 @@ marks_none v m first bit n e has = record { marks = λ k h. none k; others = λ 
 pub marks_then : (v : Room) (m l n : ℕ → Option (List ℕ)) (first len at part whole bit : ℕ) → at ≡ first + len → whole ≡ len + part → Marks v first len bit m l → Marks v at part bit l n → Marks v first whole bit m n
 marks_then v m l n first len at part whole bit place total one two = record {
   marks = λ k h. two.marks k h ∙ ap (λ (o : ℕ). cond (in_run at part k) bit o) (one.marks k h) ∙ merged k (marked (per_block v) m k);
+  past = λ k h. two.past k h ∙ one.past k h;
   others = λ b w. two.others b w ∙ one.others b w;
   has = two.has;
 }
@@ -135,31 +137,53 @@ marks_then v m l n first len at part whole bit place total one two = record {
     merged k y = chosen (in_run at part k) (in_run first len k) bit y ∙ ap (λ t. cond t bit y) (tests k)
 
 -- a write to a block of the bitmap
-pub told_part : (v : Room) (told told' : Option (ℕ → Option (List ℕ))) (m : ℕ → Option (List ℕ)) (j from to bit : ℕ) (read new : List ℕ) → 0 < v.block_size → told ≡ Some m → HasBitmap v m → per_block v * j < v.blocks → from ≤ to → to ≤ per_block v → AreOfBlock told (1 + j) read
+pub told_part : (v : Room) (told told' : Option (ℕ → Option (List ℕ))) (m : ℕ → Option (List ℕ)) (j from to bit : ℕ) (read new : List ℕ) → 0 < v.block_size → told ≡ Some m → HasBitmap v m → per_block v * j < v.blocks → from ≤ to → to ≤ per_block v → per_block v * j + to ≤ v.blocks → AreOfBlock told (1 + j) read
     → Fills from to bit read new → length new ≡ v.block_size → told' ≡ option_map (with_block (1 + j) new) told → IsTold (Marks v (per_block v * j + from) (to - from) bit m) told'
-told_part v told told' m j from to bit read new some is has inside order bits of fills long set = (
+told_part v told told' m j from to bit read new some is has inside order bits end of fills long set = (
   with_block (1 + j) new m,
   set ∙ ap (option_map (with_block (1 + j) new)) is,
-  marks_part v m j from to bit read new some has inside order bits (let P : Option (ℕ → Option (List ℕ)) → Type 0 = λ t. AreOfBlock t (1 + j) read in subst P is of) fills long,
+  marks_part v m j from to bit read new some has inside order bits end (let P : Option (ℕ → Option (List ℕ)) → Type 0 = λ t. AreOfBlock t (1 + j) read in subst P is of) fills long,
 )
 
 -- and the blocks that changed
-pub changed_part : (v : Room) (old new : ℕ → Bool) (j : ℕ) → per_block v * j < v.blocks → ((k : ℕ) → new k ≡ with_number (1 + j) old k) → (k : ℕ) → new k ≡ true → (old k ≡ true) ⊎ IsBitmapBlock v k
-changed_part v old new j inside is k t = by_test (k == 1 + j) refl (sym (is k) ∙ t)
+pub changed_part : (old new : ℕ → Bool) (j : ℕ) → ((k : ℕ) → new k ≡ with_number (1 + j) old k) → (k : ℕ) → new k ≡ true → (old k ≡ true) ⊎ (k ≡ 1 + j)
+changed_part old new j is k t = by_test (k == 1 + j) refl (sym (is k) ∙ t)
   where
-    by_test : (b : Bool) → (k == 1 + j) ≡ b → (b || old k) ≡ true → (old k ≡ true) ⊎ IsBitmapBlock v k
-    by_test true e h = let here : k ≡ 1 + j = grind (arith, e) in inr (omega arith, (let f : k - 1 ≡ j = omega arith in subst (λ (n : ℕ). per_block v * n < v.blocks) (sym f) inside))
+    by_test : (b : Bool) → (k == 1 + j) ≡ b → (b || old k) ≡ true → (old k ≡ true) ⊎ (k ≡ 1 + j)
+    by_test true e h = inr (grind (arith, e))
     by_test false e h = inl h
 
-pub changed_same : (v : Room) (old new : ℕ → Bool) → new ≡ old → (k : ℕ) → new k ≡ true → (old k ≡ true) ⊎ IsBitmapBlock v k
-changed_same v old new is k t = inl (sym (ap (λ (f : ℕ → Bool). f k) is) ∙ t)
+pub changed_same : (P : ℕ → Type 0) (old new : ℕ → Bool) → new ≡ old → (k : ℕ) → new k ≡ true → (old k ≡ true) ⊎ P k
+changed_same P old new is k t = inl (sym (ap (λ (f : ℕ → Bool). f k) is) ∙ t)
 
-pub changed_twice : (v : Room) (a b c : ℕ → Bool) → ((k : ℕ) → b k ≡ true → (a k ≡ true) ⊎ IsBitmapBlock v k) → ((k : ℕ) → c k ≡ true → (b k ≡ true) ⊎ IsBitmapBlock v k) → (k : ℕ) → c k ≡ true → (a k ≡ true) ⊎ IsBitmapBlock v k
-changed_twice v a b c one two k t = by_case (two k t)
+pub changed_twice : (P : ℕ → Type 0) (a b c : ℕ → Bool) → ((k : ℕ) → b k ≡ true → (a k ≡ true) ⊎ P k) → ((k : ℕ) → c k ≡ true → (b k ≡ true) ⊎ P k) → (k : ℕ) → c k ≡ true → (a k ≡ true) ⊎ P k
+changed_twice P a b c one two k t = by_case (two k t)
   where
-    by_case : (b k ≡ true) ⊎ IsBitmapBlock v k → (a k ≡ true) ⊎ IsBitmapBlock v k
+    by_case : (b k ≡ true) ⊎ P k → (a k ≡ true) ⊎ P k
     by_case (inl h) = one k h
     by_case (inr h) = inr h
+
+pub changed_as : (P Q : ℕ → Type 0) (a b : ℕ → Bool) → ((k : ℕ) → P k → Q k) → ((k : ℕ) → b k ≡ true → (a k ≡ true) ⊎ P k) → (k : ℕ) → b k ≡ true → (a k ≡ true) ⊎ Q k
+changed_as P Q a b turn one k t = by_case (one k t)
+  where
+    by_case : (a k ≡ true) ⊎ P k → (a k ≡ true) ⊎ Q k
+    by_case (inl h) = inl h
+    by_case (inr h) = inr (turn k h)
+
+-- the block with the bit of a block of the run
+pub bit_here : (v : Room) (first len at b : ℕ) → b ≡ per_block v → first ≤ at → at < first + len → (k : ℕ) → k ≡ 1 + at / b → HasBitOf v first len k
+bit_here v first len at b e low high k is = (at, low, high, is ∙ ap (λ (n : ℕ). 1 + at / n) e)
+
+-- it is a block of the bitmap
+pub bit_block : (v : Room) (first len : ℕ) → first + len ≤ v.blocks → (k : ℕ) → HasBitOf v first len k → IsBitmapBlock v k
+bit_block v first len inside k has =
+    let at : ℕ = has.0 in
+    let whole : per_block v * (has.0 / per_block v) + has.0 % per_block v ≡ has.0 = div-add-mod has.0 (per_block v) in
+    let place : k - 1 ≡ has.0 / per_block v = let e = has.3 in omega (arith, e) in
+    let low : has.0 < first + len = has.2 in (
+      (let e = has.3 in omega (arith, e)),
+      subst (λ (n : ℕ). per_block v * n < v.blocks) (sym place) (omega (arith, whole, low, inside)),
+    )
 
 -- some parts, and one more
 pub told_then : (v : Room) (told told' : Option (ℕ → Option (List ℕ))) (m : ℕ → Option (List ℕ)) (first len at part whole bit : ℕ) → at ≡ first + len → whole ≡ len + part → IsTold (Marks v first len bit m) told → ((l : ℕ → Option (List ℕ)) → told ≡ Some l → HasBitmap v l → IsTold (Marks v at part bit l) told')

@@ -1,8 +1,11 @@
 -- Free runs while the search goes on.
-use Rattle.std.proofs.Common.{◌≡◌, ◌≢◌, ◌≤◌, ◌<◌, ◌+◌, ◌-◌, ◌*◌, ◌/◌, ◌%◌, ℕ, zero, suc, List, Bool, true, false, cond, nat_lt, Option, refl, sym, ap, ◌∙◌, subst, arith, ◌⊎◌, inl, inr}
+use Rattle.std.proofs.Common.{◌≡◌, ◌≢◌, ◌≤◌, ◌<◌, ◌+◌, ◌-◌, ◌*◌, ◌/◌, ◌%◌, ℕ, zero, suc, List, Bool, true, false, cond, nat_lt, nat_le, max, Option, refl, sym, ap, ◌∙◌, subst, arith, ◌⊎◌, inl, inr}
 use Rattle.std.proofs.Math.Nat.{div-add-mod}
-use Rattle.bfs_bitmap.specs.Runs.{Room, is_free, free_count, IsFreeRun, IsNext, NoRunBelow, IsTaken, HasNoRun, Fits}
-use Rattle.bfs_bitmap.specs.Searches.{IsLimit}
+use Rattle.bfs_bitmap.specs.Runs.{Room, is_free, free_count, IsFreeRun, IsNext, NoRunBelow, IsTaken, Fits}
+use Rattle.bfs_bitmap.specs.Searches.{IsLimit, IsAnswer, IsAnswerFrom}
+use Rattle.bfs_bitmap.specs.Tallies.{place_for}
+use Rattle.bfs_bitmap.specs.declared.search.Search.{Search}
+use Rattle.bfs_bitmap.specs.declared.search.Search.TheVariants.{Found, Full}
 use Rattle.bfs_bitmap.proofs.Looks.{remainder_is}
 
 split : (j n : ℕ) → (j < n) ⊎ (n ≤ j)
@@ -112,29 +115,25 @@ pub not_counted : (v : Room) (m : ℕ → Option (List ℕ)) (from to : ℕ) →
 not_counted v m from to le none = let e : from + (to - from) ≡ to = omega arith in ap (free_count v m) (sym e) ∙ none_on v m from (to - from) (λ k a b. none k a (omega arith))
 
 -- what is known at a place that the search has come to
-pub record IsUpTo (v : Room) (m : ℕ → Option (List ℕ)) (wanted low at free : ℕ) : Type 0 where
-  pub nothing : (k : ℕ) → k < low → is_free v m k ≡ false
+pub record IsUpTo (v : Room) (m : ℕ → Option (List ℕ)) (start wanted low at free : ℕ) : Type 0 where
+  pub nothing : (k : ℕ) → start ≤ k → k < low → is_free v m k ≡ false
   pub here : at < v.blocks → is_free v m at ≡ true
   pub none : NoRunBelow v m wanted at
-  pub count : free ≡ free_count v m at
+  pub count : free_count v m start + free ≡ free_count v m at
 
 -- at the beginning
-pub up_to_first : (v : Room) (m : ℕ → Option (List ℕ)) (wanted low : ℕ) → 1 ≤ wanted → Fits v m → v.low ≤ low → IsNext v m v.low v.blocks true low → IsUpTo v m wanted low low 0
-up_to_first v m wanted low some fits le next = record {
-  nothing = λ k h. all_below k h (split k v.low);
+pub up_to_first : (v : Room) (m : ℕ → Option (List ℕ)) (start wanted low : ℕ) → 1 ≤ wanted → NoRunBelow v m wanted start → start ≤ low → IsNext v m start v.blocks true low → IsUpTo v m start wanted low low 0
+up_to_first v m start wanted low some below le next = record {
+  nothing = next.before;
   here = next.here;
-  none = no_run_on v m wanted 0 low some (λ g h. absurd (omega arith)) (λ k a b. all_below k b (split k v.low));
-  count = sym (not_counted v m 0 low (omega arith) (λ k a b. all_below k b (split k v.low)));
+  none = no_run_on v m wanted start low some below next.before;
+  count = let e : free_count v m low ≡ free_count v m start = not_counted v m start low le next.before in omega (arith, e);
 }
-  where
-    all_below : (k : ℕ) → k < low → (k < v.low) ⊎ (v.low ≤ k) → is_free v m k ≡ false
-    all_below k h (inl a) = fits.nothing_below k a
-    all_below k h (inr a) = next.before k a h
 
 -- past a stretch that is too short
-pub up_to_next : (v : Room) (m : ℕ → Option (List ℕ)) (wanted longest low at free limit end next_at : ℕ) → 0 < v.group_blocks → 1 ≤ wanted → wanted ≤ longest → at < v.blocks → IsLimit v at longest limit → at + 1 ≤ end → end ≤ limit → end ≤ next_at → end - at < wanted
-    → IsUpTo v m wanted low at free → IsNext v m (at + 1) limit false end → IsNext v m end v.blocks true next_at → IsUpTo v m wanted low next_at (free + (end - at))
-up_to_next v m wanted longest low at free limit end next_at some one order inside lim after up le short so_far first second = record {
+pub up_to_next : (v : Room) (m : ℕ → Option (List ℕ)) (start wanted longest low at free limit end next_at : ℕ) → 0 < v.group_blocks → 1 ≤ wanted → wanted ≤ longest → at < v.blocks → IsLimit v at longest limit → at + 1 ≤ end → end ≤ limit → end ≤ next_at → end - at < wanted
+    → IsUpTo v m start wanted low at free → IsNext v m (at + 1) limit false end → IsNext v m end v.blocks true next_at → IsUpTo v m start wanted low next_at (free + (end - at))
+up_to_next v m start wanted longest low at free limit end next_at some one order inside lim after up le short so_far first second = record {
   nothing = so_far.nothing;
   here = second.here;
   none = no_run_on v m wanted end next_at one (too_short v m wanted longest at limit end some order lim after up first short so_far.none) second.before;
@@ -145,12 +144,48 @@ up_to_next v m wanted longest low at free limit end next_at some one order insid
       omega (arith, mid, all, now);
 }
 
-pub nothing_left : (v : Room) (m : ℕ → Option (List ℕ)) (wanted low at free : ℕ) → 1 ≤ wanted → at ≡ v.blocks → IsUpTo v m wanted low at free → HasNoRun v m wanted free
-nothing_left v m wanted low at free some e up = record { none = λ g. here g (split g at); count = up.count ∙ ap (free_count v m) e }
+pub nothing_left : (v : Room) (m : ℕ → Option (List ℕ)) (start wanted longest low at free : ℕ) → 1 ≤ wanted → at ≡ v.blocks → IsUpTo v m start wanted low at free → IsAnswerFrom v m start wanted longest (Full free)
+nothing_left v m start wanted longest low at free some e up = (λ g. here g (split g at), up.count ∙ ap (free_count v m) e)
   where
     here : (g : ℕ) → (g < at) ⊎ (at ≤ g) → ¬ IsFreeRun v m g wanted
     here g (inl h) = up.none g h
     here g (inr h) = no_run_over v m wanted g g (omega arith) (omega arith) (past v m g (omega arith))
+
+-- nothing is free below the lowest block, so a search from there on has seen all
+pub answer_low : (v : Room) (m : ℕ → Option (List ℕ)) (start wanted longest : ℕ) (s : Search) → start ≡ v.tally.low → Fits v m → IsAnswerFrom v m start wanted longest s → IsAnswer v m wanted longest s
+answer_low v m start wanted longest (Found first len low) e fits answer = (answer.0, λ k h. by_place k h (split k v.tally.low))
+  where
+    by_place : (k : ℕ) → k < low → (k < v.tally.low) ⊎ (v.tally.low ≤ k) → is_free v m k ≡ false
+    by_place k h (inl a) = fits.nothing_below k a
+    by_place k h (inr a) = answer.1 k (omega (arith, a, e)) h
+answer_low v m start wanted longest (Full free) e fits answer = record {
+  none = answer.0;
+  count =
+      let none : free_count v m start ≡ 0 = not_counted v m 0 start (omega arith) (λ k a b. fits.nothing_below k (omega (arith, b, e))) in
+      let all = answer.1 in
+      omega (arith, none, all);
+}
+
+-- a search that began further up
+pub answer_up : (v : Room) (m : ℕ → Option (List ℕ)) (start wanted longest first len low low' : ℕ) → low' ≡ v.tally.low → Fits v m → IsAnswerFrom v m start wanted longest (Found first len low) → IsAnswer v m wanted longest (Found first len low')
+answer_up v m start wanted longest first len low low' e fits answer = (answer.0, λ k h. fits.nothing_below k (omega (arith, h, e)))
+
+-- where it may begin
+pub place_ok : (v : Room) (m : ℕ → Option (List ℕ)) (wanted start : ℕ) → 1 ≤ wanted → start ≡ place_for wanted v.tally → Fits v m → NoRunBelow v m wanted start
+place_ok v m wanted start some e fits = subst (NoRunBelow v m wanted) (sym e) (by_test (nat_le v.tally.wide wanted) refl)
+  where
+    by_place : v.tally.wide ≤ wanted → (g : ℕ) → g < max v.tally.low v.tally.wide_low → (g < v.tally.low) ⊎ (v.tally.low ≤ g) → ¬ IsFreeRun v m g wanted
+    by_place le g h (inl a) = no_run_over v m wanted g g (omega arith) (omega arith) (fits.nothing_below g a)
+    by_place le g h (inr a) =
+        let there : g < v.tally.wide_low = omega (arith, h, a) in
+        λ run. fits.no_wide g there (record { one_group = let one = run.one_group in omega (arith, one, le); free = λ k low high. run.free k low (omega (arith, high, le)) })
+
+    by_test : (t : Bool) → nat_le v.tally.wide wanted ≡ t → NoRunBelow v m wanted (cond t (max v.tally.low v.tally.wide_low) v.tally.low)
+    by_test true is g h = let le : v.tally.wide ≤ wanted = grind (arith, is) in by_place le g h (split g v.tally.low)
+    by_test false is g h = no_run_over v m wanted g g (omega arith) (omega arith) (fits.nothing_below g h)
+
+pub below_low : (v : Room) (m : ℕ → Option (List ℕ)) (wanted start : ℕ) → 1 ≤ wanted → start ≡ v.tally.low → Fits v m → NoRunBelow v m wanted start
+below_low v m wanted start some e fits g h = no_run_over v m wanted g g (omega arith) (omega arith) (fits.nothing_below g (omega (arith, h, e)))
 
 pub next_at : (v : Room) (m : ℕ → Option (List ℕ)) (from to from' to' : ℕ) (clear : Bool) (at : ℕ) → from ≡ from' → to ≡ to' → IsNext v m from to clear at → IsNext v m from' to' clear at
 next_at v m from to from' to' clear at e f next = subst (λ (n : ℕ). IsNext v m n to' clear at) e (subst (λ (n : ℕ). IsNext v m from n clear at) f next)

@@ -4,3 +4,4 @@ pub mod Windows
 pub mod Searches
 pub mod Fills
 pub mod Givens
+pub mod Tallies

@@ -4,20 +4,22 @@ use Rattle.bfs_bytes.specs.declared.Run.{Run}
 use Rattle.bfs_super.specs.Conditions.{natural}
 use Rattle.bfs_bitmap.specs.Bits.{bit_of, in_run, is_clear}
 use Rattle.bfs_bitmap.specs.declared.given.Given.{Given}
+use Rattle.bfs_bitmap.specs.declared.tally.Tally.{Tally}
+use Rattle.bfs_bitmap.specs.Tallies.{IsWithin}
 use Rattle.bfs_bitmap.specs.declared.fault.RunFault.{RunFault}
 use Rattle.bfs_bitmap.specs.declared.fault.RunFault.TheVariants.{NoRun, Block}
 use Rattle.bfs_txn.specs.Faults.{Counts, IsCauseOf}
 
 -- What a bitmap knows beside the bits on the disk: sizes; the runs that were given back; the last number of a group;
--- and the lowest block that may be free, now and when a call was last kept or dropped.
+-- and how many blocks are used and where searches may begin, now and when a call was last kept or dropped.
 pub record Room : Type 0 where
   pub block_size : ℕ
   pub blocks : ℕ
   pub group_blocks : ℕ
   pub given : List Given
   pub last : ℕ
-  pub low : ℕ
-  pub low_kept : ℕ
+  pub tally : Tally
+  pub tally_kept : Tally
 
 -- the bits in a block
 abbrev pub per_block : Room → ℕ
@@ -46,14 +48,32 @@ abbrev pub free_count : Room → (ℕ → Option (List ℕ)) → ℕ → ℕ
 free_count v m zero = 0
 free_count v m (suc k) = (if is_free v m k then 1 else 0) + free_count v m k
 
+-- the used blocks below a number
+abbrev pub marked_count : Room → (ℕ → Option (List ℕ)) → ℕ → ℕ
+marked_count v m zero = 0
+marked_count v m (suc k) = (if marked (per_block v) m k == 0 then 0 else 1) + marked_count v m k
+
+-- the number of used blocks that is kept is that of the bitmap
+abbrev pub IsCounted : Room → (ℕ → Option (List ℕ)) → Type 0
+IsCounted v m = v.tally.used ≡ marked_count v m v.blocks
+
+-- each block of a run is used
+abbrev pub AreUsed : Room → (ℕ → Option (List ℕ)) → ℕ → ℕ → Type 0
+AreUsed v m first len = (k : ℕ) → first ≤ k → k < first + len → marked (per_block v) m k ≡ 1
+
 -- each block of the bitmap is told
 pub record HasBitmap (v : Room) (m : ℕ → Option (List ℕ)) : Type 0 where
   pub told : (j : ℕ) → per_block v * j < v.blocks → (bytes : List ℕ) × (m (1 + j) ≡ Some bytes) × (length bytes ≡ v.block_size)
 
--- the bitmap is told, and below its lowest block nothing is free
+-- no free run of so many blocks begins below a place
+abbrev pub NoRunBelow : Room → (ℕ → Option (List ℕ)) → ℕ → ℕ → Type 0
+NoRunBelow v m wanted at = (g : ℕ) → g < at → ¬ IsFreeRun v m g wanted
+
+-- the bitmap is told, below its lowest block nothing is free, and no wide run begins below the place for one
 pub record Fits (v : Room) (m : ℕ → Option (List ℕ)) : Type 0 where
   pub has : HasBitmap v m
-  pub nothing_below : (k : ℕ) → k < v.low → is_free v m k ≡ false
+  pub nothing_below : (k : ℕ) → k < v.tally.low → is_free v m k ≡ false
+  pub no_wide : NoRunBelow v m v.tally.wide v.tally.wide_low
 
 -- the first block of a run
 abbrev pub first_of : Room → Run → ℕ
@@ -68,22 +88,24 @@ pub record IsInside (v : Room) (run : Run) : Type 0 where
 -- the bits of a run are so, and nothing else changes
 pub record Marks (v : Room) (first len bit : ℕ) (old new : ℕ → Option (List ℕ)) : Type 0 where
   pub marks : (k : ℕ) → k < v.blocks → marked (per_block v) new k ≡ (if in_run first len k then bit else marked (per_block v) old k)
+  pub past : (k : ℕ) → v.blocks ≤ k → marked (per_block v) new k ≡ marked (per_block v) old k
   pub others : (b : ℕ) → (b ≡ 0) ⊎ (v.blocks ≤ per_block v * (b - 1)) → new b ≡ old b
   pub has : HasBitmap v new
 
 abbrev pub none_given : Given
 none_given = record { first = 0; len = 0; group = None; kept = false }
 
--- the sizes of a valid superblock, and runs inside the volume
+-- the sizes of a valid superblock, runs inside the volume, and no group's number above the last
 pub record HasSizes (v : Room) : Type 0 where
   pub some_bytes : 0 < v.block_size
   pub few_bytes : v.block_size ≤ 8192
   pub few_blocks : v.blocks ≤ 4194304
   pub some_group : 0 < v.group_blocks
   pub few_group : v.group_blocks ≤ 65536
-  pub low : v.low ≤ v.blocks
-  pub low_kept : v.low_kept ≤ v.blocks
+  pub tally : IsWithin v.blocks v.tally
+  pub tally_kept : IsWithin v.blocks v.tally_kept
   pub given : (i : ℕ) → i < length v.given → (slice_index_or v.given i none_given).first + (slice_index_or v.given i none_given).len ≤ v.blocks
+  pub closed : (i : ℕ) → i < length v.given → unwrap_or (slice_index_or v.given i none_given).group 0 ≤ v.last
 
 -- the bytes show which blocks of one bitmap block are free
 abbrev pub Shows : Room → (ℕ → Option (List ℕ)) → ℕ → List ℕ → Type 0
@@ -94,17 +116,13 @@ pub record IsNext (v : Room) (m : ℕ → Option (List ℕ)) (from to : ℕ) (cl
   pub before : (k : ℕ) → from ≤ k → k < at → is_free v m k ≡ not clear
   pub here : at < to → is_free v m at ≡ clear
 
--- what a bitmap is once the call is given up: runs given back in it and its lowest block are those from before
+-- what a bitmap is once the call is given up: runs given back and what is known of the free space are as before it
 abbrev pub as_kept : Room → Room
-as_kept v = record v { given = filter (λ g. g.kept) v.given; low = v.low_kept }
+as_kept v = record v { given = filter (λ g. g.kept) v.given; tally = v.tally_kept }
 
 -- no run was given back, and no block taken, since a call was last kept or dropped
 abbrev pub IsSettled : Room → Type 0
 IsSettled v = as_kept v ≡ v
-
--- no free run of so many blocks begins below a place
-abbrev pub NoRunBelow : Room → (ℕ → Option (List ℕ)) → ℕ → ℕ → Type 0
-NoRunBelow v m wanted at = (g : ℕ) → g < at → ¬ IsFreeRun v m g wanted
 
 -- The run that was taken: the free run with the lowest first block among those of at least `wanted` blocks, all of it
 -- or as many as `longest` of its blocks. Its bits are set.
@@ -124,6 +142,15 @@ pub record IsMarked (v new : Room) (first len bit : ℕ) (m : ℕ → Option (Li
   pub is : told ≡ Some map
   pub marks : Marks v first len bit m map
   pub fits : Fits new map
+
+-- so many blocks fewer are free
+abbrev pub LosesFree : Room → Room → ℕ → (ℕ → Option (List ℕ)) → (ℕ → Option (List ℕ)) → Type 0
+LosesFree v now len m map = free_count now map v.blocks + len ≡ free_count v m v.blocks
+
+-- runs of so many blocks, one behind another from a place on
+abbrev pub AreFrom : ℕ → ℕ → List ℕ → Type 0
+AreFrom len from [] = Unit {0}
+AreFrom len from (g ∷ gs) = (from ≤ g) × AreFrom len (g + len) gs
 
 -- why no run was taken: there is none, or a block of the bitmap could not be had
 abbrev pub IsNoRun : Room → (ℕ → Option (List ℕ)) → ℕ → RunFault → Type 0

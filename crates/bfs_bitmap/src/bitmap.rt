@@ -1,8 +1,10 @@
 // What a bitmap keeps beside the disk.
-ghost use Rattle.std.specs.Prelude.{◌≡◌, ◌≤◌, [], ◌*◌, ◌^◌};
+ghost use Rattle.std.specs.Prelude.{◌≡◌, ◌≤◌, [], ◌*◌, ◌^◌, min};
 ghost use Rattle.bfs_super.specs.Conditions.{IsValid, natural, group_blocks};
+ghost use Rattle.bfs_bitmap.specs.Tallies.{first_tally};
 
-use crate::Given;
+use crate::tally::first;
+use crate::{Given, Tally};
 use bfs_super::Super;
 use std::alloc::Global;
 use std::marker::Model;
@@ -16,9 +18,9 @@ pub struct Bitmap {
     pub(crate) group_blocks: u64,
     pub(crate) given: Vec<Given>,
     pub(crate) last: u64,
-    /// Nothing is free below this block, and below that one when a call was last kept or dropped.
-    pub(crate) low: u64,
-    pub(crate) low_kept: u64,
+    /// What is known now, and what was when a call was last kept or dropped.
+    pub(crate) tally: Tally,
+    pub(crate) tally_kept: Tally,
 }
 
 impl Model for Bitmap {
@@ -26,28 +28,31 @@ impl Model for Bitmap {
 
     ghost Value = { Room };
 
-    ghost view = { λ b. record { block_size = b.block_size; blocks = b.blocks; group_blocks = b.group_blocks; given = b.given.items; last = b.last; low = b.low; low_kept = b.low_kept } };
+    ghost view = { λ b. record { block_size = b.block_size; blocks = b.blocks; group_blocks = b.group_blocks; given = b.given.items; last = b.last; tally = b.tally; tally_kept = b.tally_kept } };
 
-    ghost invariant = { λ b. HasSizes (record { block_size = b.block_size; blocks = b.blocks; group_blocks = b.group_blocks; given = b.given.items; last = b.last; low = b.low; low_kept = b.low_kept }) };
+    ghost invariant = { λ b. HasSizes (record { block_size = b.block_size; blocks = b.blocks; group_blocks = b.group_blocks; given = b.given.items; last = b.last; tally = b.tally; tally_kept = b.tally_kept }) };
 }
 
 impl Bitmap {
     ghost use Rattle.bfs_bitmap.specs.Runs.{Room, HasSizes};
 
-    /// The bitmap of a volume, with nothing reserved. Takes no memory.
+    /// The bitmap of a volume, with nothing reserved and as many used blocks as the superblock says, if it has
+    /// so many. Takes no memory.
     pub fn of(alloc: Global, sup: &Super) -> Bitmap
         requires { IsValid sup.now }
-        ensures { result ≡ record { block_size = sup.now.block_size; blocks = natural sup.now.num_blocks; group_blocks = group_blocks sup.now; given = []; last = 0; low = 0; low_kept = 0 } }
+        ensures { result ≡ record { block_size = sup.now.block_size; blocks = natural sup.now.num_blocks; group_blocks = group_blocks sup.now; given = []; last = 0; tally = first_tally (min (natural sup.now.used_blocks) (natural sup.now.num_blocks)); tally_kept = first_tally (min (natural sup.now.used_blocks) (natural sup.now.num_blocks)) } }
     {
+        let blocks = natural_long(sup.num_blocks);
+        let tally = first(natural_long(sup.used_blocks).min(blocks));
         Bitmap {
             alloc,
             block_size: sup.block_size,
-            blocks: natural_long(sup.num_blocks),
+            blocks,
             group_blocks: power(natural_int(sup.ag_shift)),
             given: Vec::new(alloc),
             last: 0,
-            low: 0,
-            low_kept: 0,
+            tally,
+            tally_kept: tally,
         }
     }
 
@@ -56,6 +61,21 @@ impl Bitmap {
         ensures { HasSizes self.now }
     {
         let _ = &self.alloc;
+    }
+
+    /// The number of used blocks.
+    pub fn used(&self) -> u64
+        ensures { result ≡ self.now.tally.used }
+    {
+        self.tally.used
+    }
+
+    /// What is known of the free space beside the bits.
+    pub(crate) fn tally(&self) -> Tally
+        ensures tally { result ≡ self.now.tally }
+        ensures sizes { HasSizes self.now }
+    {
+        self.tally
     }
 
     /// The number of bits in a block.

@@ -1,7 +1,7 @@
 // Sets and clears the bits of runs on the disk.
 ghost use Rattle.std.specs.Prelude.{◌≡◌, ◌≤◌, ◌<◌, ◌⊎◌, ◌+◌, ◌-◌, ◌*◌, ℕ, List, length, Option, Some, OnOk, OnErr, true, if◌then◌else◌};
 ghost use Rattle.bfs_bitmap.specs.Runs.{HasBitmap, Marks, per_block};
-ghost use Rattle.bfs_bitmap.specs.Fills.{IsTold, IsBitmapBlock};
+ghost use Rattle.bfs_bitmap.specs.Fills.{IsTold, IsBitmapBlock, HasBitOf};
 ghost use Rattle.bfs_txn.specs.Faults.{IsCaused};
 
 use crate::Bitmap;
@@ -24,8 +24,9 @@ impl Bitmap {
         requires inside { per_block self.now * j < self.now.blocks }
         requires order { from ≤ to }
         requires bits { to ≤ per_block self.now }
+        requires end { per_block self.now * j + to ≤ self.now.blocks }
         ensures marks { (m : ℕ → Option (List ℕ)) → E.told edits.old ≡ Some m → HasBitmap self.now m → OnOk result (IsTold (Marks self.now (per_block self.now * j + from) (to - from) (if used then 1 else 0) m) (E.told edits.new)) }
-        ensures changed { (k : ℕ) → E.changed edits.new k ≡ true → (E.changed edits.old k ≡ true) ⊎ IsBitmapBlock self.now k }
+        ensures changed { (k : ℕ) → E.changed edits.new k ≡ true → (E.changed edits.old k ≡ true) ⊎ (k ≡ 1 + j) }
         ensures length { length bytes.new ≡ self.now.block_size }
         ensures size { E.size edits.new ≡ E.size edits.old }
         ensures frame { E.frame edits.new ≡ E.frame edits.old }
@@ -56,7 +57,7 @@ impl Bitmap {
         requires length { length bytes.old ≡ self.now.block_size }
         requires inside { first + len ≤ self.now.blocks }
         ensures marks { (m : ℕ → Option (List ℕ)) → E.told edits.old ≡ Some m → HasBitmap self.now m → OnOk result (IsTold (Marks self.now first len (if used then 1 else 0) m) (E.told edits.new)) }
-        ensures changed { (k : ℕ) → E.changed edits.new k ≡ true → (E.changed edits.old k ≡ true) ⊎ IsBitmapBlock self.now k }
+        ensures changed { (k : ℕ) → E.changed edits.new k ≡ true → (E.changed edits.old k ≡ true) ⊎ HasBitOf self.now first len k }
         ensures length { length bytes.new ≡ self.now.block_size }
         ensures size { E.size edits.new ≡ E.size edits.old }
         ensures frame { E.frame edits.new ≡ E.frame edits.old }

@@ -1,11 +1,13 @@
 // Gives runs back, and frees them once their group has left the log.
-ghost use Rattle.std.specs.Prelude.{◌≡◌, ◌≤◌, ◌<◌, ◌⊎◌, ◌+◌, ◌∷◌, ◌++◌, [], ℕ, List, length, Option, Some, None, OnOk, OnErr, IfErr, map, filter, not, true, false};
-ghost use Rattle.bfs_bitmap.specs.Runs.{Fits, IsMarked, IsInside, IsSettled, as_kept, first_of};
+ghost use Rattle.std.specs.Prelude.{◌≡◌, ◌≤◌, ◌<◌, ◌⊎◌, ◌+◌, ◌-◌, ◌∷◌, ◌++◌, [], ℕ, List, length, Option, Some, None, OnOk, OnErr, IfErr, map, filter, not, true, false};
+ghost use Rattle.bfs_bitmap.specs.Runs.{Fits, HasBitmap, IsCounted, AreUsed, IsMarked, IsInside, IsSettled, as_kept, first_of, is_reserved};
+ghost use Rattle.bfs_bitmap.specs.Tallies.{lowered_by};
 ghost use Rattle.bfs_bitmap.specs.Givens.{numbered, settled, is_left};
-ghost use Rattle.bfs_bitmap.specs.Fills.{IsBitmapBlock};
+ghost use Rattle.bfs_bitmap.specs.Fills.{IsBitmapBlock, HasBitOf, IsTold};
 ghost use Rattle.bfs_txn.specs.Faults.{IsCaused};
 
 use crate::given::{drop_left, drop_unsettled, number_all, settle_all};
+use crate::tally::lower_all;
 use crate::window::Window;
 use crate::{Bitmap, Given};
 use bfs_bytes::Run;
@@ -17,11 +19,13 @@ impl Bitmap {
     pub fn give_back<E: Edits>(&mut self, edits: &mut E, run: Run) -> Result<(), BlockFault>
         requires size { E.size edits.old ≡ self.old.block_size }
         requires inside { IsInside self.old run }
-        ensures given { OnOk result (self.new ≡ record self.old { given = self.old.given ++ (record { first = first_of self.old run; len = run.len; group = None; kept = false }) ∷ [] }) }
+        ensures given { OnOk result (self.new ≡ record self.old { given = self.old.given ++ (record { first = first_of self.old run; len = run.len; group = None; kept = false }) ∷ []; tally = record self.old.tally { used = self.old.tally.used - run.len } }) }
+        ensures counted { (m : ℕ → Option (List ℕ)) → E.told edits.old ≡ Some m → HasBitmap self.old m → AreUsed self.old m (first_of self.old run) run.len → IsCounted self.old m → OnOk result (IsTold (IsCounted self.new) (E.told edits.new)) }
         ensures marked { (m : ℕ → Option (List ℕ)) → E.told edits.old ≡ Some m → Fits self.old m → OnOk result (IsMarked self.old self.new (first_of self.old run) run.len 0 m (E.told edits.new)) }
         ensures err { OnErr result (self.new ≡ self.old) }
         ensures kept { as_kept self.new ≡ as_kept self.old }
         ensures changed { (k : ℕ) → E.changed edits.new k ≡ true → (E.changed edits.old k ≡ true) ⊎ IsBitmapBlock self.old k }
+        ensures bits { (k : ℕ) → E.changed edits.new k ≡ true → (E.changed edits.old k ≡ true) ⊎ HasBitOf self.old (first_of self.old run) run.len k }
         ensures size { E.size edits.new ≡ E.size edits.old }
         ensures frame { E.frame edits.new ≡ E.frame edits.old }
         ensures cause { IsCaused (E.counts edits.old) (E.counts edits.new) result }
@@ -48,10 +52,10 @@ impl Bitmap {
         run.group as u64 * self.group_blocks + u64::from(run.start)
     }
 
-    /// Adds a run to those that were given back.
+    /// Adds a run to those that were given back, whose blocks are used no more.
     fn add(&mut self, first: u64, len: u64) -> Result<(), BlockFault>
         requires { first + len ≤ self.old.blocks }
-        ensures ok { OnOk result (self.new ≡ record self.old { given = self.old.given ++ (record { first = first; len = len; group = None; kept = false }) ∷ [] }) }
+        ensures ok { OnOk result (self.new ≡ record self.old { given = self.old.given ++ (record { first = first; len = len; group = None; kept = false }) ∷ []; tally = record self.old.tally { used = self.old.tally.used - len } }) }
         ensures err { OnErr result (self.new ≡ self.old) }
         ensures cause { IfErr result (λ fault. fault ≡ BlockFault.NoMemory) }
     {
@@ -62,7 +66,10 @@ impl Bitmap {
             kept: false,
         };
         match self.given.push(given) {
-            Ok(()) => Ok(()),
+            Ok(()) => {
+                self.tally.used = self.tally.used.saturating_sub(len);
+                Ok(())
+            }
             Err(_) => Err(BlockFault::NoMemory),
         }
     }
@@ -71,6 +78,8 @@ impl Bitmap {
     pub fn close_group(&mut self, group: u64)
         requires { self.old.last < group }
         ensures given { self.new ≡ record self.old { given = map (numbered group) self.old.given; last = group } }
+        ensures leaves { filter (λ g. not (is_left group g)) self.new.given ≡ [] }
+        ensures reserved { (k : ℕ) → is_reserved self.new.given k ≡ is_reserved self.old.given k }
         ensures fits { (m : ℕ → Option (List ℕ)) → Fits self.old m → Fits self.new m }
         ensures settled { IsSettled self.old → IsSettled self.new }
     {
@@ -80,31 +89,34 @@ impl Bitmap {
 
     /// Frees the runs that were given back in groups up to this number. Takes no memory.
     pub fn release(&mut self, group: u64)
-        ensures given { self.new ≡ record self.old { given = filter (λ g. not (is_left group g)) self.old.given; low = 0; low_kept = 0 } }
+        ensures given { self.new ≡ record self.old { given = filter (λ g. not (is_left group g)) self.old.given; tally = lowered_by group self.old.given self.old.tally; tally_kept = lowered_by group self.old.given self.old.tally_kept } }
+        ensures reserved { (k : ℕ) → is_reserved self.new.given k ≡ true → is_reserved self.old.given k ≡ true }
         ensures fits { (m : ℕ → Option (List ℕ)) → Fits self.old m → Fits self.new m }
         ensures settled { IsSettled self.old → IsSettled self.new }
     {
+        self.tally = lower_all(self.tally, &self.given, group);
+        self.tally_kept = lower_all(self.tally_kept, &self.given, group);
         drop_left(&mut self.given, group);
-        self.low = 0;
-        self.low_kept = 0;
     }
 
     /// Keeps what was given back since a call was last kept or dropped. Takes no memory.
     pub fn keep(&mut self)
-        ensures given { self.new ≡ record self.old { given = map settled self.old.given; low_kept = self.old.low } }
+        ensures given { self.new ≡ record self.old { given = map settled self.old.given; tally_kept = self.old.tally } }
+        ensures reserved { (k : ℕ) → is_reserved self.new.given k ≡ is_reserved self.old.given k }
         ensures fits { (m : ℕ → Option (List ℕ)) → Fits self.old m → Fits self.new m }
         ensures settled { IsSettled self.new }
     {
         settle_all(&mut self.given);
-        self.low_kept = self.low;
+        self.tally_kept = self.tally;
     }
 
     /// Takes the runs out again that were given back since a call was last kept or dropped. Takes no memory.
     pub fn drop_call(&mut self)
         ensures given { self.new ≡ as_kept self.old }
+        ensures reserved { (k : ℕ) → is_reserved self.new.given k ≡ true → is_reserved self.old.given k ≡ true }
         ensures settled { IsSettled self.new }
     {
         drop_unsettled(&mut self.given);
-        self.low = self.low_kept;
+        self.tally = self.tally_kept;
     }
 }

@@ -40,7 +40,7 @@ fn as_settled(given: Given) -> Given
 }
 
 /// Has the run's group left the log?
-fn has_left(given: Given, group: u64) -> bool
+pub fn has_left(given: Given, group: u64) -> bool
     ensures { result ≡ is_left group given }
 {
     match given.group {

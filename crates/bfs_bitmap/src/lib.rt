@@ -8,13 +8,17 @@ mod fault;
 mod fill;
 mod give;
 mod given;
+mod laws;
 mod search;
 mod take;
+mod tally;
 mod window;
 
 pub use bitmap::Bitmap;
 pub use fault::RunFault;
 pub use given::Given;
+pub use laws::few_runs_are_lost;
+pub use tally::Tally;
 
 #[cfg(test)]
 mod tests;

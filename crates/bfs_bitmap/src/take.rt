@@ -1,10 +1,12 @@
 // Takes runs.
-ghost use Rattle.std.specs.Prelude.{◌≡◌, ◌≤◌, ◌<◌, ◌⊎◌, ◌+◌, ◌%◌, ◌^◌, ℕ, List, length, Option, Some, OnOk, OnErr, IfOk, IfErr, true, false};
-ghost use Rattle.bfs_bitmap.specs.Runs.{Fits, IsTaken, IsMarked, IsInside, IsNoRun, IsRunCause, first_of, is_free};
-ghost use Rattle.bfs_bitmap.specs.Fills.{IsBitmapBlock};
+ghost use Rattle.std.specs.Prelude.{◌≡◌, ◌≤◌, ◌<◌, ◌⊎◌, ◌+◌, ◌%◌, ◌^◌, ℕ, List, length, Option, Some, OnOk, OnErr, IfOk, IfErr, true, false, min};
+ghost use Rattle.bfs_bitmap.specs.Runs.{Fits, HasBitmap, IsCounted, IsFreeRun, IsTaken, IsMarked, IsInside, IsNoRun, IsRunCause, LosesFree, NoRunBelow, first_of, is_free};
+ghost use Rattle.bfs_bitmap.specs.Tallies.{raised};
+ghost use Rattle.bfs_bitmap.specs.Fills.{IsBitmapBlock, HasBitOf, IsTold};
 ghost use Rattle.bfs_txn.specs.Faults.{AreLater, IsCaused};
 
 use crate::search::Search;
+use crate::tally::raise;
 use crate::window::Window;
 use crate::{Bitmap, RunFault};
 use bfs_bytes::Run;
@@ -27,7 +29,7 @@ impl Bitmap {
         }
     }
 
-    /// Sets the bits of a run that was found, and raises the lowest block that may be free.
+    /// Sets the bits of a run that was found, and raises what is known of the free space.
     fn mark<E: Edits>(
         &mut self,
         edits: &mut E,
@@ -35,15 +37,19 @@ impl Bitmap {
         first: u64,
         len: u64,
         low: u64,
+        wanted: u16,
     ) -> Result<(), BlockFault>
         requires size { E.size edits.old ≡ self.old.block_size }
         requires length { length bytes.old ≡ self.old.block_size }
         requires inside { first + len ≤ self.old.blocks }
         requires low { low ≤ first }
-        ensures marked { (m : ℕ → Option (List ℕ)) → E.told edits.old ≡ Some m → Fits self.old m → ((k : ℕ) → k < low → is_free self.old m k ≡ false) → OnOk result (IsMarked self.old self.new first len 1 m (E.told edits.new)) }
-        ensures rest { self.new ≡ record self.old { low = self.new.low } }
+        ensures marked { (m : ℕ → Option (List ℕ)) → E.told edits.old ≡ Some m → Fits self.old m → ((k : ℕ) → k < low → is_free self.old m k ≡ false) → NoRunBelow self.old m wanted first → OnOk result (IsMarked self.old self.new first len 1 m (E.told edits.new)) }
+        ensures counted { (m : ℕ → Option (List ℕ)) → E.told edits.old ≡ Some m → HasBitmap self.old m → IsFreeRun self.old m first len → IsCounted self.old m → OnOk result (IsTold (IsCounted self.new) (E.told edits.new)) }
+        ensures free { (m : ℕ → Option (List ℕ)) → E.told edits.old ≡ Some m → HasBitmap self.old m → IsFreeRun self.old m first len → OnOk result (IsTold (LosesFree self.old self.new len m) (E.told edits.new)) }
+        ensures tally { OnOk result (self.new ≡ record self.old { tally = raised wanted first len low self.old.blocks self.old.tally }) }
+        ensures rest { self.new ≡ record self.old { tally = self.new.tally } }
         ensures err { OnErr result (self.new ≡ self.old) }
-        ensures changed { (k : ℕ) → E.changed edits.new k ≡ true → (E.changed edits.old k ≡ true) ⊎ IsBitmapBlock self.old k }
+        ensures changed { (k : ℕ) → E.changed edits.new k ≡ true → (E.changed edits.old k ≡ true) ⊎ HasBitOf self.old first len k }
         ensures size { E.size edits.new ≡ E.size edits.old }
         ensures frame { E.frame edits.new ≡ E.frame edits.old }
         ensures cause { IsCaused (E.counts edits.old) (E.counts edits.new) result }
@@ -52,7 +58,8 @@ impl Bitmap {
             Ok(()) => {}
             Err(fault) => return Err(fault),
         }
-        self.low = if low == first { first + len } else { low };
+        self.sizes();
+        self.tally = raise(self.tally, u64::from(wanted), first, len, low, self.blocks);
         Ok(())
     }
 
@@ -74,10 +81,15 @@ impl Bitmap {
         ensures marked { (m : ℕ → Option (List ℕ)) → E.told edits.old ≡ Some m → Fits self.old m → IfOk result (λ run. IsMarked self.old self.new (first_of self.old run) run.len 1 m (E.told edits.new)) }
         ensures no_run { (m : ℕ → Option (List ℕ)) → E.told edits.old ≡ Some m → Fits self.old m → IfErr result (IsNoRun self.old m wanted) }
 
-        // Only the block below which nothing is free changes beside the disk.
-        ensures rest { self.new ≡ record self.old { low = self.new.low } }
+        ensures counted { (m : ℕ → Option (List ℕ)) → E.told edits.old ≡ Some m → Fits self.old m → IsCounted self.old m → OnOk result (IsTold (IsCounted self.new) (E.told edits.new)) }
+        ensures free { (m : ℕ → Option (List ℕ)) → E.told edits.old ≡ Some m → Fits self.old m → IfOk result (λ run. IsTold (LosesFree self.old self.new run.len m) (E.told edits.new)) }
+
+        // Only what is known of the free space changes beside the disk.
+        ensures rest { self.new ≡ record self.old { tally = self.new.tally } }
+        ensures used { IfOk result (λ run. self.new.tally.used ≡ min (self.old.tally.used + run.len) self.old.blocks) }
         ensures err { OnErr result (self.new ≡ self.old) }
         ensures changed { (k : ℕ) → E.changed edits.new k ≡ true → (E.changed edits.old k ≡ true) ⊎ IsBitmapBlock self.old k }
+        ensures bits { IfOk result (λ run. (k : ℕ) → E.changed edits.new k ≡ true → (E.changed edits.old k ≡ true) ⊎ HasBitOf self.old (first_of self.old run) run.len k) }
         ensures size { E.size edits.new ≡ E.size edits.old }
         ensures frame { E.frame edits.new ≡ E.frame edits.old }
         ensures later { AreLater (E.counts edits.old) (E.counts edits.new) }
@@ -94,7 +106,7 @@ impl Bitmap {
         match found {
             Search::Full { free } => Err(RunFault::NoRun { wanted, free }),
             Search::Found { first, len, low } => {
-                match self.mark(edits, &mut window.bytes, first, len, low) {
+                match self.mark(edits, &mut window.bytes, first, len, low, wanted) {
                     Ok(()) => Ok(self.run_at(first, len)),
                     Err(fault) => Err(RunFault::Block(fault)),
                 }

@@ -81,6 +81,7 @@ fn the_lowest_run_is_taken_and_one_given_back_waits_for_its_group(
     };
     assert_eq!(rt; taken?, [run(529, 4), run(533, 1), run(534, 4)]);
     assert_eq!(rt; again?, run(529, 4));
+    assert_eq!(rt; bitmap.used(), 534);
     Ok(())
 }
 

@@ -1,2 +1,3 @@
 pub mod Layers
 pub mod InMemory
+pub mod Few

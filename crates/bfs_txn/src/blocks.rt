@@ -1,5 +1,5 @@
 // A volume's blocks, to be read and changed.
-ghost use Rattle.std.specs.Prelude.{◌≡◌, ◌≤◌, ◌+◌, ℕ, Bool, List, Option, OnOk, OnErr, length};
+ghost use Rattle.std.specs.Prelude.{◌≡◌, ◌≤◌, ◌+◌, ℕ, Bool, List, Option, Some, OnOk, OnErr, length};
 ghost use Rattle.std.specs.Option.{option_map};
 ghost use Rattle.bfs_txn.specs.Told.{AreOfBlock, AreSized, Frame, with_block, with_number};
 ghost use Rattle.bfs_txn.specs.Faults.{Counts, IsCaused};
@@ -24,13 +24,20 @@ pub trait Blocks {
     /// At most so many blocks have been changed.
     ghost pairs: { Self → ℕ };
 
+    /// The block that was read last, with the bytes that were read. After a read that failed nothing is said of it.
+    ghost last: { Self → Option (ℕ × List ℕ) };
+
+    /// What its owner notes.
+    ghost Note: { Type 0 };
+
     /// What stays.
-    ghost frame: { Self → Frame };
+    ghost frame: { Self → Frame Note };
 
     /// Reads a block: the bytes told of it, or any where none are told.
     fn get(&mut self, block: u64, into: &mut [u8]) -> Result<(), BlockFault>
         requires { length into.old ≡ size self.old }
         ensures bytes { OnOk result (AreOfBlock (told self.old) block into.new) }
+        ensures last { OnOk result (last self.new ≡ Some (block, into.new)) }
         ensures told { told self.new ≡ told self.old }
         ensures size { size self.new ≡ size self.old }
         ensures changed { changed self.new ≡ changed self.old }
@@ -52,6 +59,7 @@ pub trait Edits: Blocks {
         ensures changed { OnOk result ((k : ℕ) → Self.changed self.new k ≡ with_number block (Self.changed self.old) k) }
         ensures same { OnErr result (Self.changed self.new ≡ Self.changed self.old) }
         ensures pairs { Self.pairs self.new ≤ Self.pairs self.old + 1 }
+        ensures last { Self.last self.new ≡ Self.last self.old }
         ensures size { Self.size self.new ≡ Self.size self.old }
         ensures frame { Self.frame self.new ≡ Self.frame self.old }
         ensures counts { Self.counts self.new ≡ Self.counts self.old };

@@ -1,5 +1,5 @@
 // Blocks in memory.
-ghost use Rattle.std.specs.Prelude.{◌≡◌, ◌≤◌, ◌<◌, ◌+◌, ◌*◌, ℕ, length};
+ghost use Rattle.std.specs.Prelude.{◌≡◌, ◌≤◌, ◌<◌, ◌+◌, ◌*◌, ℕ, length, None};
 ghost use Rattle.std.specs.Option.{option_map};
 ghost use Rattle.bfs_txn.specs.Changed.{over, number_at, AreOfSize};
 ghost use Rattle.bfs_txn.specs.Told.{blocks_of};
@@ -8,12 +8,14 @@ ghost use Rattle.bfs_bytes.specs.Fields.{Puts};
 use crate::{BlockFault, Blocks, Group};
 use bfs_bytes::put_bytes;
 use std::marker::Model;
+use std::snapshot::Snapshot;
 
 /// Blocks in memory, which tell what they hold.
 #[derive(Drop)]
 pub struct MemBlocks {
     bytes: Vec<u8>,
     block_size: u32,
+    read: Snapshot<Option<u64>>,
 }
 
 impl Model for MemBlocks {
@@ -21,12 +23,12 @@ impl Model for MemBlocks {
 
     ghost Value = { Memory };
 
-    ghost view = { λ m. record { block_size = m.block_size; bytes = m.bytes.items } };
+    ghost view = { λ m. record { block_size = m.block_size; bytes = m.bytes.items; read = m.read.value } };
 }
 
 impl Blocks for MemBlocks {
     ghost use Rattle.std.specs.Prelude.{Some, None, [], false};
-    ghost use Rattle.bfs_txn.specs.Told.{blocks_of};
+    ghost use Rattle.bfs_txn.specs.Told.{blocks_of, read_last};
     ghost use Rattle.bfs_txn.specs.Laws.{memory_sized};
 
     ghost told = { λ m. Some (blocks_of m.block_size m.bytes) };
@@ -39,14 +41,20 @@ impl Blocks for MemBlocks {
 
     ghost pairs = { λ m. 0 };
 
-    ghost frame = { λ m. record { names = []; kept = []; below = None } };
+    ghost last = { λ m. read_last m };
+
+    ghost Note = { Unit {0} };
+
+    ghost frame = { λ m. record { note = tt; names = []; kept = []; below = None } };
 
     ghost sized = { λ m. memory_sized m.block_size m.bytes };
 
     fn get(&mut self, block: u64, into: &mut [u8]) -> Result<(), BlockFault> {
-        if let Some(bytes) = block_at(&self.bytes, self.block_size, block) {
-            into.copy_from_slice(bytes);
+        match block_at(&self.bytes, self.block_size, block) {
+            Some(bytes) => into.copy_from_slice(bytes),
+            None => into.fill(0),
         }
+        self.read = Snapshot::of(&Some(block));
         Ok(())
     }
 }
@@ -55,9 +63,13 @@ impl MemBlocks {
     /// Blocks of so many bytes, one after another. Takes no memory.
     pub fn new(bytes: Vec<u8>, block_size: u32) -> MemBlocks
         requires { (n : ℕ) × (length bytes.items ≡ block_size * n) }
-        ensures { result ≡ record { block_size = block_size; bytes = bytes.items } }
+        ensures { result ≡ record { block_size = block_size; bytes = bytes.items; read = None } }
     {
-        MemBlocks { bytes, block_size }
+        MemBlocks {
+            bytes,
+            block_size,
+            read: Snapshot::of(&None),
+        }
     }
 
     /// The bytes of all blocks, one after another.
@@ -75,6 +87,7 @@ impl MemBlocks {
         ensures size { self.new.block_size ≡ self.old.block_size }
         ensures length { length self.new.bytes ≡ length self.old.bytes }
     {
+        self.read = Snapshot::of(&None);
         for i in 0..group.blocks.len() {
             let block = group.blocks.block(i);
             let bytes = group.blocks.bytes(i);

@@ -1,10 +1,12 @@
 // One call's changes over an open group, over what lies below.
-ghost use Rattle.std.specs.Prelude.{◌≡◌, ◌≤◌, ℕ, List, [], ◌∷◌, length, take, Option, is_some};
+ghost use Rattle.std.specs.Prelude.{◌≡◌, ◌≤◌, ◌<◌, ℕ, List, [], ◌∷◌, length, take, Option, is_some};
 ghost use Rattle.std.specs.Option.{option_map};
-ghost use Rattle.bfs_txn.specs.Changed.{newest, over, Ascends, AreOfSize, AreLayered};
+ghost use Rattle.bfs_txn.specs.Changed.{newest, over, number_at, bytes_at, Ascends, AreOfSize, AreLayered};
+ghost use Rattle.bfs_txn.specs.Told.{read_over};
 
 use crate::{BlockFault, Blocks, Changed, Edits};
 use std::alloc::AllocError;
+use std::snapshot::Snapshot;
 
 /// What one call changes, above an open group of changes and the blocks below. One of [`Overlay::keep`] and
 /// [`Overlay::drop_call`] ends it.
@@ -12,6 +14,9 @@ pub struct Overlay<'a, B: Blocks> {
     group: &'a mut Changed,
     under: &'a mut B,
     mark: usize,
+    /// Where the block that was read last is one of the pairs, that block, and the pairs as they were then.
+    own: Snapshot<Option<u64>>,
+    seen: Snapshot<Changed>,
     ghost layered: { AreLayered mark (B.size under.now) group.now },
 }
 
@@ -28,15 +33,22 @@ impl<B: Blocks> Blocks for Overlay<'_, B> {
 
     ghost pairs = { λ o. length o.group.now };
 
-    ghost frame = { λ o. record { names = o.group.ghost_name ∷ o.under.ghost_name ∷ []; kept = take o.mark o.group.now; below = B.told o.under.now } };
+    ghost last = { λ o. read_over o.own.value o.seen.value (B.last o.under.now) };
+
+    ghost Note = { B.Note };
+
+    ghost frame = { λ o. record { note = (B.frame o.under.now).note; names = o.group.ghost_name ∷ o.under.ghost_name ∷ []; kept = take o.mark o.group.now; below = B.told o.under.now } };
 
     ghost sized = { λ o. over_sized o.mark (B.size o.under.now) o.group.now (B.told o.under.now) o.layered (B.sized o.under.now) };
 
     fn get(&mut self, block: u64, into: &mut [u8]) -> Result<(), BlockFault> {
         if let Some(bytes) = self.group.find_above(self.mark, block) {
             into.copy_from_slice(bytes);
+            self.own = Snapshot::of(&Some(block));
+            self.seen = Snapshot::of(self.group);
             return Ok(());
         }
+        self.own = Snapshot::of(&None);
         self.under.get(block, into)
     }
 }
@@ -57,12 +69,16 @@ impl<'a, B: Blocks> Overlay<'a, B> {
         ensures open_now { result.group.now ≡ «open».old }
         ensures under_now { result.under.now ≡ under.old }
         ensures mark { result.mark ≡ length «open».old }
+        ensures last { read_over result.own.value result.seen.value (B.last result.under.now) ≡ B.last under.old }
     {
         let mark = open.len();
+        let seen = Snapshot::of(open);
         Overlay {
             group: open,
             under,
             mark,
+            own: Snapshot::of(&None),
+            seen,
         }
     }
 
@@ -71,6 +87,22 @@ impl<'a, B: Blocks> Overlay<'a, B> {
         ensures { result ≡ length self.now.group.now }
     {
         self.group.len()
+    }
+
+    /// The block of the pair at a place.
+    pub fn block(&self, i: usize) -> u64
+        requires { i < length self.now.group.now }
+        ensures { result ≡ number_at self.now.group.now i }
+    {
+        self.group.block(i)
+    }
+
+    /// The bytes of the pair at a place.
+    pub fn bytes(&self, i: usize) -> &[u8]
+        requires { i < length self.now.group.now }
+        ensures { result.now ≡ bytes_at self.now.group.now i }
+    {
+        self.group.bytes(i)
     }
 
     /// Puts the call's changes into the open group, which then reads as the overlay did. Takes no memory.
@@ -86,6 +118,8 @@ impl<'a, B: Blocks> Overlay<'a, B> {
             group,
             under: _,
             mark,
+            own: _,
+            seen: _,
         } = self;
         group.merge(mark);
     }
@@ -99,6 +133,8 @@ impl<'a, B: Blocks> Overlay<'a, B> {
             group,
             under: _,
             mark,
+            own: _,
+            seen: _,
         } = self;
         group.truncate(mark);
     }

@@ -29,6 +29,9 @@ pub trait Pages {
     /// The second is the first after some calls: what no call may change stays.
     ghost goes_on: { Self → Self → Type 0 };
 
+    /// The second is the first after calls that only read.
+    ghost is_read: { Self → Self → Type 0 };
+
     /// Why a call between the two may have failed.
     ghost is_cause: { Self → Self → Self.Fault → Type 0 };
 
@@ -53,6 +56,7 @@ pub trait Pages {
         ensures counts { AreLater (counts self.old) (counts self.new) }
         ensures frame { frame self.new ≡ frame self.old }
         ensures goes_on { goes_on self.old self.new }
+        ensures is_read { is_read self.old self.new }
         ensures cause { IfErr result (is_cause self.old self.new) };
 
     /// Writes a page.
@@ -81,6 +85,13 @@ pub trait Pages {
     ghost goes_on_same: { (p : Self) → goes_on p p };
 
     ghost goes_on_twice: { (p q r : Self) → goes_on p q → goes_on q r → goes_on p r };
+
+    ghost is_read_same: { (p : Self) → is_read p p };
+
+    ghost is_read_twice: { (p q r : Self) → is_read p q → is_read q r → is_read p r };
+
+    /// A call that reads goes on too.
+    ghost is_read_on: { (p q : Self) → is_read p q → goes_on p q };
 
     /// The cause of a call's failure is one of all calls up to it.
     ghost is_cause_before: { (p q r : Self) (fault : Self.Fault) → goes_on p q → is_cause q r fault → is_cause p r fault };

@@ -104,6 +104,35 @@ fn an_overlay_reads_its_changes_and_keeps_them_or_not(rt: HostRuntime) -> Result
     Ok(())
 }
 
+/// Is this one of the pairs?
+fn has_pair<B: Blocks>(call: &Overlay<'_, B>, block: u64, bytes: &[u8]) -> bool {
+    for i in 0..call.pairs() {
+        if call.block(i) == block && call.bytes(i) == bytes {
+            return true;
+        }
+    }
+    false
+}
+
+#[test]
+fn the_pairs_of_a_call_are_read_by_their_places(rt: HostRuntime) -> Result<(), Fail> {
+    let alloc = rt.alloc();
+    let bytes = Vec::from_slice(alloc, &[0, 0, 0, 0, 1, 1, 1, 1, 2, 2, 2, 2])?;
+    let mut memory = MemBlocks::new(bytes, 4);
+    let mut open = Changed::new(alloc);
+    let mut call = Overlay::begin(&mut open, &mut memory);
+    let found = change(&mut call, 7);
+    let pairs = [
+        call.pairs() == 2,
+        has_pair(&call, 1, &[7; 4]),
+        has_pair(&call, 2, &[9; 4]),
+    ];
+    call.drop_call();
+    assert_eq!(rt; found?, [[0; 4], [7; 4], [7; 4]]);
+    assert_eq!(rt; pairs, [true, true, false]);
+    Ok(())
+}
+
 /// Do the blocks lie in the memory?
 fn lie_inside(blocks: &Changed, memory: &MemBlocks) -> bool
     requires { memory.now.block_size ≡ 4 }

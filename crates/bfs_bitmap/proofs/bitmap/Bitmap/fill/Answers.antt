@@ -1,9 +1,9 @@
 use Rattle.std.proofs.Common.{◌≡◌, ◌<◌, ◌+◌, ◌-◌, ◌*◌, ◌/◌, ◌%◌, ◌∙◌, ap, sym, subst, ℕ, arith, cond, refl, inl}
 use Rattle.std.proofs.Math.Nat.{div-add-mod}
 use Rattle.bfs_bitmap.specs.Runs.{per_block, Marks}
-use Rattle.bfs_bitmap.specs.Fills.{IsTold}
+use Rattle.bfs_bitmap.specs.Fills.{IsTold, HasBitOf}
 use Rattle.bfs_bitmap.proofs.Looks.{at_base, later_twice}
-use Rattle.bfs_bitmap.proofs.Marked.{marks_none, told_then, changed_twice}
+use Rattle.bfs_bitmap.proofs.Marked.{marks_none, told_then, changed_twice, changed_as, bit_here}
 use Rattle.bfs_bitmap.proofs.bitmap.Bitmap.fill.Goals as goal
 
 pub loop-at-init : goal.loop-at-init
@@ -32,7 +32,9 @@ loop-at-preserved g c =
       c.in-Ok.ensures.size ∙ c.loop-at.invariant.3,
       c.in-Ok.ensures.frame ∙ c.loop-at.invariant.4,
       later_twice (g.E.Blocks.counts c.args.edits.now) (g.E.Blocks.counts c.loop-at.edits) (g.E.Blocks.counts c.fill_part.new.edits) c.loop-at.invariant.5 c.in-Ok.ensures.cause.later,
-      changed_twice c.args.self.now (g.E.Blocks.changed c.args.edits.now) (g.E.Blocks.changed c.loop-at.edits) (g.E.Blocks.changed c.fill_part.new.edits) c.loop-at.invariant.6 c.in-Ok.ensures.changed,
+      changed_twice (HasBitOf c.args.self.now c.args.first c.args.len) (g.E.Blocks.changed c.args.edits.now) (g.E.Blocks.changed c.loop-at.edits) (g.E.Blocks.changed c.fill_part.new.edits) c.loop-at.invariant.6
+          (changed_as (λ k. k ≡ 1 + c.loop-at.at / c.per_block-bits.result) (HasBitOf c.args.self.now c.args.first c.args.len) (g.E.Blocks.changed c.loop-at.edits) (g.E.Blocks.changed c.fill_part.new.edits)
+          (bit_here c.args.self.now c.args.first c.args.len c.loop-at.at c.per_block-bits.result c.per_block-bits.ensures.value c.loop-at.invariant.0 (omega arith)) c.in-Ok.ensures.changed),
       λ m is has.
           told_then c.args.self.now (g.E.Blocks.told c.loop-at.edits) (g.E.Blocks.told c.fill_part.new.edits) m c.args.first (c.loop-at.at - c.args.first) c.loop-at.at (c.min-to.result - c.loop-at.at % c.per_block-bits.result)
           (c.loop-at.at - c.loop-at.at % c.per_block-bits.result + c.min-to.result - c.args.first) (cond c.args.used 1 0) (omega arith) (omega arith) (c.loop-at.invariant.7 m is has)

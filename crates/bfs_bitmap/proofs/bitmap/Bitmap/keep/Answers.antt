@@ -1,8 +1,8 @@
-use Rattle.std.proofs.Common.{◌≡◌, ◌∙◌, ap, map, filter, sym, subst, List, refl}
+use Rattle.std.proofs.Common.{◌≡◌, ◌∙◌, ap, map, sym, subst, List, refl}
 use Rattle.bfs_bitmap.specs.declared.given.Given.{Given}
 use Rattle.bfs_bitmap.specs.Givens.{settled}
-use Rattle.bfs_bitmap.specs.Runs.{Room, as_kept}
-use Rattle.bfs_bitmap.proofs.Back.{fits_kept, fits_numbered, settled_kept, settled_numbered, settled_left, settled_dropped, AreWithin, within_map}
+use Rattle.bfs_bitmap.specs.Runs.{Room, is_reserved}
+use Rattle.bfs_bitmap.proofs.Back.{fits_kept, settled_kept, AreAll, LiesIn, IsClosedBy, all_map, reserved-map}
 use Rattle.bfs_bitmap.proofs.bitmap.Bitmap.keep.Goals as goal
 
 pub invariant_of-self : goal.invariant_of-self
@@ -12,23 +12,28 @@ invariant_of-self c = record {
   few_blocks = c.self.invariant.few_blocks;
   some_group = c.self.invariant.some_group;
   few_group = c.self.invariant.few_group;
-  low = c.self.invariant.low;
-  low_kept = c.self.invariant.low;
-  given = subst (λ (l : List Given). AreWithin c.self.inside.blocks l) (sym c.settle_all.ensures) (within_map c.self.inside.blocks settled c.self.inside.given.items (λ g. refl) (λ g. refl) c.self.invariant.given);
+  tally = c.self.invariant.tally;
+  tally_kept = c.self.invariant.tally;
+  given = subst (AreAll (LiesIn c.self.inside.blocks)) (sym c.settle_all.ensures) (all_map (LiesIn c.self.inside.blocks) (LiesIn c.self.inside.blocks) settled c.self.inside.given.items (λ g h. h) c.self.invariant.given);
+  closed = subst (AreAll (IsClosedBy c.self.inside.last)) (sym c.settle_all.ensures) (all_map (IsClosedBy c.self.inside.last) (IsClosedBy c.self.inside.last) settled c.self.inside.given.items (λ g h. h) c.self.invariant.closed);
 }
+
+pub returns-clause-reserved : goal.returns-clause-reserved
+returns-clause-reserved c k =
+    ap (λ (l : List Given). is_reserved l k) c.settle_all.ensures
+    ∙ reserved-map settled c.self.inside.given.items k (λ g. refl) (λ g. refl)
+    ∙ ap (λ (v : Room). is_reserved v.given k) c.self.view_is
 
 pub returns-clause-fits : goal.returns-clause-fits
 returns-clause-fits c =
-    let room : List Given → Room =
-    λ l. record { block_size = c.self.inside.block_size; blocks = c.self.inside.blocks; group_blocks = c.self.inside.group_blocks; given = l; last = c.self.inside.last; low = c.self.inside.low; low_kept = c.self.inside.low } in
-    let change : Room → Room = λ v. record v { given = map settled v.given; low_kept = v.low } in
+    let room : List Given → Room = λ l. record { block_size = c.self.inside.block_size; blocks = c.self.inside.blocks; group_blocks = c.self.inside.group_blocks; given = l; last = c.self.inside.last; tally = c.self.inside.tally; tally_kept = c.self.inside.tally } in
+    let change : Room → Room = λ v. record v { given = map settled v.given; tally_kept = v.tally } in
     let is : room c.settle_all.new.given.items ≡ change c.args.self.now = ap room c.settle_all.ensures ∙ ap change c.self.view_is in
     fits_kept c.args.self.now (room c.settle_all.new.given.items) is
 
 pub returns-clause-settled : goal.returns-clause-settled
 returns-clause-settled c =
-    let room : List Given → Room =
-    λ l. record { block_size = c.self.inside.block_size; blocks = c.self.inside.blocks; group_blocks = c.self.inside.group_blocks; given = l; last = c.self.inside.last; low = c.self.inside.low; low_kept = c.self.inside.low } in
-    let change : Room → Room = λ v. record v { given = map settled v.given; low_kept = v.low } in
+    let room : List Given → Room = λ l. record { block_size = c.self.inside.block_size; blocks = c.self.inside.blocks; group_blocks = c.self.inside.group_blocks; given = l; last = c.self.inside.last; tally = c.self.inside.tally; tally_kept = c.self.inside.tally } in
+    let change : Room → Room = λ v. record v { given = map settled v.given; tally_kept = v.tally } in
     let is : room c.settle_all.new.given.items ≡ change c.args.self.now = ap room c.settle_all.ensures ∙ ap change c.self.view_is in
     settled_kept c.args.self.now (room c.settle_all.new.given.items) is

@@ -38,7 +38,7 @@ pub array_zeros : (s : Sizes) (blocks : ℕ → List ℕ) (array : Run) → ((k 
 array_zeros s blocks array zeros =
     array_is s blocks array ∙ zeros_joined s blocks (run_blocks s array) zeros ∙ ap (λ n. replicate (runs_per_block s * n) no_run) (length-counted (first_block s array) array.len)
 
-module _ (o : Origin) (v now : Room) (array : Run) (m : ℕ → Option (List ℕ)) (told1 told2 told4 : Option (ℕ → Option (List ℕ))) (owns : Owns o v [] m) (took : Took o.sizes v now array m told1) (rest : now ≡ record v { low = now.low })
+module _ (o : Origin) (v now : Room) (array : Run) (m : ℕ → Option (List ℕ)) (told1 told2 told4 : Option (ℕ → Option (List ℕ))) (owns : Owns o v [] m) (took : Took o.sizes v now array m told1) (rest : now ≡ record v { tally = now.tally })
     (cleared : HasCleared o.sizes array took.map told2) where
   -- the array's blocks are new to the stream
   pub new_apart : (k : ℕ) → Has (whole_at o.sizes (contents m) o.id) k → times k (run_blocks o.sizes array) ≡ 0
@@ -194,8 +194,8 @@ module _ (o : Origin) (v now : Room) (array : Run) (m : ℕ → Option (List ℕ
     unfolding m2
     opened old new changes =
         subst (λ (x : Room). Grown o v x m [] told4 old new) (sym rest)
-        (subst (λ (t : Option (ℕ → Option (List ℕ))). Grown o v (record v { low = now.low }) m [] t old new) (sym wrote.is)
-        (grown_is o v now.low array m took.map (with_block o.id wrote.bytes cleared.map) told1 (o.id ∷ run_blocks o.sizes array) [] next owns took.is
+        (subst (λ (t : Option (ℕ → Option (List ℕ))). Grown o v (record v { tally = now.tally }) m [] t old new) (sym wrote.is)
+        (grown_is o v now.tally array m took.map (with_block o.id wrote.bytes cleared.map) told1 (o.id ∷ run_blocks o.sizes array) [] next owns took.is
         (subst (λ (x : Room). Fits x took.map) rest took.fits) took.others took.first took.were_free
         (λ k. sym (ap (λ (x : Room). is_free x took.map k) rest) ∙ took.free k) took.marks
         written levels_are next_sound next_places same keeps inside_frame told_now next_few rest_now old new changes))

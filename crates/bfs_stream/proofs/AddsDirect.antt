@@ -68,7 +68,7 @@ module _ (s : Sizes) (blocks : ℕ → List ℕ) (id : ℕ) (sound : HasLevels s
       by_cases (inr has) = let none : length (used_runs (array_runs s blocks (fields s blocks id).indirect)) ≡ 0 = ap (λ (l : List Run). length (used_runs l)) no_table in absurd (omega (arith, has.1, none))
 
 module _ (o : Origin) (v now : Room) (run none : Run) (m : ℕ → Option (List ℕ)) (told1 told2 : Option (ℕ → Option (List ℕ))) (bytes0 bytes2 : List ℕ) (used blocks : ℕ)
-    (owns : Owns o v [] m) (took : Took o.sizes v now run m told1) (rest : now ≡ record v { low = now.low }) (set_is : told2 ≡ option_map (with_block o.id bytes2) told1)
+    (owns : Owns o v [] m) (took : Took o.sizes v now run m told1) (rest : now ≡ record v { tally = now.tally }) (set_is : told2 ≡ option_map (with_block o.id bytes2) told1)
     (read : bytes0 ≡ contents m o.id) (used_is : used ≡ length (used_runs (stream_at bytes0).direct)) (room : used < 12) (end : blocks ≡ (ends_of o.sizes (stream_at bytes0)).direct) (sizes : HasSizes o.sizes)
     (inside : IsInVolume o.sizes run) (some : 0 < run.len) (zero_len : none.len ≡ 0)
     (put : stream_at bytes2 ≡ record (stream_at bytes0) { direct = set (set (stream_at bytes0).direct (used + 1) none) used run; max_direct_range = pos (o.sizes.block_size * (blocks + run.len)) }) (kept : KeepsRest bytes0 bytes2) where
@@ -201,8 +201,8 @@ module _ (o : Origin) (v now : Room) (run none : Run) (m : ℕ → Option (List 
   added old new changes =
       let set_some : told2 ≡ Some (with_block o.id bytes2 took.map) = set_is ∙ ap (option_map (with_block o.id bytes2)) took.is in
       subst (λ (x : Room). Grown o v x m (run_blocks o.sizes run) told2 old new) (sym rest)
-      (subst (λ (t : Option (ℕ → Option (List ℕ))). Grown o v (record v { low = now.low }) m (run_blocks o.sizes run) t old new) (sym set_some)
-      (grown_is o v now.low run m took.map (with_block o.id bytes2 took.map) told1 (o.id ∷ []) (run_blocks o.sizes run) next owns took.is
+      (subst (λ (t : Option (ℕ → Option (List ℕ))). Grown o v (record v { tally = now.tally }) m (run_blocks o.sizes run) t old new) (sym set_some)
+      (grown_is o v now.tally run m took.map (with_block o.id bytes2 took.map) told1 (o.id ∷ []) (run_blocks o.sizes run) next owns took.is
       (subst (λ (x : Room). Fits x took.map) rest took.fits) took.others took.first took.were_free
       (λ k. sym (ap (λ (x : Room). is_free x took.map k) rest) ∙ took.free k) took.marks
       written levels_are next_sound next_places same

@@ -21,7 +21,7 @@ use Rattle.bfs_stream.proofs.AddsIndirect.{inode_apart, in_whole, in_arrays}
 use Rattle.bfs_stream.proofs.AddsArray.{array_zeros, new_apart, kept, same_map}
 use Rattle.bfs_stream.proofs.Finish.{grown_is, few_more}
 
-module _ (o : Origin) (v now : Room) (array : Run) (m : ℕ → Option (List ℕ)) (told1 told2 told4 : Option (ℕ → Option (List ℕ))) (owns : Owns o v [] m) (took : Took o.sizes v now array m told1) (rest : now ≡ record v { low = now.low })
+module _ (o : Origin) (v now : Room) (array : Run) (m : ℕ → Option (List ℕ)) (told1 told2 told4 : Option (ℕ → Option (List ℕ))) (owns : Owns o v [] m) (took : Took o.sizes v now array m told1) (rest : now ≡ record v { tally = now.tally })
     (cleared : HasCleared o.sizes array took.map told2) where
   new_apart' : (k : ℕ) → Has (whole_at o.sizes (contents m) o.id) k → times k (run_blocks o.sizes array) ≡ 0
   new_apart' = new_apart o v now array m told1 told2 told4 owns took rest cleared
@@ -186,8 +186,8 @@ module _ (o : Origin) (v now : Room) (array : Run) (m : ℕ → Option (List ℕ
     unfolding m2
     opened old new changes =
         subst (λ (x : Room). Grown o v x m [] told4 old new) (sym rest)
-        (subst (λ (t : Option (ℕ → Option (List ℕ))). Grown o v (record v { low = now.low }) m [] t old new) (sym wrote.is)
-        (grown_is o v now.low array m took.map (with_block o.id wrote.bytes cleared.map) told1 (o.id ∷ run_blocks o.sizes array) [] next owns took.is
+        (subst (λ (t : Option (ℕ → Option (List ℕ))). Grown o v (record v { tally = now.tally }) m [] t old new) (sym wrote.is)
+        (grown_is o v now.tally array m took.map (with_block o.id wrote.bytes cleared.map) told1 (o.id ∷ run_blocks o.sizes array) [] next owns took.is
         (subst (λ (x : Room). Fits x took.map) rest took.fits) took.others took.first took.were_free
         (λ k. sym (ap (λ (x : Room). is_free x took.map k) rest) ∙ took.free k) took.marks
         written levels_are next_sound next_places same keeps inside_frame told_now next_few rest_now old new changes))

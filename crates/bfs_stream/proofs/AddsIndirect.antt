@@ -89,7 +89,7 @@ module _ (o : Origin) (v : Room) (m : ℕ → Option (List ℕ)) (owns : Owns o 
       by_cases (inr full) = absurd (omega (arith, full.2, room))
 
 module _ (o : Origin) (v now : Room) (run none array : Run) (m : ℕ → Option (List ℕ)) (told1 told2 told3 told4 : Option (ℕ → Option (List ℕ))) (used total : ℕ)
-    (owns : Owns o v [] m) (took : Took o.sizes v now run m told1) (rest : now ≡ record v { low = now.low })
+    (owns : Owns o v [] m) (took : Took o.sizes v now run m told1) (rest : now ≡ record v { tally = now.tally })
     (array_is : array ≡ (fields o.sizes (contents m) o.id).indirect) (used_is : used ≡ length (used_runs (array_runs o.sizes (contents m) array))) (total_is : total ≡ length (places_at o.sizes (contents m) o.id))
     (ended : HasPut o.sizes array (used + 1) none took.map told2) (put : HasPut o.sizes array used run ended.map told3)
     (wrote : HasFields o (record (stream_at (contents put.map o.id)) { max_indirect_range = pos (o.sizes.block_size * (total + run.len)) }) put.map told4)
@@ -277,8 +277,8 @@ module _ (o : Origin) (v now : Room) (run none array : Run) (m : ℕ → Option 
   unfolding m2
   added old new changes =
       subst (λ (x : Room). Grown o v x m (run_blocks o.sizes run) told4 old new) (sym rest)
-      (subst (λ (t : Option (ℕ → Option (List ℕ))). Grown o v (record v { low = now.low }) m (run_blocks o.sizes run) t old new) (sym wrote.is)
-      (grown_is o v now.low run m took.map (with_block o.id wrote.bytes put.map) told1 (o.id ∷ run_blocks o.sizes array) (run_blocks o.sizes run) next owns took.is
+      (subst (λ (t : Option (ℕ → Option (List ℕ))). Grown o v (record v { tally = now.tally }) m (run_blocks o.sizes run) t old new) (sym wrote.is)
+      (grown_is o v now.tally run m took.map (with_block o.id wrote.bytes put.map) told1 (o.id ∷ run_blocks o.sizes array) (run_blocks o.sizes run) next owns took.is
       (subst (λ (x : Room). Fits x took.map) rest took.fits) took.others took.first took.were_free
       (λ k. sym (ap (λ (x : Room). is_free x took.map k) rest) ∙ took.free k) took.marks
       written levels_are next_sound next_places same

@@ -69,7 +69,7 @@ module _ (o : Origin) (v now : Room) (run array : Run) (m : ℕ → Option (List
   pub took_listed : (listed : ℕ) → listed ≡ length (second_arrays o.sizes (contents m) o.id) → listed ≡ length (used_runs (array_runs o.sizes (contents took.map) array))
   took_listed listed e = e ∙ ap (λ (l : List Run). length (used_runs l)) (sym took_arrays)
 
-  module _ (none : Run) (told2 told3 told4 : Option (ℕ → Option (List ℕ))) (used total : ℕ) (rest : now ≡ record v { low = now.low }) (ended : HasPutBelow o.sizes array (used + 1) none took.map told2) where
+  module _ (none : Run) (told2 told3 told4 : Option (ℕ → Option (List ℕ))) (used total : ℕ) (rest : now ≡ record v { tally = now.tally }) (ended : HasPutBelow o.sizes array (used + 1) none took.map told2) where
     pub ended_length : length (table_runs o.sizes (contents ended.map) array) ≡ length (table_runs o.sizes (contents took.map) array)
     ended_length = ap length ended.runs ∙ length-set (table_runs o.sizes (contents took.map) array) (used + 1) none
 
@@ -241,8 +241,8 @@ module _ (o : Origin) (v now : Room) (run array : Run) (m : ℕ → Option (List
         unfolding m2
         added old new changes =
             subst (λ (x : Room). Grown o v x m (run_blocks o.sizes run) told4 old new) (sym rest)
-            (subst (λ (t : Option (ℕ → Option (List ℕ))). Grown o v (record v { low = now.low }) m (run_blocks o.sizes run) t old new) (sym wrote.is)
-            (grown_is o v now.low run m took.map (with_block o.id wrote.bytes put.map) told1 changed (run_blocks o.sizes run) next owns took.is
+            (subst (λ (t : Option (ℕ → Option (List ℕ))). Grown o v (record v { tally = now.tally }) m (run_blocks o.sizes run) t old new) (sym wrote.is)
+            (grown_is o v now.tally run m took.map (with_block o.id wrote.bytes put.map) told1 changed (run_blocks o.sizes run) next owns took.is
             (subst (λ (x : Room). Fits x took.map) rest took.fits) took.others took.first took.were_free
             (λ k. sym (ap (λ (x : Room). is_free x took.map k) rest) ∙ took.free k) took.marks
             written levels_are next_sound next_places same

@@ -44,7 +44,7 @@ module _ (o : Origin) (m : ℕ → Option (List ℕ)) where
   whole_parts k = times-append k (frame_at o.sizes (contents m) o.id) (places_at o.sizes (contents m) o.id) ∙ ap (λ (n : ℕ). n + times k (places_at o.sizes (contents m) o.id)) (frame_parts k)
 
 module _ (o : Origin) (v now : Room) (table array : Run) (m : ℕ → Option (List ℕ)) (told1 told2 told3 told4 : Option (ℕ → Option (List ℕ))) (listed : ℕ)
-    (owns : Owns o v [] m) (took : Took o.sizes v now table m told1) (rest : now ≡ record v { low = now.low })
+    (owns : Owns o v [] m) (took : Took o.sizes v now table m told1) (rest : now ≡ record v { tally = now.tally })
     (cleared : HasCleared o.sizes table took.map told2) (array_is : array ≡ (fields o.sizes (contents m) o.id).double_indirect) where
   blocks_is : (k : ℕ) → times k (run_blocks o.sizes array) ≡ times k (double_blocks o m)
   blocks_is k = ap (λ (r : Run). times k (run_blocks o.sizes r)) array_is
@@ -220,8 +220,8 @@ module _ (o : Origin) (v now : Room) (table array : Run) (m : ℕ → Option (Li
     pub opened : (old new : ℕ → Bool) → AreWritten v old new (run_blocks o.sizes array ++ run_blocks o.sizes table) → Grown o v now m [] told4 old new
     opened old new changes =
         subst (λ (x : Room). Grown o v x m [] told4 old new) (sym rest)
-        (subst (λ (t : Option (ℕ → Option (List ℕ))). Grown o v (record v { low = now.low }) m [] t old new) (sym put.is)
-        (grown_is o v now.low table m took.map put.map told1 changed [] next owns took.is
+        (subst (λ (t : Option (ℕ → Option (List ℕ))). Grown o v (record v { tally = now.tally }) m [] t old new) (sym put.is)
+        (grown_is o v now.tally table m took.map put.map told1 changed [] next owns took.is
         (subst (λ (x : Room). Fits x took.map) rest took.fits) took.others took.first took.were_free
         (λ k. sym (ap (λ (x : Room). is_free x took.map k) rest) ∙ took.free k) took.marks
         written levels_are next_sound next_places same keeps inside_frame told_now next_few rest_now old new changes))

@@ -116,12 +116,12 @@ module _ (o : Origin) (v now : Room) (array : Run) (m : ℕ → Option (List ℕ
   pub table_fits : Fits v put.map
   table_fits = fits_before o v now last m put.map told2 ws next owns written inside_frame
 
-  pub table_closed : (old new : ℕ → Bool) → Gave o.sizes v now last put.map told2 → now ≡ record v { given = now.given } → AreWritten v old new (run_blocks o.sizes array) → Trimmed o v now m [] told2 old new
+  pub table_closed : (old new : ℕ → Bool) → Gave o.sizes v now last put.map told2 → now ≡ record v { given = now.given; tally = now.tally } → AreWritten v old new (run_blocks o.sizes array) → Trimmed o v now m [] told2 old new
   table_closed old new gave rest changes =
       array_cut o v now last m put.map told2 ws next owns written inside_frame levels_are (drop_sound o.sizes l front kept_runs last none owns.stands.sound is zero_len same_used) put.are_told rest_now
       (drop_places o.sizes l front kept_runs last none owns.stands.sound is zero_len same_used) (drop_arrays o.sizes l front kept_runs last none owns.stands.sound is zero_len same_used) old new gave rest changes
 
-  pub table_ready : (gave : Gave o.sizes v now last put.map told2) → now ≡ record v { given = now.given } → (n : ℕ → Option (List ℕ)) → told2 ≡ Some n → (listed used blocks : ℕ)
+  pub table_ready : (gave : Gave o.sizes v now last put.map told2) → now ≡ record v { given = now.given; tally = now.tally } → (n : ℕ → Option (List ℕ)) → told2 ≡ Some n → (listed used blocks : ℕ)
       → AreTables o m (record { array = array; listed = listed; used = used; blocks = blocks }) → AreTables o n (record { array = array; listed = listed - 1; used = used; blocks = blocks })
   table_ready gave rest n told_is listed used blocks before =
       let lv : levels_at o.sizes (contents gave.map) o.id ≡ next =
@@ -217,13 +217,13 @@ module _ (o : Origin) (v now : Room) (array none : Run) (m : ℕ → Option (Lis
       double_arrays o.sizes (levels_at o.sizes (contents m) o.id) none owns.stands.sound zero_len no_second no_runs k
       ∙ ap (λ (r : Run). times k (run_blocks o.sizes r) + times k (arrays_of o.sizes next2)) (sym array_is)
 
-  pub double_closed : (old new : ℕ → Bool) → Gave o.sizes v now array (with_block o.id wrote.bytes m) told2 → now ≡ record v { given = now.given } → AreWritten v old new (o.id ∷ []) → Trimmed o v now m [] told2 old new
+  pub double_closed : (old new : ℕ → Bool) → Gave o.sizes v now array (with_block o.id wrote.bytes m) told2 → now ≡ record v { given = now.given; tally = now.tally } → AreWritten v old new (o.id ∷ []) → Trimmed o v now m [] told2 old new
   double_closed old new gave rest changes =
       array_cut o v now array m (with_block o.id wrote.bytes m) told2 (o.id ∷ []) next2 owns (inode_written o v now array m told1 told2 owns t2 wrote) (inode_inside o v now array m told1 told2 owns t2 wrote) levels2
       (double_sound o.sizes (levels_at o.sizes (contents m) o.id) none owns.stands.sound zero_len no_second no_runs) (inode_is_told o v now array m told1 told2 owns t2 wrote) (inode_rest o v now array m told1 told2 owns t2 wrote)
       (double_places o.sizes (levels_at o.sizes (contents m) o.id) none owns.stands.sound zero_len no_second no_runs) gone2 old new gave rest changes
 
-  pub double_ready : (gave : Gave o.sizes v now array (with_block o.id wrote.bytes m) told2) → now ≡ record v { given = now.given } → (n : ℕ → Option (List ℕ)) → told2 ≡ Some n → (fields o.sizes (contents n) o.id).double_indirect.len ≡ 0
+  pub double_ready : (gave : Gave o.sizes v now array (with_block o.id wrote.bytes m) told2) → now ≡ record v { given = now.given; tally = now.tally } → (n : ℕ → Option (List ℕ)) → told2 ≡ Some n → (fields o.sizes (contents n) o.id).double_indirect.len ≡ 0
   double_ready gave rest n told_is =
       let lv : levels_at o.sizes (contents gave.map) o.id ≡ next2 =
       array_levels o v now array m (with_block o.id wrote.bytes m) told2 (o.id ∷ []) next2 owns (inode_written o v now array m told1 told2 owns t2 wrote) (inode_inside o v now array m told1 told2 owns t2 wrote) levels2
@@ -259,13 +259,13 @@ module _ (o : Origin) (v now : Room) (array none : Run) (m : ℕ → Option (Lis
       indirect_arrays o.sizes (levels_at o.sizes (contents m) o.id) none owns.stands.sound zero_len no_used no_double k
       ∙ ap (λ (r : Run). times k (run_blocks o.sizes r) + times k (arrays_of o.sizes next3)) (sym array_is)
 
-  pub indirect_closed : (old new : ℕ → Bool) → Gave o.sizes v now array (with_block o.id wrote.bytes m) told2 → now ≡ record v { given = now.given } → AreWritten v old new (o.id ∷ []) → Trimmed o v now m [] told2 old new
+  pub indirect_closed : (old new : ℕ → Bool) → Gave o.sizes v now array (with_block o.id wrote.bytes m) told2 → now ≡ record v { given = now.given; tally = now.tally } → AreWritten v old new (o.id ∷ []) → Trimmed o v now m [] told2 old new
   indirect_closed old new gave rest changes =
       array_cut o v now array m (with_block o.id wrote.bytes m) told2 (o.id ∷ []) next3 owns (inode_written o v now array m told1 told2 owns t3 wrote) (inode_inside o v now array m told1 told2 owns t3 wrote) levels3
       (indirect_sound o.sizes (levels_at o.sizes (contents m) o.id) none owns.stands.sound zero_len no_used no_double) (inode_is_told o v now array m told1 told2 owns t3 wrote) (inode_rest o v now array m told1 told2 owns t3 wrote)
       (indirect_places o.sizes (levels_at o.sizes (contents m) o.id) none owns.stands.sound zero_len no_used no_double) gone3 old new gave rest changes
 
-  pub indirect_ready : (gave : Gave o.sizes v now array (with_block o.id wrote.bytes m) told2) → now ≡ record v { given = now.given } → (n : ℕ → Option (List ℕ)) → told2 ≡ Some n → HasNoArrays o n
+  pub indirect_ready : (gave : Gave o.sizes v now array (with_block o.id wrote.bytes m) told2) → now ≡ record v { given = now.given; tally = now.tally } → (n : ℕ → Option (List ℕ)) → told2 ≡ Some n → HasNoArrays o n
   indirect_ready gave rest n told_is =
       let lv : levels_at o.sizes (contents gave.map) o.id ≡ next3 =
       array_levels o v now array m (with_block o.id wrote.bytes m) told2 (o.id ∷ []) next3 owns (inode_written o v now array m told1 told2 owns t3 wrote) (inode_inside o v now array m told1 told2 owns t3 wrote) levels3

@@ -11,7 +11,7 @@ use Rattle.bfs_stream.specs.Trimmed.{Trimmed}
 use Rattle.bfs_stream.proofs.Doubles.{times-append}
 use Rattle.bfs_stream.proofs.Frames.{levels_same, agree_left, has_left}
 
-module _ (o p : Origin) (v now : Room) (m : ℕ → Option (List ℕ)) (gone : List ℕ) (told : Option (ℕ → Option (List ℕ))) (old new : ℕ → Bool) (trimmed : Trimmed o v now m gone told old new) (rest : now ≡ record v { given = now.given }) (owns : Owns p v [] m) (apart : AreApart o p m) where
+module _ (o p : Origin) (v now : Room) (m : ℕ → Option (List ℕ)) (gone : List ℕ) (told : Option (ℕ → Option (List ℕ))) (old new : ℕ → Bool) (trimmed : Trimmed o v now m gone told old new) (rest : now ≡ record v { given = now.given; tally = now.tally }) (owns : Owns p v [] m) (apart : AreApart o p m) where
   frame_apart : (k : ℕ) → Has (whole_at p.sizes (contents m) p.id) k → times k (frame_at o.sizes (contents m) o.id) ≡ 0
   frame_apart k has = let none = apart k has in let parts = times-append k (frame_at o.sizes (contents m) o.id) (places_at o.sizes (contents m) o.id) in omega (arith, none, parts)
 

@@ -78,7 +78,7 @@ still_none : (x y : ℕ) → x ≤ y → (y == 0) ≡ true → (x == 0) ≡ true
 still_none x zero le e = zero_test x (omega (arith, le))
 still_none x (suc y) le e = let bad : false ≡ true = sym (some_test (suc y) (omega arith)) ∙ e in cc
 
-module _ (o : Origin) (v now later : Room) (m : ℕ → Option (List ℕ)) (gone more : List ℕ) (told1 told2 : Option (ℕ → Option (List ℕ))) (c0 c1 c2 : ℕ → Bool) (one : Trimmed o v now m gone told1 c0 c1) (rest : now ≡ record v { given = now.given }) (two : Trimmed o now later one.map more told2 c1 c2) where
+module _ (o : Origin) (v now later : Room) (m : ℕ → Option (List ℕ)) (gone more : List ℕ) (told1 told2 : Option (ℕ → Option (List ℕ))) (c0 c1 c2 : ℕ → Bool) (one : Trimmed o v now m gone told1 c0 c1) (rest : now ≡ record v { given = now.given; tally = now.tally }) (two : Trimmed o now later one.map more told2 c1 c2) where
   frame_none : (k : ℕ) → times k (frame_at o.sizes (contents m) o.id) ≡ 0 → times k (frame_at o.sizes (contents one.map) o.id) ≡ 0
   frame_none k none = by_count (times k (frame_at o.sizes (contents one.map) o.id)) refl
     where
@@ -125,18 +125,18 @@ module _ (o : Origin) (v now later : Room) (m : ℕ → Option (List ℕ)) (gone
 pub has_trimmed_none : (o : Origin) (v : Room) (m : ℕ → Option (List ℕ)) (told : Option (ℕ → Option (List ℕ))) (old new : ℕ → Bool) → Owns o v [] m → told ≡ Some m → new ≡ old → HasTrimmed o v v m 0 told old new
 has_trimmed_none o v m told old new owns is same = ([], refl, trimmed_none o v m owns told is old new same)
 
-pub has_trimmed_twice : (o : Origin) (v now later : Room) (m : ℕ → Option (List ℕ)) (n k : ℕ) (told1 told2 : Option (ℕ → Option (List ℕ))) (c0 c1 c2 : ℕ → Bool) (one : HasTrimmed o v now m n told1 c0 c1) → now ≡ record v { given = now.given }
+pub has_trimmed_twice : (o : Origin) (v now later : Room) (m : ℕ → Option (List ℕ)) (n k : ℕ) (told1 told2 : Option (ℕ → Option (List ℕ))) (c0 c1 c2 : ℕ → Bool) (one : HasTrimmed o v now m n told1 c0 c1) → now ≡ record v { given = now.given; tally = now.tally }
     → HasTrimmed o now later one.2.map k told2 c1 c2 → HasTrimmed o v later m (n + k) told2 c0 c2
 has_trimmed_twice o v now later m n k told1 told2 c0 c1 c2 one rest two =
     (two.0 ++ one.0, (let a = length-append two.0 one.0 in let b = one.1 in let d = two.1 in let z : length (two.0 ++ one.0) ≡ n + k = omega (arith, a, b, d) in z), trimmed_twice o v now later m one.0 two.0 told1 told2 c0 c1 c2 one.2 rest two.2)
 
 -- first an array went, and then blocks, or another array
-pub trimmed_after : (o : Origin) (v now later : Room) (m : ℕ → Option (List ℕ)) (told1 told2 : Option (ℕ → Option (List ℕ))) (c0 c1 c2 : ℕ → Bool) (one : HasTrimmed o v now m 0 told1 c0 c1) → now ≡ record v { given = now.given } → (r : Result ℕ BlockFault)
+pub trimmed_after : (o : Origin) (v now later : Room) (m : ℕ → Option (List ℕ)) (told1 told2 : Option (ℕ → Option (List ℕ))) (c0 c1 c2 : ℕ → Bool) (one : HasTrimmed o v now m 0 told1 c0 c1) → now ≡ record v { given = now.given; tally = now.tally } → (r : Result ℕ BlockFault)
     → IfOk r (λ k. HasTrimmed o now later one.2.map k told2 c1 c2) → IfOk r (λ k. HasTrimmed o v later m k told2 c0 c2)
 trimmed_after o v now later m told1 told2 c0 c1 c2 one rest (Ok k) two = let e : 0 + k ≡ k = omega arith in subst (λ (n : ℕ). HasTrimmed o v later m n told2 c0 c2) e (has_trimmed_twice o v now later m 0 k told1 told2 c0 c1 c2 one rest two)
 trimmed_after o v now later m told1 told2 c0 c1 c2 one rest (Err fault) two = two
 
-pub trimmed_zero : (o : Origin) (v now later : Room) (m : ℕ → Option (List ℕ)) (told1 told2 : Option (ℕ → Option (List ℕ))) (c0 c1 c2 : ℕ → Bool) (one : HasTrimmed o v now m 0 told1 c0 c1) → now ≡ record v { given = now.given }
+pub trimmed_zero : (o : Origin) (v now later : Room) (m : ℕ → Option (List ℕ)) (told1 told2 : Option (ℕ → Option (List ℕ))) (c0 c1 c2 : ℕ → Bool) (one : HasTrimmed o v now m 0 told1 c0 c1) → now ≡ record v { given = now.given; tally = now.tally }
     → HasTrimmed o now later one.2.map 0 told2 c1 c2 → HasTrimmed o v later m 0 told2 c0 c2
 trimmed_zero o v now later m told1 told2 c0 c1 c2 one rest two = let e : 0 + 0 ≡ 0 = omega arith in subst (λ (n : ℕ). HasTrimmed o v later m n told2 c0 c2) e (has_trimmed_twice o v now later m 0 0 told1 told2 c0 c1 c2 one rest two)
 
@@ -187,7 +187,7 @@ pub trimmed_so_none : (o : Origin) (v : Room) (m : ℕ → Option (List ℕ)) (b
 unfolding has_trimmed_none trimmed_none
 trimmed_so_none o v m blocks told old owns is may = record { count = 0; trimmed = has_trimmed_none o v m told old old owns is refl; sum = omega arith; may = may }
 
-pub trimmed_so_more : (o : Origin) (v now later : Room) (m : ℕ → Option (List ℕ)) (blocks left after k : ℕ) (told1 told2 : Option (ℕ → Option (List ℕ))) (c0 c1 c2 : ℕ → Bool) (so_far : IsTrimmedSo o v now m blocks left told1 c0 c1) → now ≡ record v { given = now.given }
+pub trimmed_so_more : (o : Origin) (v now later : Room) (m : ℕ → Option (List ℕ)) (blocks left after k : ℕ) (told1 told2 : Option (ℕ → Option (List ℕ))) (c0 c1 c2 : ℕ → Bool) (so_far : IsTrimmedSo o v now m blocks left told1 c0 c1) → now ≡ record v { given = now.given; tally = now.tally }
     → (step : HasTrimmed o now later so_far.trimmed.2.map k told2 c1 c2) → after ≡ left - k → k ≤ left → IsTrimmedSo o v later m blocks after told2 c0 c2
 unfolding has_trimmed_twice trimmed_twice
 trimmed_so_more o v now later m blocks left after k told1 told2 c0 c1 c2 so_far rest two is few = record {
@@ -197,7 +197,7 @@ trimmed_so_more o v now later m blocks left after k told1 told2 c0 c1 c2 so_far 
   may = let e : left ≡ k + after = omega (arith, is, few) in may_after o now later so_far.trimmed.2.map k after told2 c1 c2 two (subst (λ (n : ℕ). MayLose o so_far.trimmed.2.map n) e so_far.may);
 }
 
-pub trimmed_so_far : (o : Origin) (v now later : Room) (m : ℕ → Option (List ℕ)) (blocks left : ℕ) (told1 told2 : Option (ℕ → Option (List ℕ))) (c0 c1 c2 : ℕ → Bool) (so_far : IsTrimmedSo o v now m blocks left told1 c0 c1) → now ≡ record v { given = now.given }
+pub trimmed_so_far : (o : Origin) (v now later : Room) (m : ℕ → Option (List ℕ)) (blocks left : ℕ) (told1 told2 : Option (ℕ → Option (List ℕ))) (c0 c1 c2 : ℕ → Bool) (so_far : IsTrimmedSo o v now m blocks left told1 c0 c1) → now ≡ record v { given = now.given; tally = now.tally }
     → (step : HasTrimmed o now later so_far.trimmed.2.map 0 told2 c1 c2) → IsAtEnd o so_far.trimmed.2.map step.2.map left → blocks ≤ length (places_at o.sizes (contents m) o.id) → HasTrimmedTo o v later m (length (places_at o.sizes (contents m) o.id) - blocks) told2 c0 c2
 unfolding trimmed_twice
 trimmed_so_far o v now later m blocks left told1 told2 c0 c1 c2 so_far rest two end le =
@@ -245,7 +245,7 @@ trimmed_to_none o v m blocks told old new owns is same le = record {
 }
 
 -- blocks of the volume or with bits alone were changed, also by a second call
-pub changed_again : (s : Sizes) (v now : Room) (a b c : ℕ → Bool) → now ≡ record v { given = now.given } → ((k : ℕ) → b k ≡ true → (a k ≡ true) ⊎ (IsBitmapBlock v k ⊎ (k < s.blocks)))
+pub changed_again : (s : Sizes) (v now : Room) (a b c : ℕ → Bool) → now ≡ record v { given = now.given; tally = now.tally } → ((k : ℕ) → b k ≡ true → (a k ≡ true) ⊎ (IsBitmapBlock v k ⊎ (k < s.blocks)))
     → ((k : ℕ) → c k ≡ true → (b k ≡ true) ⊎ (IsBitmapBlock now k ⊎ (k < s.blocks))) → (k : ℕ) → c k ≡ true → (a k ≡ true) ⊎ (IsBitmapBlock v k ⊎ (k < s.blocks))
 changed_again s v now a b c rest one two k e = by_side (two k e)
   where

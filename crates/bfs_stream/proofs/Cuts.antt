@@ -69,7 +69,7 @@ module _ (o : Origin) (v now : Room) (run : Run) (m m1 : ℕ → Option (List �
   module _ (levels1 : levels_at o.sizes (contents m1) o.id ≡ l) (sound : HasLevels o.sizes l) (places : places_at o.sizes (contents m) o.id ≡ places_of o.sizes l ++ gone)
       (same : AreSame (whole_at o.sizes (contents m) o.id) (run_blocks o.sizes run ++ ((o.id ∷ arrays_of o.sizes l) ++ places_of o.sizes l)))
       (keeps : (k : ℕ) → Has (o.id ∷ arrays_of o.sizes l) k → Has (frame_at o.sizes (contents m) o.id) k) (are_told : AreTold m1 (o.id ∷ arrays_of o.sizes l))
-      (rest_kept : KeepsRest (contents m o.id) (contents m1 o.id)) (gave : Gave o.sizes v now run m1 told) (rest : now ≡ record v { given = now.given }) where
+      (rest_kept : KeepsRest (contents m o.id) (contents m1 o.id)) (gave : Gave o.sizes v now run m1 told) (rest : now ≡ record v { given = now.given; tally = now.tally }) where
     abbrev hand : List ℕ
     hand = run_blocks o.sizes run
 

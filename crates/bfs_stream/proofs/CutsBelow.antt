@@ -185,7 +185,7 @@ module _ (o : Origin) (v : Room) (array : Run) (m : ℕ → Option (List ℕ)) (
         unfolding arrays_of
         arrays_stay = refl
 
-        pub cut : (old new : ℕ → Bool) → Gave o.sizes v now last (with_block o.id wrote.bytes put.map) told3 → now ≡ record v { given = now.given } → AreWritten v old new (o.id ∷ listed_blocks o m) → Trimmed o v now m (run_blocks o.sizes last) told3 old new
+        pub cut : (old new : ℕ → Bool) → Gave o.sizes v now last (with_block o.id wrote.bytes put.map) told3 → now ≡ record v { given = now.given; tally = now.tally } → AreWritten v old new (o.id ∷ listed_blocks o m) → Trimmed o v now m (run_blocks o.sizes last) told3 old new
         cut old new gave rest changes =
             blocks_cut o v now last m m1 told3 ws next owns written inside_frame levels_are (runs_sound o.sizes l front last none last owns.stands.sound is_now parts inside_none size) told_ws rest_now
             (runs_places o.sizes l front last none last owns.stands.sound is_now parts inside_none size) arrays_stay old new gave rest changes

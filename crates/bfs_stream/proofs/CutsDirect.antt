@@ -116,7 +116,7 @@ module _ (o : Origin) (v now : Room) (last r gone : Run) (front : List Run) (m :
   pub fits_now : Fits v (with_block o.id bytes2 m)
   fits_now = fits_written o v now gone m m1 told2 (o.id ∷ []) (run_blocks o.sizes gone) next owns written inside_frame
 
-  pub cut : (old new : ℕ → Bool) → Gave o.sizes v now gone (with_block o.id bytes2 m) told2 → now ≡ record v { given = now.given } → AreWritten v old new (o.id ∷ []) → Trimmed o v now m (run_blocks o.sizes gone) told2 old new
+  pub cut : (old new : ℕ → Bool) → Gave o.sizes v now gone (with_block o.id bytes2 m) told2 → now ≡ record v { given = now.given; tally = now.tally } → AreWritten v old new (o.id ∷ []) → Trimmed o v now m (run_blocks o.sizes gone) told2 old new
   cut old new gave rest changes =
       trimmed_is o v now gone m m1 told2 (o.id ∷ []) (run_blocks o.sizes gone) next owns written inside_frame levels_are next_sound next_places same keeps told_now
       (subst (λ (b : List ℕ). KeepsRest (contents m o.id) b) (sym here) kept) gave rest old new changes

@@ -211,7 +211,7 @@ module _ (o : Origin) (v now : Room) (last r gone array : Run) (front : List Run
     unfolding arrays_of
     arrays_stay = refl
 
-    pub cut : (old new : ℕ → Bool) → Gave o.sizes v now gone (with_block o.id wrote.bytes put.map) told3 → now ≡ record v { given = now.given } → AreWritten v old new (o.id ∷ run_blocks o.sizes array) → Trimmed o v now m (run_blocks o.sizes gone) told3 old new
+    pub cut : (old new : ℕ → Bool) → Gave o.sizes v now gone (with_block o.id wrote.bytes put.map) told3 → now ≡ record v { given = now.given; tally = now.tally } → AreWritten v old new (o.id ∷ run_blocks o.sizes array) → Trimmed o v now m (run_blocks o.sizes gone) told3 old new
     cut old new gave rest changes =
         blocks_cut o v now gone m m1 told3 ws next owns written inside_frame levels_are
         (table_sound o.sizes l front last r gone owns.stands.sound is parts inside (nothing_second o m none) none size) told_ws rest_now

@@ -54,7 +54,7 @@ module _ (o : Origin) (v now : Room) (run : Run) (m m1 : ℕ → Option (List �
           let d = left_sum k in
           omega (arith, a, b, c, d)
 
-      pub blocks_cut : (old new : ℕ → Bool) → Gave o.sizes v now run m1 told → now ≡ record v { given = now.given } → AreWritten v old new ws → Trimmed o v now m (run_blocks o.sizes run) told old new
+      pub blocks_cut : (old new : ℕ → Bool) → Gave o.sizes v now run m1 told → now ≡ record v { given = now.given; tally = now.tally } → AreWritten v old new ws → Trimmed o v now m (run_blocks o.sizes run) told old new
       blocks_cut old new gave rest changes =
           trimmed_is o v now run m m1 told ws (run_blocks o.sizes run) l owns written inside levels1 sound places blocks_same blocks_keep (are_told blocks_keep) rest_kept gave rest old new changes
 
@@ -76,10 +76,10 @@ module _ (o : Origin) (v now : Room) (run : Run) (m m1 : ℕ → Option (List �
           let d = left_sum k in
           omega (arith, a, b, c, d)
 
-      pub array_cut : (old new : ℕ → Bool) → Gave o.sizes v now run m1 told → now ≡ record v { given = now.given } → AreWritten v old new ws → Trimmed o v now m [] told old new
+      pub array_cut : (old new : ℕ → Bool) → Gave o.sizes v now run m1 told → now ≡ record v { given = now.given; tally = now.tally } → AreWritten v old new ws → Trimmed o v now m [] told old new
       array_cut old new gave rest changes =
           trimmed_is o v now run m m1 told ws [] l owns written inside levels1 sound (places ∙ sym (append-nil (places_of o.sizes l))) array_same array_keep (are_told array_keep) rest_kept gave rest old new changes
 
       -- the levels after it
-      pub array_levels : (gave : Gave o.sizes v now run m1 told) → now ≡ record v { given = now.given } → levels_at o.sizes (contents gave.map) o.id ≡ l
+      pub array_levels : (gave : Gave o.sizes v now run m1 told) → now ≡ record v { given = now.given; tally = now.tally } → levels_at o.sizes (contents gave.map) o.id ≡ l
       array_levels gave rest = levels_now o v now run m m1 told ws [] l owns written inside levels1 sound (places ∙ sym (append-nil (places_of o.sizes l))) array_same array_keep (are_told array_keep) rest_kept gave rest

@@ -6,6 +6,7 @@ use Rattle.bfs_base.specs.Lists.{times, Has, AreSame}
 use Rattle.bfs_bytes.specs.declared.Run.{Run}
 use Rattle.bfs_bitmap.specs.Fills.{IsBitmapBlock}
 use Rattle.bfs_bitmap.specs.Bits.{bit_of}
+use Rattle.bfs_bitmap.specs.declared.tally.Tally.{Tally}
 use Rattle.bfs_bitmap.specs.Runs.{Room, Fits, per_block, marked, is_free, is_reserved}
 use Rattle.bfs_stream.specs.Sizes.{Origin, array_length, table_length}
 use Rattle.bfs_stream.specs.Places.{Levels, run_blocks, level_blocks, levels_at, places_of, arrays_of, places_at, frame_at, whole_at, HasLevels}
@@ -44,6 +45,7 @@ module _ (v : Room) (m n : ℕ → Option (List ℕ)) (stay : (b : ℕ) → per_
           (cell.0, stay (1 + j) (subst (λ (q : ℕ). per_block v * q < v.blocks) (sym e) h) ∙ cell.1, cell.2);
     };
     nothing_below = λ k h. free_same k ∙ fits.nothing_below k h;
+    no_wide = λ g h run. fits.no_wide g h (record { one_group = run.one_group; free = λ k a b. sym (free_same k) ∙ run.free k a b });
   }
 
 pub is_below : (x y : ℕ) → nat_lt x y ≡ true → x < y
@@ -72,9 +74,9 @@ and_zero true x y apart = by_y y (λ h. apart h)
     by_y (suc z) none = let bad : true ≡ false = none (omega arith) in cc
 and_zero false x y apart = refl
 
-module _ (o : Origin) (v : Room) (low : ℕ) (run : Run) (m m1 m2 : ℕ → Option (List ℕ)) (told : Option (ℕ → Option (List ℕ))) (ws fresh : List ℕ) (l : Levels)
+module _ (o : Origin) (v : Room) (tally : Tally) (run : Run) (m m1 m2 : ℕ → Option (List ℕ)) (told : Option (ℕ → Option (List ℕ))) (ws fresh : List ℕ) (l : Levels)
     (owns : Owns o v [] m) (took_is : told ≡ Some m1)
-    (fits1 : Fits (record v { low = low }) m1) (others1 : (k : ℕ) → IsOutside v k → m1 k ≡ m k) (first1 : m1 0 ≡ m 0) (were_free : (k : ℕ) → Has (run_blocks o.sizes run) k → is_free v m k ≡ true)
+    (fits1 : Fits (record v { tally = tally }) m1) (others1 : (k : ℕ) → IsOutside v k → m1 k ≡ m k) (first1 : m1 0 ≡ m 0) (were_free : (k : ℕ) → Has (run_blocks o.sizes run) k → is_free v m k ≡ true)
     (free1 : (k : ℕ) → is_free v m1 k ≡ (is_free v m k && (times k (run_blocks o.sizes run) == 0)))
     (marks1 : (k : ℕ) → k < v.blocks → marked (per_block v) m1 k ≡ cond (times k (run_blocks o.sizes run) == 0) (marked (per_block v) m k) 1)
     (written : (k : ℕ) → times k ws ≡ 0 → m2 k ≡ m1 k)
@@ -142,7 +144,7 @@ module _ (o : Origin) (v : Room) (low : ℕ) (run : Run) (m m1 m2 : ℕ → Opti
   unfolding hand
   marks_now k low = marked_same v m1 m2 bits_stay k low ∙ marks1 k low ∙ new_in_hand (times k hand) (times k whole) (times k new_whole) (marked (per_block v) m k) (sum_is k) (apart k)
 
-  grown_owns : Owns o (record v { low = low }) [] m2
+  grown_owns : Owns o (record v { tally = tally }) [] m2
   unfolding whole hand new_whole
   grown_owns = record {
     stands = record { told = subst (λ (x : Levels). AreTold m2 (o.id ∷ arrays_of o.sizes x)) (sym levels) are_told; sound = subst (HasLevels o.sizes) (sym levels) sound };
@@ -157,14 +159,14 @@ module _ (o : Origin) (v : Room) (low : ℕ) (run : Run) (m m1 m2 : ℕ → Opti
         free_now k ∙ ap (λ (b : Bool). is_free v m k && b) (some_test (times k new_whole) some) ∙ and_false (is_free v m k);
     outside = λ k has. own_outside k (subst (λ (x : Levels). Has ((o.id ∷ arrays_of o.sizes x) ++ places_of o.sizes x) k) levels has);
     bits = λ k h. free2 k ∙ ap (λ (b : Bool). b && (times k hand == 0)) (owns.bits k h);
-    fits = fits_same (record v { low = low }) m1 m2 bits_stay fits1;
+    fits = fits_same (record v { tally = tally }) m1 m2 bits_stay fits1;
   }
     where
       once_of : (x y z : ℕ) → z ≡ x + y → x ≤ 1 → y ≤ 1 → (0 < x → y ≡ 0) → z ≤ 1
       once_of zero y z s h w a = omega (arith, s, w)
       once_of (suc x) y z s h w a = let e = a (omega arith) in omega (arith, s, h, e)
 
-  pub grown_is : (old new : ℕ → Bool) → AreWritten v old new ws → Grown o v (record v { low = low }) m fresh (Some m2) old new
+  pub grown_is : (old new : ℕ → Bool) → AreWritten v old new ws → Grown o v (record v { tally = tally }) m fresh (Some m2) old new
   unfolding whole hand new_whole
   grown_is old new changed = record {
     map = m2;

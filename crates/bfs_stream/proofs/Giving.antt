@@ -50,7 +50,7 @@ reserved_more : (gs : List Given) (g : Given) (k : ℕ) → is_reserved (gs ++ g
 reserved_more [] g k = or_none (in_run g.first g.len k)
 reserved_more (h ∷ gs) g k = ap (λ (b : Bool). in_run h.first h.len k || b) (reserved_more gs g k) ∙ or_assoc (in_run h.first h.len k) (is_reserved gs k) (in_run g.first g.len k)
 
-pub gave_is : (s : Sizes) (v now : Room) (run : Run) (m : ℕ → Option (List ℕ)) (told : Option (ℕ → Option (List ℕ))) → IsOfVolume s v → now ≡ record v { given = v.given ++ (record { first = first_of v run; len = run.len; group = None; kept = false }) ∷ [] }
+pub gave_is : (s : Sizes) (v now : Room) (run : Run) (m : ℕ → Option (List ℕ)) (told : Option (ℕ → Option (List ℕ))) → IsOfVolume s v → now.given ≡ v.given ++ (record { first = first_of v run; len = run.len; group = None; kept = false }) ∷ []
     → IsMarked v now (first_of v run) run.len 0 m told → Gave s v now run m told
 gave_is s v now run m told volume given mark =
     let first : first_block s run ≡ first_of v run = ap (λ (n : ℕ). natural run.group * n + run.start) (sym volume.group_blocks) in
@@ -61,7 +61,7 @@ gave_is s v now run m told volume given mark =
       others = λ k out. mark.marks.others k (inr out);
       first = mark.marks.others 0 (inl refl);
       reserved = λ k.
-          ap (λ (x : Room). is_reserved x.given k) given
+          ap (λ (l : List Given). is_reserved l k) given
           ∙ reserved_more v.given (record { first = first_of v run; len = run.len; group = None; kept = false }) k
           ∙ ap (λ (b : Bool). is_reserved v.given k || b) (in_counted (first_of v run) run.len k)
           ∙ ap (λ (l : List ℕ). is_reserved v.given k || not (times k l == 0)) (sym blocks);

@@ -10,7 +10,7 @@ use Rattle.bfs_stream.specs.Grown.{Owns, Grown, AreApart, HasStayed, IsOutside}
 use Rattle.bfs_stream.proofs.Doubles.{times-append}
 use Rattle.bfs_stream.proofs.Frames.{levels_same, agree_left, has_left}
 
-module _ (o p : Origin) (v now : Room) (m : ℕ → Option (List ℕ)) (fresh : List ℕ) (told : Option (ℕ → Option (List ℕ))) (old new : ℕ → Bool) (grown : Grown o v now m fresh told old new) (rest : now ≡ record v { low = now.low }) (owns : Owns p v [] m) (apart : AreApart o p m) where
+module _ (o p : Origin) (v now : Room) (m : ℕ → Option (List ℕ)) (fresh : List ℕ) (told : Option (ℕ → Option (List ℕ))) (old new : ℕ → Bool) (grown : Grown o v now m fresh told old new) (rest : now ≡ record v { tally = now.tally }) (owns : Owns p v [] m) (apart : AreApart o p m) where
   -- what is this one's was used, so that the other has not taken it
   gone : (k : ℕ) → Has (whole_at p.sizes (contents m) p.id) k → times k (whole_at o.sizes (contents grown.map) o.id) ≡ 0
   gone k has = by_count (times k (whole_at o.sizes (contents grown.map) o.id)) refl

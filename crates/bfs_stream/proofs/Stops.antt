@@ -78,10 +78,10 @@ step_none o v m wanted (Full room) owns want lacks = absurd lacks
 step_none o v m wanted (Block fault) owns want lacks = lacks
 
 -- a step that stops after an array was added
-pub step_after : (o : Origin) (v now : Room) (m : ℕ → Option (List ℕ)) (told1 : Option (ℕ → Option (List ℕ))) (c0 c1 : ℕ → Bool) (one : HasGrown o v now m 0 told1 c0 c1) → now ≡ record v { low = now.low } → (fault : GrowFault) → IsStepFault o now one.2.map fault → IsStepFault o v m fault
+pub step_after : (o : Origin) (v now : Room) (m : ℕ → Option (List ℕ)) (told1 : Option (ℕ → Option (List ℕ))) (c0 c1 : ℕ → Bool) (one : HasGrown o v now m 0 told1 c0 c1) → now ≡ record v { tally = now.tally } → (fault : GrowFault) → IsStepFault o now one.2.map fault → IsStepFault o v m fault
 step_after o v now m told1 c0 c1 one rest (NoRun asked free) stuck = record {
   now = stuck.now;
-  rest = stuck.rest ∙ ap (λ (x : Room). record x { low = stuck.now.low }) rest;
+  rest = stuck.rest ∙ ap (λ (x : Room). record x { tally = stuck.now.tally }) rest;
   map = stuck.map;
   grown = has_grown_twice o v now stuck.now m 0 0 told1 (Some stuck.map) (λ k. false) (λ k. false) (λ k. false) (unwritten o v now m 0 told1 c0 c1 one) rest stuck.grown;
   wanted = stuck.wanted;
@@ -97,19 +97,19 @@ step_after o v now m told1 c0 c1 one rest (Full room) full =
     by_numbers a b n le none e = omega (arith, le, none, e)
 step_after o v now m told1 c0 c1 one rest (Block fault) sound = sound
 
-pub stop_after : {T : Type 0} (o : Origin) (v now : Room) (m : ℕ → Option (List ℕ)) (told1 : Option (ℕ → Option (List ℕ))) (c0 c1 : ℕ → Bool) (one : HasGrown o v now m 0 told1 c0 c1) → now ≡ record v { low = now.low } → (r : Result T GrowFault) → IfErr r (IsStepFault o now one.2.map)
+pub stop_after : {T : Type 0} (o : Origin) (v now : Room) (m : ℕ → Option (List ℕ)) (told1 : Option (ℕ → Option (List ℕ))) (c0 c1 : ℕ → Bool) (one : HasGrown o v now m 0 told1 c0 c1) → now ≡ record v { tally = now.tally } → (r : Result T GrowFault) → IfErr r (IsStepFault o now one.2.map)
     → IfErr r (IsStepFault o v m)
 stop_after o v now m told1 c0 c1 one rest r stop = IfErr-weaker r (IsStepFault o now one.2.map) (IsStepFault o v m) (λ fault f. step_after o v now m told1 c0 c1 one rest fault f) stop
 
 -- a step that stops when some blocks were added and more are wanted
-pub stop_so_far : (o : Origin) (v now : Room) (m : ℕ → Option (List ℕ)) (blocks left : ℕ) (told : Option (ℕ → Option (List ℕ))) (c0 c1 : ℕ → Bool) (so_far : IsGrownSo o v now m blocks left told c0 c1) → now ≡ record v { low = now.low } → 0 < left → blocks ≤ room_at o.sizes (contents m) o.id
+pub stop_so_far : (o : Origin) (v now : Room) (m : ℕ → Option (List ℕ)) (blocks left : ℕ) (told : Option (ℕ → Option (List ℕ))) (c0 c1 : ℕ → Bool) (so_far : IsGrownSo o v now m blocks left told c0 c1) → now ≡ record v { tally = now.tally } → 0 < left → blocks ≤ room_at o.sizes (contents m) o.id
     → (fault : GrowFault) → IsStepFault o now so_far.grown.2.map fault → IsGrowFault o v m blocks fault
 stop_so_far o v now m blocks left told c0 c1 so_far rest some has (NoRun asked free) stuck = (
   so_far.count + 0,
   (let e = so_far.exact some in omega (arith, e, some)),
   record {
     now = stuck.now;
-    rest = stuck.rest ∙ ap (λ (x : Room). record x { low = stuck.now.low }) rest;
+    rest = stuck.rest ∙ ap (λ (x : Room). record x { tally = stuck.now.tally }) rest;
     map = stuck.map;
     grown = has_grown_twice o v now stuck.now m so_far.count 0 told (Some stuck.map) (λ k. false) (λ k. false) (λ k. false) (unwritten o v now m so_far.count told c0 c1 so_far.grown) rest stuck.grown;
     wanted = stuck.wanted;

@@ -125,7 +125,7 @@ module _ (v : Room) (m map : ℕ → Option (List ℕ)) (first len : ℕ) (marks
           beside (inr high) = above_test first len k high
 
 pub took_is : (s : Sizes) (v now : Room) (run : Run) (wanted longest : ℕ) (m : ℕ → Option (List ℕ)) (told : Option (ℕ → Option (List ℕ)))
-    → IsOfVolume s v → IsTaken v m wanted longest (first_of v run) run.len → IsMarked v now (first_of v run) run.len 1 m told → now ≡ record v { low = now.low } → Took s v now run m told
+    → IsOfVolume s v → IsTaken v m wanted longest (first_of v run) run.len → IsMarked v now (first_of v run) run.len 1 m told → now ≡ record v { tally = now.tally } → Took s v now run m told
 took_is s v now run wanted longest m told volume taken mark rest =
     let first : first_block s run ≡ first_of v run = ap (λ (n : ℕ). natural run.group * n + run.start) (sym volume.group_blocks) in
     let blocks : run_blocks s run ≡ counted_from (first_of v run) run.len = ap (λ (n : ℕ). counted_from n run.len) first in record {

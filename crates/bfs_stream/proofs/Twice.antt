@@ -87,7 +87,7 @@ whole_grows o v now m fresh told old new g k some =
 room_twice : (a b c x y z : ℕ) → a ≤ b + x → b ≤ c + y → z ≡ x + y → a ≤ c + z
 room_twice a b c x y z e f g = omega (arith, e, f, g)
 
-module _ (o : Origin) (v now later : Room) (m : ℕ → Option (List ℕ)) (fresh more : List ℕ) (told1 told2 : Option (ℕ → Option (List ℕ))) (c0 c1 c2 : ℕ → Bool) (one : Grown o v now m fresh told1 c0 c1) (rest : now ≡ record v { low = now.low }) (two : Grown o now later one.map more told2 c1 c2) where
+module _ (o : Origin) (v now later : Room) (m : ℕ → Option (List ℕ)) (fresh more : List ℕ) (told1 told2 : Option (ℕ → Option (List ℕ))) (c0 c1 c2 : ℕ → Bool) (one : Grown o v now m fresh told1 c0 c1) (rest : now ≡ record v { tally = now.tally }) (two : Grown o now later one.map more told2 c1 c2) where
   whole_kept : (k : ℕ) → 0 < times k (whole_at o.sizes (contents one.map) o.id) → 0 < times k (whole_at o.sizes (contents two.map) o.id)
   whole_kept k some = whole_grows o now later one.map more told2 c1 c2 two k some
 
@@ -142,13 +142,13 @@ module _ (o : Origin) (v now later : Room) (m : ℕ → Option (List ℕ)) (fres
 pub has_grown_none : (o : Origin) (v : Room) (m : ℕ → Option (List ℕ)) (told : Option (ℕ → Option (List ℕ))) (old new : ℕ → Bool) → Owns o v [] m → told ≡ Some m → new ≡ old → HasGrown o v v m 0 told old new
 has_grown_none o v m told old new owns is same = ([], refl, grown_none o v m owns told is old new same)
 
-pub has_grown_twice : (o : Origin) (v now later : Room) (m : ℕ → Option (List ℕ)) (n k : ℕ) (told1 told2 : Option (ℕ → Option (List ℕ))) (c0 c1 c2 : ℕ → Bool) (one : HasGrown o v now m n told1 c0 c1) → now ≡ record v { low = now.low }
+pub has_grown_twice : (o : Origin) (v now later : Room) (m : ℕ → Option (List ℕ)) (n k : ℕ) (told1 told2 : Option (ℕ → Option (List ℕ))) (c0 c1 c2 : ℕ → Bool) (one : HasGrown o v now m n told1 c0 c1) → now ≡ record v { tally = now.tally }
     → HasGrown o now later one.2.map k told2 c1 c2 → HasGrown o v later m (n + k) told2 c0 c2
 has_grown_twice o v now later m n k told1 told2 c0 c1 c2 one rest two =
     (one.0 ++ two.0, length-append one.0 two.0 ∙ ap₂ (λ (a b : ℕ). a + b) one.1 two.1, grown_twice o v now later m one.0 two.0 told1 told2 c0 c1 c2 one.2 rest two.2)
 
 -- first an array was added, and then a run
-pub grown_after : (o : Origin) (v now later : Room) (m : ℕ → Option (List ℕ)) (told1 told2 : Option (ℕ → Option (List ℕ))) (c0 c1 c2 : ℕ → Bool) (one : HasGrown o v now m 0 told1 c0 c1) → now ≡ record v { low = now.low } → (r : Result ℕ GrowFault)
+pub grown_after : (o : Origin) (v now later : Room) (m : ℕ → Option (List ℕ)) (told1 told2 : Option (ℕ → Option (List ℕ))) (c0 c1 c2 : ℕ → Bool) (one : HasGrown o v now m 0 told1 c0 c1) → now ≡ record v { tally = now.tally } → (r : Result ℕ GrowFault)
     → IfOk r (λ k. HasGrown o now later one.2.map k told2 c1 c2) → IfOk r (λ k. HasGrown o v later m k told2 c0 c2)
 grown_after o v now later m told1 told2 c0 c1 c2 one rest (Ok k) two = let e : 0 + k ≡ k = omega arith in subst (λ (n : ℕ). HasGrown o v later m n told2 c0 c2) e (has_grown_twice o v now later m 0 k told1 told2 c0 c1 c2 one rest two)
 grown_after o v now later m told1 told2 c0 c1 c2 one rest (Err fault) two = two
@@ -172,7 +172,7 @@ grown_so_none o v m blocks told old owns is = record {
   least = λ none. inl (omega (arith, none));
 }
 
-pub grown_so_more : (o : Origin) (v now later : Room) (m : ℕ → Option (List ℕ)) (blocks left after k longest : ℕ) (told1 told2 : Option (ℕ → Option (List ℕ))) (c0 c1 c2 : ℕ → Bool) (so_far : IsGrownSo o v now m blocks left told1 c0 c1) → now ≡ record v { low = now.low }
+pub grown_so_more : (o : Origin) (v now later : Room) (m : ℕ → Option (List ℕ)) (blocks left after k longest : ℕ) (told1 told2 : Option (ℕ → Option (List ℕ))) (c0 c1 c2 : ℕ → Bool) (so_far : IsGrownSo o v now m blocks left told1 c0 c1) → now ≡ record v { tally = now.tally }
     → (step : HasGrown o now later so_far.grown.2.map k told2 c1 c2) → 0 < left → after ≡ left - k → longest ≤ left → k < longest + array_length o.sizes → (k ≤ longest) ⊎ UsesDouble o step.2.map → IsGrownSo o v later m blocks after told2 c0 c2
 unfolding has_grown_twice grown_twice
 grown_so_more o v now later m blocks left after k longest told1 told2 c0 c1 c2 so_far rest two some is few most exact = record {

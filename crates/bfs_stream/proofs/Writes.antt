@@ -103,7 +103,7 @@ pub wrote_four : (v : Room) (a b c d e : ℕ → Bool) (xs : List ℕ) → AreWr
 wrote_four v a b c d e xs one two three four = wrote_twice v a d e xs (wrote_thrice v a b c d xs one two three) four
 
 -- and with blocks of the volume in the place of a list
-pub changed_twice : (s : Sizes) (v now : Room) (a b c : ℕ → Bool) → now ≡ record v { low = now.low } → ((k : ℕ) → b k ≡ true → (a k ≡ true) ⊎ (IsBitmapBlock v k ⊎ (k < s.blocks)))
+pub changed_twice : (s : Sizes) (v now : Room) (a b c : ℕ → Bool) → now ≡ record v { tally = now.tally } → ((k : ℕ) → b k ≡ true → (a k ≡ true) ⊎ (IsBitmapBlock v k ⊎ (k < s.blocks)))
     → ((k : ℕ) → c k ≡ true → (b k ≡ true) ⊎ (IsBitmapBlock now k ⊎ (k < s.blocks))) → (k : ℕ) → c k ≡ true → (a k ≡ true) ⊎ (IsBitmapBlock v k ⊎ (k < s.blocks))
 changed_twice s v now a b c rest one two k e = by_side (two k e)
   where

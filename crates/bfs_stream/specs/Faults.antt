@@ -1,9 +1,9 @@
 -- The causes of a stream's faults.
-use Rattle.std.specs.Prelude.{◌≡◌, ◌≤◌, ◌<◌, ℕ, List, Option, length}
+use Rattle.std.specs.Prelude.{◌≡◌, ◌≤◌, ◌<◌, ℕ, List, Option, Some, length}
 use Rattle.bfs_txn.specs.declared.fault.BlockFault.{BlockFault}
 use Rattle.bfs_txn.specs.declared.fault.BlockFault.TheVariants.{Disk, Stopped, Damaged, NoMemory}
 use Rattle.bfs_txn.specs.Faults.{Counts, IsCauseOf}
-use Rattle.bfs_stream.specs.Scans.{IsDamage, IsDamagedBy, IsLevelRun, ends_of}
+use Rattle.bfs_stream.specs.Scans.{IsDamage, IsDamagedBy, IsBlamed, IsLevelRun, ends_of}
 use Rattle.bfs_bitmap.specs.Runs.{Room, HasNoRun}
 use Rattle.bfs_inode.specs.Inode.{stream_at}
 use Rattle.bfs_stream.specs.Sizes.{Origin}
@@ -34,6 +34,12 @@ HasNoBlock places i (Block fault) = ¬ IsDamage fault
 abbrev pub IsDamagedAt : Origin → (ℕ → Option (List ℕ)) → ℕ → StreamFault → Type 0
 IsDamagedAt o m place (PastEnd blocks) = Unit {0}
 IsDamagedAt o m place (Block fault) = IsDamagedBy o.sizes m o.id (IsLevelRun o.sizes (ends_of o.sizes (stream_at (contents m o.id))).indirect place) fault
+
+-- What was read last where there is no block at a place: the inode, where the stream ends before it; and a damaged block, by
+-- its runs of the level that has the place, where that level is known by where the double indirect one begins.
+abbrev pub IsBlamedAt : Origin → Option (ℕ × List ℕ) → ℕ → StreamFault → Type 0
+IsBlamedAt o last place (PastEnd blocks) = (bytes : List ℕ) × (last ≡ Some (o.id, bytes))
+IsBlamedAt o last place (Block fault) = (end : ℕ) × IsBlamed o.sizes last o.id (IsLevelRun o.sizes end place) fault
 
 -- why a stream did not grow, beside what its blocks say: its room is less than so many blocks, or a fault has its cause
 abbrev pub IsGrowCause : ℕ → Counts → Counts → GrowFault → Type 0

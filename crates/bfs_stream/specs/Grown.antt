@@ -165,7 +165,7 @@ pub record HasGrownBy (o : Origin) (v now : Room) (m : ℕ → Option (List ℕ)
 -- asked for, or as many as an array has.
 pub record IsStuck (o : Origin) (v : Room) (m : ℕ → Option (List ℕ)) (added asked free : ℕ) : Type 0 where
   pub now : Room
-  pub rest : now ≡ record v { low = now.low }
+  pub rest : now ≡ record v { tally = now.tally }
   pub map : ℕ → Option (List ℕ)
   pub grown : HasGrown o v now m added (Some map) (λ k. false) (λ k. false)
   pub wanted : (asked ≡ 1) ⊎ (asked ≡ array_length o.sizes)

@@ -59,6 +59,14 @@ IsDamagedBy s m id P (Stopped durable faults) = Unit {0}
 IsDamagedBy s m id P (Damaged block) = (block ≡ id) ⊎ ((bytes : List ℕ) → m block ≡ Some bytes → HasOther s P bytes)
 IsDamagedBy s m id P NoMemory = Unit {0}
 
+-- a block that is called damaged is the one that was read last, and it is the inode, or the bytes that were read hold a run
+-- that isn't so
+abbrev pub IsBlamed : Sizes → Option (ℕ × List ℕ) → ℕ → (Run → Type 0) → BlockFault → Type 0
+IsBlamed s last id P (Disk before after) = Unit {0}
+IsBlamed s last id P (Stopped durable faults) = Unit {0}
+IsBlamed s last id P (Damaged block) = (bytes : List ℕ) × (last ≡ Some (block, bytes)) × ((block ≡ id) ⊎ HasOther s P bytes)
+IsBlamed s last id P NoMemory = Unit {0}
+
 -- what each run of a level at this place has to be: one with blocks, or, from where the double indirect level begins, a
 -- whole one
 abbrev pub IsLevelRun : Sizes → ℕ → ℕ → Run → Type 0

@@ -35,7 +35,7 @@ impl Stream {
         ensures sound { (m : ℕ → Option (List ℕ)) → E.told edits.old ≡ Some m → Owns self.now bitmap.old [] m → AreTables self.now m tables → IfErr result (λ fault. ¬ IsDamage fault) }
         ensures ready { (m : ℕ → Option (List ℕ)) → E.told edits.old ≡ Some m → Owns self.now bitmap.old [] m → AreTables self.now m tables → OnOk result ((n : ℕ → Option (List ℕ)) → E.told edits.new ≡ Some n → AreTables self.now n (record tables { listed = tables.listed - 1 })) }
         ensures length { length bytes.new ≡ self.now.sizes.block_size }
-        ensures rest { bitmap.new ≡ record bitmap.old { given = bitmap.new.given } }
+        ensures rest { bitmap.new ≡ record bitmap.old { given = bitmap.new.given; tally = bitmap.new.tally } }
         ensures changed { (k : ℕ) → E.changed edits.new k ≡ true → (E.changed edits.old k ≡ true) ⊎ (IsBitmapBlock bitmap.old k ⊎ (k < self.now.sizes.blocks)) }
         ensures size { E.size edits.new ≡ E.size edits.old }
         ensures frame { E.frame edits.new ≡ E.frame edits.old }
@@ -70,7 +70,7 @@ impl Stream {
         ensures ready { (m : ℕ → Option (List ℕ)) → E.told edits.old ≡ Some m → Owns self.now bitmap.old [] m → array ≡ (fields self.now.sizes (contents m) self.now.id).double_indirect → length (second_arrays self.now.sizes (contents m) self.now.id) ≡ 0 → OnOk result ((n : ℕ → Option (List ℕ)) → E.told edits.new ≡ Some n → (fields self.now.sizes (contents n) self.now.id).double_indirect.len ≡ 0) }
         ensures sound { IfErr result (λ fault. ¬ IsDamage fault) }
         ensures length { length bytes.new ≡ self.now.sizes.block_size }
-        ensures rest { bitmap.new ≡ record bitmap.old { given = bitmap.new.given } }
+        ensures rest { bitmap.new ≡ record bitmap.old { given = bitmap.new.given; tally = bitmap.new.tally } }
         ensures changed { (k : ℕ) → E.changed edits.new k ≡ true → (E.changed edits.old k ≡ true) ⊎ (IsBitmapBlock bitmap.old k ⊎ (k < self.now.sizes.blocks)) }
         ensures size { E.size edits.new ≡ E.size edits.old }
         ensures frame { E.frame edits.new ≡ E.frame edits.old }
@@ -100,7 +100,7 @@ impl Stream {
         ensures ready { (m : ℕ → Option (List ℕ)) → E.told edits.old ≡ Some m → Owns self.now bitmap.old [] m → array ≡ (fields self.now.sizes (contents m) self.now.id).indirect → length (used_runs (array_runs self.now.sizes (contents m) array)) ≡ 0 → (fields self.now.sizes (contents m) self.now.id).double_indirect.len ≡ 0 → OnOk result ((n : ℕ → Option (List ℕ)) → E.told edits.new ≡ Some n → HasNoArrays self.now n) }
         ensures sound { IfErr result (λ fault. ¬ IsDamage fault) }
         ensures length { length bytes.new ≡ self.now.sizes.block_size }
-        ensures rest { bitmap.new ≡ record bitmap.old { given = bitmap.new.given } }
+        ensures rest { bitmap.new ≡ record bitmap.old { given = bitmap.new.given; tally = bitmap.new.tally } }
         ensures changed { (k : ℕ) → E.changed edits.new k ≡ true → (E.changed edits.old k ≡ true) ⊎ (IsBitmapBlock bitmap.old k ⊎ (k < self.now.sizes.blocks)) }
         ensures size { E.size edits.new ≡ E.size edits.old }
         ensures frame { E.frame edits.new ≡ E.frame edits.old }
@@ -138,7 +138,7 @@ impl Stream {
         ensures none { IfOk result (λ t. t.used ≡ 0 → t.listed ≡ 0) }
         ensures least { IfOk result (λ t. 0 < t.listed → (t.listed - 1) * (array_length self.now.sizes * runs_per_block self.now.sizes) < t.used) }
         ensures length { length bytes.new ≡ self.now.sizes.block_size }
-        ensures rest { bitmap.new ≡ record bitmap.old { given = bitmap.new.given } }
+        ensures rest { bitmap.new ≡ record bitmap.old { given = bitmap.new.given; tally = bitmap.new.tally } }
         ensures changed { (k : ℕ) → E.changed edits.new k ≡ true → (E.changed edits.old k ≡ true) ⊎ (IsBitmapBlock bitmap.old k ⊎ (k < self.now.sizes.blocks)) }
         ensures size { E.size edits.new ≡ E.size edits.old }
         ensures frame { E.frame edits.new ≡ E.frame edits.old }

@@ -32,7 +32,7 @@ impl Stream {
         requires volume { IsOfVolume self.now.sizes bitmap.old }
         requires inside { IsInVolume self.now.sizes run }
         ensures gave { (m : ℕ → Option (List ℕ)) → E.told edits.old ≡ Some m → Fits bitmap.old m → OnOk result (Gave self.now.sizes bitmap.old bitmap.new run m (E.told edits.new)) }
-        ensures rest { bitmap.new ≡ record bitmap.old { given = bitmap.new.given } }
+        ensures rest { bitmap.new ≡ record bitmap.old { given = bitmap.new.given; tally = bitmap.new.tally } }
         ensures changed { (k : ℕ) → E.changed edits.new k ≡ true → (E.changed edits.old k ≡ true) ⊎ IsBitmapBlock bitmap.old k }
         ensures size { E.size edits.new ≡ E.size edits.old }
         ensures frame { E.frame edits.new ≡ E.frame edits.old }
@@ -107,7 +107,7 @@ impl Stream {
         ensures sound { (m : ℕ → Option (List ℕ)) → E.told edits.old ≡ Some m → Owns self.now bitmap.old [] m → bytes.old ≡ contents m self.now.id → used ≡ length (used_runs (stream_at bytes.old).direct) → IfErr result (λ fault. ¬ IsDamage fault) }
         ensures some { IfOk result (λ n. 1 ≤ n) }
         ensures most { IfOk result (λ n. n ≤ most) }
-        ensures rest { bitmap.new ≡ record bitmap.old { given = bitmap.new.given } }
+        ensures rest { bitmap.new ≡ record bitmap.old { given = bitmap.new.given; tally = bitmap.new.tally } }
         ensures changed { (k : ℕ) → E.changed edits.new k ≡ true → (E.changed edits.old k ≡ true) ⊎ (IsBitmapBlock bitmap.old k ⊎ (k < self.now.sizes.blocks)) }
         ensures size { E.size edits.new ≡ E.size edits.old }
         ensures frame { E.frame edits.new ≡ E.frame edits.old }
@@ -190,7 +190,7 @@ impl Stream {
         ensures some { IfOk result (λ n. 1 ≤ n) }
         ensures most { IfOk result (λ n. n ≤ most) }
         ensures length { length bytes.new ≡ self.now.sizes.block_size }
-        ensures rest { bitmap.new ≡ record bitmap.old { given = bitmap.new.given } }
+        ensures rest { bitmap.new ≡ record bitmap.old { given = bitmap.new.given; tally = bitmap.new.tally } }
         ensures changed { (k : ℕ) → E.changed edits.new k ≡ true → (E.changed edits.old k ≡ true) ⊎ (IsBitmapBlock bitmap.old k ⊎ (k < self.now.sizes.blocks)) }
         ensures size { E.size edits.new ≡ E.size edits.old }
         ensures frame { E.frame edits.new ≡ E.frame edits.old }
@@ -280,7 +280,7 @@ impl Stream {
         ensures sound { (m : ℕ → Option (List ℕ)) → E.told edits.old ≡ Some m → Owns self.now bitmap.old [] m → AreTables self.now m tables → IfErr result (λ fault. ¬ IsDamage fault) }
         ensures long { IfOk result (λ n. n ≡ array_length self.now.sizes) }
         ensures length { length bytes.new ≡ self.now.sizes.block_size }
-        ensures rest { bitmap.new ≡ record bitmap.old { given = bitmap.new.given } }
+        ensures rest { bitmap.new ≡ record bitmap.old { given = bitmap.new.given; tally = bitmap.new.tally } }
         ensures changed { (k : ℕ) → E.changed edits.new k ≡ true → (E.changed edits.old k ≡ true) ⊎ (IsBitmapBlock bitmap.old k ⊎ (k < self.now.sizes.blocks)) }
         ensures size { E.size edits.new ≡ E.size edits.old }
         ensures frame { E.frame edits.new ≡ E.frame edits.old }

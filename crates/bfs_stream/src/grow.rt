@@ -64,7 +64,7 @@ impl Stream {
         ensures long { IfOk result (λ run. (wanted ≤ run.len) × (run.len ≤ longest)) }
         ensures took { (m : ℕ → Option (List ℕ)) → E.told edits.old ≡ Some m → Fits bitmap.old m → IfOk result (λ run. Took self.now.sizes bitmap.old bitmap.new run m (E.told edits.new)) }
         ensures no_run { (m : ℕ → Option (List ℕ)) → E.told edits.old ≡ Some m → Fits bitmap.old m → IfErr result (IsNoRunFor bitmap.old m wanted) }
-        ensures rest { bitmap.new ≡ record bitmap.old { low = bitmap.new.low } }
+        ensures rest { bitmap.new ≡ record bitmap.old { tally = bitmap.new.tally } }
         ensures changed { (k : ℕ) → E.changed edits.new k ≡ true → (E.changed edits.old k ≡ true) ⊎ IsBitmapBlock bitmap.old k }
         ensures size { E.size edits.new ≡ E.size edits.old }
         ensures frame { E.frame edits.new ≡ E.frame edits.old }
@@ -124,7 +124,7 @@ impl Stream {
         ensures faults { (m : ℕ → Option (List ℕ)) → E.told edits.old ≡ Some m → Owns self.now bitmap.old [] m → bytes.old ≡ contents m self.now.id → used ≡ length (used_runs (stream_at bytes.old).direct) → IfErr result (IsStepFault self.now bitmap.old m) }
         ensures most { IfOk result (λ n. n ≤ longest) }
         ensures some { IfOk result (λ n. 1 ≤ n) }
-        ensures rest { bitmap.new ≡ record bitmap.old { low = bitmap.new.low } }
+        ensures rest { bitmap.new ≡ record bitmap.old { tally = bitmap.new.tally } }
         ensures changed { (k : ℕ) → E.changed edits.new k ≡ true → (E.changed edits.old k ≡ true) ⊎ (IsBitmapBlock bitmap.old k ⊎ (k < self.now.sizes.blocks)) }
         ensures size { E.size edits.new ≡ E.size edits.old }
         ensures frame { E.frame edits.new ≡ E.frame edits.old }
@@ -270,7 +270,7 @@ impl Stream {
         ensures length { length bytes.new ≡ self.now.sizes.block_size }
         ensures most { IfOk result (λ n. n ≤ longest) }
         ensures some { IfOk result (λ n. 1 ≤ n) }
-        ensures rest { bitmap.new ≡ record bitmap.old { low = bitmap.new.low } }
+        ensures rest { bitmap.new ≡ record bitmap.old { tally = bitmap.new.tally } }
         ensures changed { (k : ℕ) → E.changed edits.new k ≡ true → (E.changed edits.old k ≡ true) ⊎ (IsBitmapBlock bitmap.old k ⊎ (k < self.now.sizes.blocks)) }
         ensures size { E.size edits.new ≡ E.size edits.old }
         ensures frame { E.frame edits.new ≡ E.frame edits.old }
@@ -368,7 +368,7 @@ impl Stream {
         ensures faults { (m : ℕ → Option (List ℕ)) → E.told edits.old ≡ Some m → Owns self.now bitmap.old [] m → length (used_runs (fields self.now.sizes (contents m) self.now.id).direct) ≡ 12 → (fields self.now.sizes (contents m) self.now.id).indirect.len ≡ 0 → IfErr result (IsStepFault self.now bitmap.old m) }
         ensures ready { (m : ℕ → Option (List ℕ)) → E.told edits.old ≡ Some m → Owns self.now bitmap.old [] m → length (used_runs (fields self.now.sizes (contents m) self.now.id).direct) ≡ 12 → (fields self.now.sizes (contents m) self.now.id).indirect.len ≡ 0 → OnOk result ((n : ℕ → Option (List ℕ)) → E.told edits.new ≡ Some n → HasTable self.now n) }
         ensures length { length bytes.new ≡ self.now.sizes.block_size }
-        ensures rest { bitmap.new ≡ record bitmap.old { low = bitmap.new.low } }
+        ensures rest { bitmap.new ≡ record bitmap.old { tally = bitmap.new.tally } }
         ensures changed { (k : ℕ) → E.changed edits.new k ≡ true → (E.changed edits.old k ≡ true) ⊎ (IsBitmapBlock bitmap.old k ⊎ (k < self.now.sizes.blocks)) }
         ensures size { E.size edits.new ≡ E.size edits.old }
         ensures frame { E.frame edits.new ≡ E.frame edits.old }
@@ -455,7 +455,7 @@ impl Stream {
         ensures faults { (m : ℕ → Option (List ℕ)) → E.told edits.old ≡ Some m → Owns self.now bitmap.old [] m → 0 < length (used_runs (array_runs self.now.sizes (contents m) (fields self.now.sizes (contents m) self.now.id).indirect)) → length (used_runs (array_runs self.now.sizes (contents m) (fields self.now.sizes (contents m) self.now.id).indirect)) ≡ length (array_runs self.now.sizes (contents m) (fields self.now.sizes (contents m) self.now.id).indirect) → (fields self.now.sizes (contents m) self.now.id).double_indirect.len ≡ 0 → IfErr result (IsStepFault self.now bitmap.old m) }
         ensures ready { (m : ℕ → Option (List ℕ)) → E.told edits.old ≡ Some m → Owns self.now bitmap.old [] m → 0 < length (used_runs (array_runs self.now.sizes (contents m) (fields self.now.sizes (contents m) self.now.id).indirect)) → length (used_runs (array_runs self.now.sizes (contents m) (fields self.now.sizes (contents m) self.now.id).indirect)) ≡ length (array_runs self.now.sizes (contents m) (fields self.now.sizes (contents m) self.now.id).indirect) → (fields self.now.sizes (contents m) self.now.id).double_indirect.len ≡ 0 → OnOk result ((n : ℕ → Option (List ℕ)) → E.told edits.new ≡ Some n → HasArray self.now n) }
         ensures length { length bytes.new ≡ self.now.sizes.block_size }
-        ensures rest { bitmap.new ≡ record bitmap.old { low = bitmap.new.low } }
+        ensures rest { bitmap.new ≡ record bitmap.old { tally = bitmap.new.tally } }
         ensures changed { (k : ℕ) → E.changed edits.new k ≡ true → (E.changed edits.old k ≡ true) ⊎ (IsBitmapBlock bitmap.old k ⊎ (k < self.now.sizes.blocks)) }
         ensures size { E.size edits.new ≡ E.size edits.old }
         ensures frame { E.frame edits.new ≡ E.frame edits.old }
@@ -498,7 +498,7 @@ impl Stream {
         ensures faults { (m : ℕ → Option (List ℕ)) → E.told edits.old ≡ Some m → Owns self.now bitmap.old [] m → array ≡ (fields self.now.sizes (contents m) self.now.id).double_indirect → listed ≡ length (used_runs (array_runs self.now.sizes (contents m) array)) → IfErr result (IsStepFault self.now bitmap.old m) }
         ensures ready { (m : ℕ → Option (List ℕ)) → E.told edits.old ≡ Some m → Owns self.now bitmap.old [] m → (used blocks : ℕ) → AreTables self.now m (record { array = array; listed = listed; used = used; blocks = blocks }) → OnOk result ((n : ℕ → Option (List ℕ)) → E.told edits.new ≡ Some n → AreTables self.now n (record { array = array; listed = listed + 1; used = used; blocks = blocks })) }
         ensures length { length bytes.new ≡ self.now.sizes.block_size }
-        ensures rest { bitmap.new ≡ record bitmap.old { low = bitmap.new.low } }
+        ensures rest { bitmap.new ≡ record bitmap.old { tally = bitmap.new.tally } }
         ensures changed { (k : ℕ) → E.changed edits.new k ≡ true → (E.changed edits.old k ≡ true) ⊎ (IsBitmapBlock bitmap.old k ⊎ (k < self.now.sizes.blocks)) }
         ensures size { E.size edits.new ≡ E.size edits.old }
         ensures frame { E.frame edits.new ≡ E.frame edits.old }
@@ -642,7 +642,7 @@ impl Stream {
         ensures length { length bytes.new ≡ self.now.sizes.block_size }
         ensures most { IfOk result (λ n. n ≤ array_length self.now.sizes) }
         ensures some { IfOk result (λ n. 1 ≤ n) }
-        ensures rest { bitmap.new ≡ record bitmap.old { low = bitmap.new.low } }
+        ensures rest { bitmap.new ≡ record bitmap.old { tally = bitmap.new.tally } }
         ensures changed { (k : ℕ) → E.changed edits.new k ≡ true → (E.changed edits.old k ≡ true) ⊎ (IsBitmapBlock bitmap.old k ⊎ (k < self.now.sizes.blocks)) }
         ensures size { E.size edits.new ≡ E.size edits.old }
         ensures frame { E.frame edits.new ≡ E.frame edits.old }

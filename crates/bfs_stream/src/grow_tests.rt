@@ -46,7 +46,7 @@ pub(crate) fn by_turns<E: Edits>(
     requires volume { IsOfVolume first.old.sizes bitmap.old }
     ensures first { first.new ≡ first.old }
     ensures second { second.new ≡ second.old }
-    ensures rest { bitmap.new ≡ record bitmap.old { low = bitmap.new.low } }
+    ensures rest { bitmap.new ≡ record bitmap.old { tally = bitmap.new.tally } }
     ensures size { E.size edits.new ≡ E.size edits.old }
     ensures frame { E.frame edits.new ≡ E.frame edits.old }
 {
@@ -199,6 +199,9 @@ fn grown(
 {
     let sup = superblock(size, shift)?;
     if sup.block_size != size {
+        return Ok(Ok(()));
+    }
+    if sup.num_blocks < 6 {
         return Ok(Ok(()));
     }
     let mut under = volume(alloc, size, used, more, reach)?;

@@ -6,8 +6,8 @@ ghost use Rattle.bfs_txn.specs.Faults.{AreLater};
 ghost use Rattle.bfs_stream.specs.Sizes.{Sizes, IsInVolume, IsWhole, HasSizes, array_length, runs_per_block};
 ghost use Rattle.bfs_stream.specs.Places.{run_blocks, used_runs, array_runs, places_at};
 ghost use Rattle.bfs_stream.specs.Told.{AreTold, Stands, contents};
-ghost use Rattle.bfs_stream.specs.Scans.{IsDamage, IsDamagedBy, IsLevelRun, IsUsed, HasDouble, block_in, ends_of, last_end};
-ghost use Rattle.bfs_stream.specs.Faults.{IsCauseIn, IsStreamCause, IsDamagedAt, HasNoBlock};
+ghost use Rattle.bfs_stream.specs.Scans.{IsDamage, IsDamagedBy, IsBlamed, IsLevelRun, IsUsed, HasDouble, block_in, ends_of, last_end};
+ghost use Rattle.bfs_stream.specs.Faults.{IsCauseIn, IsStreamCause, IsDamagedAt, IsBlamedAt, HasNoBlock};
 
 use crate::scan::Scan;
 use crate::stream::natural_long;
@@ -71,6 +71,27 @@ impl Stream {
         u64::from(run.len) == self.array_length() && self.holds(run)
     }
 
+    /// The runs end before a place that the inode's ranges have. The inode is read again, so that it is the block read last.
+    fn too_short<B: Blocks>(&self, under: &mut B, bytes: &mut [u8]) -> BlockFault
+        requires size { B.size under.old ≡ self.now.sizes.block_size }
+        requires length { length bytes.old ≡ self.now.sizes.block_size }
+        ensures damaged { (m : ℕ → Option (List ℕ)) → IsDamagedBy self.now.sizes m self.now.id (IsUsed self.now.sizes) result }
+        ensures blamed { IsBlamed self.now.sizes (B.last under.new) self.now.id (IsUsed self.now.sizes) result }
+        ensures length { length bytes.new ≡ self.now.sizes.block_size }
+        ensures told { B.told under.new ≡ B.told under.old }
+        ensures changed { B.changed under.new ≡ B.changed under.old }
+        ensures pairs { B.pairs under.new ≡ B.pairs under.old }
+        ensures size { B.size under.new ≡ B.size under.old }
+        ensures frame { B.frame under.new ≡ B.frame under.old }
+        ensures later { AreLater (B.counts under.old) (B.counts under.new) }
+        ensures cause { IsCauseIn (B.counts under.old) (B.counts under.new) result }
+    {
+        match under.get(self.inode, bytes) {
+            Ok(()) => BlockFault::Damaged { block: self.inode },
+            Err(fault) => fault,
+        }
+    }
+
     /// The block at a place among the runs of an array of any length.
     fn in_array<B: Blocks>(
         &self,
@@ -85,6 +106,7 @@ impl Stream {
         ensures found { (m : ℕ → Option (List ℕ)) → B.told under.old ≡ Some m → AreTold m (run_blocks self.now.sizes array) → IfOk result (λ block. block_in self.now.sizes (array_runs self.now.sizes (contents m) array) place ≡ Some block) }
         ensures none { (m : ℕ → Option (List ℕ)) → B.told under.old ≡ Some m → AreTold m (run_blocks self.now.sizes array) → All (IsInVolume self.now.sizes) (used_runs (array_runs self.now.sizes (contents m) array)) → IfErr result (λ fault. IsDamage fault → block_in self.now.sizes (array_runs self.now.sizes (contents m) array) place ≡ None) }
         ensures damaged { (m : ℕ → Option (List ℕ)) → B.told under.old ≡ Some m → IfErr result (IsDamagedBy self.now.sizes m self.now.id (IsUsed self.now.sizes)) }
+        ensures blamed { IfErr result (IsBlamed self.now.sizes (B.last under.new) self.now.id (IsUsed self.now.sizes)) }
         ensures below { IfOk result (λ block. block < self.now.sizes.blocks) }
         ensures length { length bytes.new ≡ self.now.sizes.block_size }
         ensures told { B.told under.new ≡ B.told under.old }
@@ -109,7 +131,7 @@ impl Stream {
                 Scan::Broken => return Err(BlockFault::Damaged { block: first + i }),
             }
         }
-        Err(BlockFault::Damaged { block: self.inode })
+        Err(self.too_short(under, bytes))
     }
 
     /// The run at a place in an array under double indirect.
@@ -127,6 +149,7 @@ impl Stream {
         ensures found { (m : ℕ → Option (List ℕ)) → B.told under.old ≡ Some m → AreTold m (run_blocks self.now.sizes array) → IfOk result (λ run. slice_get (array_runs self.now.sizes (contents m) array) place ≡ Some run) }
         ensures none { (m : ℕ → Option (List ℕ)) → B.told under.old ≡ Some m → AreTold m (run_blocks self.now.sizes array) → IfErr result (λ fault. IsDamage fault → (run : Run) × (slice_get (array_runs self.now.sizes (contents m) array) place ≡ Some run) × (¬ IsWhole self.now.sizes run)) }
         ensures damaged { (m : ℕ → Option (List ℕ)) → B.told under.old ≡ Some m → IfErr result (IsDamagedBy self.now.sizes m self.now.id (IsWhole self.now.sizes)) }
+        ensures blamed { IfErr result (IsBlamed self.now.sizes (B.last under.new) self.now.id (IsWhole self.now.sizes)) }
         ensures whole { IfOk result (IsWhole self.now.sizes) }
         ensures length { length bytes.new ≡ self.now.sizes.block_size }
         ensures told { B.told under.new ≡ B.told under.old }
@@ -181,6 +204,7 @@ impl Stream {
         ensures found { (m : ℕ → Option (List ℕ)) → B.told under.old ≡ Some m → HasDouble self.now.sizes m array place → IfOk result (λ block. block_in self.now.sizes (flat_map (array_runs self.now.sizes (contents m)) (used_runs (array_runs self.now.sizes (contents m) array))) place ≡ Some block) }
         ensures sound { (m : ℕ → Option (List ℕ)) → B.told under.old ≡ Some m → HasDouble self.now.sizes m array place → IfErr result (λ fault. ¬ IsDamage fault) }
         ensures damaged { (m : ℕ → Option (List ℕ)) → B.told under.old ≡ Some m → IfErr result (IsDamagedBy self.now.sizes m self.now.id (IsWhole self.now.sizes)) }
+        ensures blamed { B.last under.old ≡ Some (self.now.id, bytes.old) → IfErr result (IsBlamed self.now.sizes (B.last under.new) self.now.id (IsWhole self.now.sizes)) }
         ensures below { IfOk result (λ block. block < self.now.sizes.blocks) }
         ensures told { B.told under.new ≡ B.told under.old }
         ensures changed { B.changed under.new ≡ B.changed under.old }
@@ -234,6 +258,7 @@ impl Stream {
         ensures found { (m : ℕ → Option (List ℕ)) → B.told under.old ≡ Some m → Stands self.now m → bytes.old ≡ contents m self.now.id → IfOk result (λ block. slice_get (places_at self.now.sizes (contents m) self.now.id) place ≡ Some block) }
         ensures sound { (m : ℕ → Option (List ℕ)) → B.told under.old ≡ Some m → Stands self.now m → bytes.old ≡ contents m self.now.id → IfErr result (λ fault. ¬ IsDamage fault) }
         ensures damaged { (m : ℕ → Option (List ℕ)) → B.told under.old ≡ Some m → IfErr result (IsDamagedBy self.now.sizes m self.now.id (IsLevelRun self.now.sizes (ends_of self.now.sizes (stream_at bytes.old)).indirect place)) }
+        ensures blamed { B.last under.old ≡ Some (self.now.id, bytes.old) → IfErr result (IsBlamed self.now.sizes (B.last under.new) self.now.id (IsLevelRun self.now.sizes (ends_of self.now.sizes (stream_at bytes.old)).indirect place)) }
         ensures below { IfOk result (λ block. block < self.now.sizes.blocks) }
         ensures told { B.told under.new ≡ B.told under.old }
         ensures changed { B.changed under.new ≡ B.changed under.old }
@@ -269,6 +294,7 @@ impl Stream {
         ensures found { (m : ℕ → Option (List ℕ)) → B.told under.old ≡ Some m → Stands self.old m → IfOk result (λ block. slice_get (places_at self.old.sizes (contents m) self.old.id) index ≡ Some block) }
         ensures none { (m : ℕ → Option (List ℕ)) → B.told under.old ≡ Some m → Stands self.old m → IfErr result (HasNoBlock (places_at self.old.sizes (contents m) self.old.id) index) }
         ensures damaged { (m : ℕ → Option (List ℕ)) → B.told under.old ≡ Some m → IsSome (m self.old.id) → IfErr result (IsDamagedAt self.old m index) }
+        ensures blamed { IfErr result (IsBlamedAt self.old (B.last under.new) index) }
         ensures below { IfOk result (λ block. block < self.old.sizes.blocks) }
         ensures same { self.new ≡ self.old }
         ensures told { B.told under.new ≡ B.told under.old }

@@ -105,7 +105,7 @@ impl Stream {
         ensures few { IfOk result (λ t. (t.blocks ≡ tables.blocks) × (t.used ≡ tables.used)) }
         ensures listed { IfOk result (λ t. t.listed ≤ array_length self.now.sizes * runs_per_block self.now.sizes) }
         ensures length { length bytes.new ≡ self.now.sizes.block_size }
-        ensures rest { bitmap.new ≡ record bitmap.old { low = bitmap.new.low } }
+        ensures rest { bitmap.new ≡ record bitmap.old { tally = bitmap.new.tally } }
         ensures changed { (k : ℕ) → E.changed edits.new k ≡ true → (E.changed edits.old k ≡ true) ⊎ (IsBitmapBlock bitmap.old k ⊎ (k < self.now.sizes.blocks)) }
         ensures size { E.size edits.new ≡ E.size edits.old }
         ensures frame { E.frame edits.new ≡ E.frame edits.old }
@@ -146,7 +146,7 @@ impl Stream {
         ensures most { IfOk result (λ n. n ≤ array_length self.now.sizes) }
         ensures some { IfOk result (λ n. 1 ≤ n) }
         ensures length { length bytes.new ≡ self.now.sizes.block_size }
-        ensures rest { bitmap.new ≡ record bitmap.old { low = bitmap.new.low } }
+        ensures rest { bitmap.new ≡ record bitmap.old { tally = bitmap.new.tally } }
         ensures changed { (k : ℕ) → E.changed edits.new k ≡ true → (E.changed edits.old k ≡ true) ⊎ (IsBitmapBlock bitmap.old k ⊎ (k < self.now.sizes.blocks)) }
         ensures size { E.size edits.new ≡ E.size edits.old }
         ensures frame { E.frame edits.new ≡ E.frame edits.old }
@@ -222,7 +222,7 @@ impl Stream {
         ensures faults { (m : ℕ → Option (List ℕ)) → E.told edits.old ≡ Some m → Owns self.now bitmap.old [] m → length (used_runs (fields self.now.sizes (contents m) self.now.id).direct) ≡ 12 → IfErr result (IsStepFault self.now bitmap.old m) }
         ensures ready { (m : ℕ → Option (List ℕ)) → E.told edits.old ≡ Some m → Owns self.now bitmap.old [] m → length (used_runs (fields self.now.sizes (contents m) self.now.id).direct) ≡ 12 → OnOk result ((n : ℕ → Option (List ℕ)) → E.told edits.new ≡ Some n → HasTable self.now n) }
         ensures length { length bytes.new ≡ self.now.sizes.block_size }
-        ensures rest { bitmap.new ≡ record bitmap.old { low = bitmap.new.low } }
+        ensures rest { bitmap.new ≡ record bitmap.old { tally = bitmap.new.tally } }
         ensures changed { (k : ℕ) → E.changed edits.new k ≡ true → (E.changed edits.old k ≡ true) ⊎ (IsBitmapBlock bitmap.old k ⊎ (k < self.now.sizes.blocks)) }
         ensures size { E.size edits.new ≡ E.size edits.old }
         ensures frame { E.frame edits.new ≡ E.frame edits.old }
@@ -257,7 +257,7 @@ impl Stream {
         ensures faults { (m : ℕ → Option (List ℕ)) → E.told edits.old ≡ Some m → Owns self.now bitmap.old [] m → 0 < length (used_runs (array_runs self.now.sizes (contents m) (fields self.now.sizes (contents m) self.now.id).indirect)) → length (used_runs (array_runs self.now.sizes (contents m) (fields self.now.sizes (contents m) self.now.id).indirect)) ≡ length (array_runs self.now.sizes (contents m) (fields self.now.sizes (contents m) self.now.id).indirect) → IfErr result (IsStepFault self.now bitmap.old m) }
         ensures ready { (m : ℕ → Option (List ℕ)) → E.told edits.old ≡ Some m → Owns self.now bitmap.old [] m → 0 < length (used_runs (array_runs self.now.sizes (contents m) (fields self.now.sizes (contents m) self.now.id).indirect)) → length (used_runs (array_runs self.now.sizes (contents m) (fields self.now.sizes (contents m) self.now.id).indirect)) ≡ length (array_runs self.now.sizes (contents m) (fields self.now.sizes (contents m) self.now.id).indirect) → OnOk result ((n : ℕ → Option (List ℕ)) → E.told edits.new ≡ Some n → HasArray self.now n) }
         ensures length { length bytes.new ≡ self.now.sizes.block_size }
-        ensures rest { bitmap.new ≡ record bitmap.old { low = bitmap.new.low } }
+        ensures rest { bitmap.new ≡ record bitmap.old { tally = bitmap.new.tally } }
         ensures changed { (k : ℕ) → E.changed edits.new k ≡ true → (E.changed edits.old k ≡ true) ⊎ (IsBitmapBlock bitmap.old k ⊎ (k < self.now.sizes.blocks)) }
         ensures size { E.size edits.new ≡ E.size edits.old }
         ensures frame { E.frame edits.new ≡ E.frame edits.old }
@@ -296,7 +296,7 @@ impl Stream {
         ensures most { IfOk result (λ n. n < longest + array_length self.now.sizes) }
         ensures some { IfOk result (λ n. 1 ≤ n) }
         ensures length { length bytes.new ≡ self.now.sizes.block_size }
-        ensures rest { bitmap.new ≡ record bitmap.old { low = bitmap.new.low } }
+        ensures rest { bitmap.new ≡ record bitmap.old { tally = bitmap.new.tally } }
         ensures changed { (k : ℕ) → E.changed edits.new k ≡ true → (E.changed edits.old k ≡ true) ⊎ (IsBitmapBlock bitmap.old k ⊎ (k < self.now.sizes.blocks)) }
         ensures size { E.size edits.new ≡ E.size edits.old }
         ensures frame { E.frame edits.new ≡ E.frame edits.old }
@@ -335,7 +335,7 @@ impl Stream {
         ensures most { IfOk result (λ n. n < longest + array_length self.now.sizes) }
         ensures some { IfOk result (λ n. 1 ≤ n) }
         ensures length { length bytes.new ≡ self.now.sizes.block_size }
-        ensures rest { bitmap.new ≡ record bitmap.old { low = bitmap.new.low } }
+        ensures rest { bitmap.new ≡ record bitmap.old { tally = bitmap.new.tally } }
         ensures changed { (k : ℕ) → E.changed edits.new k ≡ true → (E.changed edits.old k ≡ true) ⊎ (IsBitmapBlock bitmap.old k ⊎ (k < self.now.sizes.blocks)) }
         ensures size { E.size edits.new ≡ E.size edits.old }
         ensures frame { E.frame edits.new ≡ E.frame edits.old }
@@ -372,7 +372,7 @@ impl Stream {
         ensures grown { (m : ℕ → Option (List ℕ)) → E.told edits.old ≡ Some m → Owns self.now bitmap.old [] m → OnOk result (HasGrownBy self.now bitmap.old bitmap.new m blocks (E.told edits.new) (E.changed edits.old) (E.changed edits.new)) }
         ensures faults { (m : ℕ → Option (List ℕ)) → E.told edits.old ≡ Some m → Owns self.now bitmap.old [] m → blocks ≤ room_at self.now.sizes (contents m) self.now.id → IfErr result (IsGrowFault self.now bitmap.old m blocks) }
         ensures length { length bytes.new ≡ self.now.sizes.block_size }
-        ensures rest { bitmap.new ≡ record bitmap.old { low = bitmap.new.low } }
+        ensures rest { bitmap.new ≡ record bitmap.old { tally = bitmap.new.tally } }
         ensures changed { (k : ℕ) → E.changed edits.new k ≡ true → (E.changed edits.old k ≡ true) ⊎ (IsBitmapBlock bitmap.old k ⊎ (k < self.now.sizes.blocks)) }
         ensures size { E.size edits.new ≡ E.size edits.old }
         ensures frame { E.frame edits.new ≡ E.frame edits.old }
@@ -421,7 +421,7 @@ impl Stream {
         ensures grown { (m : ℕ → Option (List ℕ)) → E.told edits.old ≡ Some m → Owns self.old bitmap.old [] m → OnOk result (HasGrownBy self.old bitmap.old bitmap.new m blocks (E.told edits.new) (E.changed edits.old) (E.changed edits.new)) }
         ensures faults { (m : ℕ → Option (List ℕ)) → E.told edits.old ≡ Some m → Owns self.old bitmap.old [] m → IfErr result (IsGrowFault self.old bitmap.old m blocks) }
         ensures same { self.new ≡ self.old }
-        ensures rest { bitmap.new ≡ record bitmap.old { low = bitmap.new.low } }
+        ensures rest { bitmap.new ≡ record bitmap.old { tally = bitmap.new.tally } }
         ensures changed { (k : ℕ) → E.changed edits.new k ≡ true → (E.changed edits.old k ≡ true) ⊎ (IsBitmapBlock bitmap.old k ⊎ (k < self.old.sizes.blocks)) }
         ensures size { E.size edits.new ≡ E.size edits.old }
         ensures frame { E.frame edits.new ≡ E.frame edits.old }

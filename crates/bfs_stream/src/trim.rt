@@ -36,7 +36,7 @@ impl Stream {
         ensures sound { (m : ℕ → Option (List ℕ)) → E.told edits.old ≡ Some m → Owns self.now bitmap.old [] m → HasNoArrays self.now m → IfErr result (λ fault. ¬ IsDamage fault) }
         ensures most { IfOk result (λ n. n ≤ most) }
         ensures length { length bytes.new ≡ self.now.sizes.block_size }
-        ensures rest { bitmap.new ≡ record bitmap.old { given = bitmap.new.given } }
+        ensures rest { bitmap.new ≡ record bitmap.old { given = bitmap.new.given; tally = bitmap.new.tally } }
         ensures changed { (k : ℕ) → E.changed edits.new k ≡ true → (E.changed edits.old k ≡ true) ⊎ (IsBitmapBlock bitmap.old k ⊎ (k < self.now.sizes.blocks)) }
         ensures size { E.size edits.new ≡ E.size edits.old }
         ensures frame { E.frame edits.new ≡ E.frame edits.old }
@@ -77,7 +77,7 @@ impl Stream {
         ensures sound { (m : ℕ → Option (List ℕ)) → E.told edits.old ≡ Some m → Owns self.now bitmap.old [] m → 0 < (fields self.now.sizes (contents m) self.now.id).indirect.len → (fields self.now.sizes (contents m) self.now.id).double_indirect.len ≡ 0 → IfErr result (λ fault. ¬ IsDamage fault) }
         ensures most { IfOk result (λ n. n ≤ most) }
         ensures length { length bytes.new ≡ self.now.sizes.block_size }
-        ensures rest { bitmap.new ≡ record bitmap.old { given = bitmap.new.given } }
+        ensures rest { bitmap.new ≡ record bitmap.old { given = bitmap.new.given; tally = bitmap.new.tally } }
         ensures changed { (k : ℕ) → E.changed edits.new k ≡ true → (E.changed edits.old k ≡ true) ⊎ (IsBitmapBlock bitmap.old k ⊎ (k < self.now.sizes.blocks)) }
         ensures size { E.size edits.new ≡ E.size edits.old }
         ensures frame { E.frame edits.new ≡ E.frame edits.old }
@@ -117,7 +117,7 @@ impl Stream {
         ensures sound { (m : ℕ → Option (List ℕ)) → E.told edits.old ≡ Some m → Owns self.now bitmap.old [] m → (fields self.now.sizes (contents m) self.now.id).double_indirect.len ≡ 0 → IfErr result (λ fault. ¬ IsDamage fault) }
         ensures most { IfOk result (λ n. n ≤ most) }
         ensures length { length bytes.new ≡ self.now.sizes.block_size }
-        ensures rest { bitmap.new ≡ record bitmap.old { given = bitmap.new.given } }
+        ensures rest { bitmap.new ≡ record bitmap.old { given = bitmap.new.given; tally = bitmap.new.tally } }
         ensures changed { (k : ℕ) → E.changed edits.new k ≡ true → (E.changed edits.old k ≡ true) ⊎ (IsBitmapBlock bitmap.old k ⊎ (k < self.now.sizes.blocks)) }
         ensures size { E.size edits.new ≡ E.size edits.old }
         ensures frame { E.frame edits.new ≡ E.frame edits.old }
@@ -153,7 +153,7 @@ impl Stream {
         ensures sound { (m : ℕ → Option (List ℕ)) → E.told edits.old ≡ Some m → Owns self.now bitmap.old [] m → 0 < (fields self.now.sizes (contents m) self.now.id).double_indirect.len → IfErr result (λ fault. ¬ IsDamage fault) }
         ensures most { IfOk result (λ n. n ≤ most) }
         ensures length { length bytes.new ≡ self.now.sizes.block_size }
-        ensures rest { bitmap.new ≡ record bitmap.old { given = bitmap.new.given } }
+        ensures rest { bitmap.new ≡ record bitmap.old { given = bitmap.new.given; tally = bitmap.new.tally } }
         ensures changed { (k : ℕ) → E.changed edits.new k ≡ true → (E.changed edits.old k ≡ true) ⊎ (IsBitmapBlock bitmap.old k ⊎ (k < self.now.sizes.blocks)) }
         ensures size { E.size edits.new ≡ E.size edits.old }
         ensures frame { E.frame edits.new ≡ E.frame edits.old }
@@ -197,7 +197,7 @@ impl Stream {
         ensures sound { (m : ℕ → Option (List ℕ)) → E.told edits.old ≡ Some m → Owns self.now bitmap.old [] m → IfErr result (λ fault. ¬ IsDamage fault) }
         ensures most { IfOk result (λ n. n ≤ most) }
         ensures length { length bytes.new ≡ self.now.sizes.block_size }
-        ensures rest { bitmap.new ≡ record bitmap.old { given = bitmap.new.given } }
+        ensures rest { bitmap.new ≡ record bitmap.old { given = bitmap.new.given; tally = bitmap.new.tally } }
         ensures changed { (k : ℕ) → E.changed edits.new k ≡ true → (E.changed edits.old k ≡ true) ⊎ (IsBitmapBlock bitmap.old k ⊎ (k < self.now.sizes.blocks)) }
         ensures size { E.size edits.new ≡ E.size edits.old }
         ensures frame { E.frame edits.new ≡ E.frame edits.old }
@@ -229,7 +229,7 @@ impl Stream {
         ensures trimmed { (m : ℕ → Option (List ℕ)) → E.told edits.old ≡ Some m → Owns self.now bitmap.old [] m → MayLose self.now m blocks → blocks ≤ length (places_at self.now.sizes (contents m) self.now.id) → OnOk result (HasTrimmedTo self.now bitmap.old bitmap.new m (length (places_at self.now.sizes (contents m) self.now.id) - blocks) (E.told edits.new) (E.changed edits.old) (E.changed edits.new)) }
         ensures sound { (m : ℕ → Option (List ℕ)) → E.told edits.old ≡ Some m → Owns self.now bitmap.old [] m → MayLose self.now m blocks → IfErr result (λ fault. ¬ IsDamage fault) }
         ensures length { length bytes.new ≡ self.now.sizes.block_size }
-        ensures rest { bitmap.new ≡ record bitmap.old { given = bitmap.new.given } }
+        ensures rest { bitmap.new ≡ record bitmap.old { given = bitmap.new.given; tally = bitmap.new.tally } }
         ensures changed { (k : ℕ) → E.changed edits.new k ≡ true → (E.changed edits.old k ≡ true) ⊎ (IsBitmapBlock bitmap.old k ⊎ (k < self.now.sizes.blocks)) }
         ensures size { E.size edits.new ≡ E.size edits.old }
         ensures frame { E.frame edits.new ≡ E.frame edits.old }
@@ -265,7 +265,7 @@ impl Stream {
         ensures stays { (m : ℕ → Option (List ℕ)) → E.told edits.old ≡ Some m → Owns self.old bitmap.old [] m → length (places_at self.old.sizes (contents m) self.old.id) ≤ blocks → (E.told edits.new ≡ E.told edits.old) × (E.changed edits.new ≡ E.changed edits.old) × (bitmap.new ≡ bitmap.old) }
         ensures faults { (m : ℕ → Option (List ℕ)) → E.told edits.old ≡ Some m → Owns self.old bitmap.old [] m → natural (fields self.old.sizes (contents m) self.old.id).size ≤ self.old.sizes.block_size * blocks → IfErr result (λ fault. ¬ IsDamage fault) }
         ensures same { self.new ≡ self.old }
-        ensures rest { bitmap.new ≡ record bitmap.old { given = bitmap.new.given } }
+        ensures rest { bitmap.new ≡ record bitmap.old { given = bitmap.new.given; tally = bitmap.new.tally } }
         ensures changed { (k : ℕ) → E.changed edits.new k ≡ true → (E.changed edits.old k ≡ true) ⊎ (IsBitmapBlock bitmap.old k ⊎ (k < self.old.sizes.blocks)) }
         ensures size { E.size edits.new ≡ E.size edits.old }
         ensures frame { E.frame edits.new ≡ E.frame edits.old }

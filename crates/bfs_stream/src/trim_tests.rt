@@ -22,7 +22,7 @@ fn cut<E: Edits>(
     requires size { E.size edits.old ≡ stream.old.sizes.block_size }
     requires volume { IsOfVolume stream.old.sizes bitmap.old }
     ensures same { stream.new ≡ stream.old }
-    ensures rest { bitmap.new ≡ record bitmap.old { given = bitmap.new.given } }
+    ensures rest { bitmap.new ≡ record bitmap.old { given = bitmap.new.given; tally = bitmap.new.tally } }
     ensures size { E.size edits.new ≡ E.size edits.old }
     ensures frame { E.frame edits.new ≡ E.frame edits.old }
 {
@@ -54,7 +54,7 @@ fn cuts<E: Edits>(
     requires size { E.size edits.old ≡ stream.old.sizes.block_size }
     requires volume { IsOfVolume stream.old.sizes bitmap.old }
     ensures same { stream.new ≡ stream.old }
-    ensures rest { bitmap.new ≡ record bitmap.old { given = bitmap.new.given } }
+    ensures rest { bitmap.new ≡ record bitmap.old { given = bitmap.new.given; tally = bitmap.new.tally } }
     ensures size { E.size edits.new ≡ E.size edits.old }
     ensures frame { E.frame edits.new ≡ E.frame edits.old }
 {

@@ -20,14 +20,14 @@ use Rattle.bfs_stream.specs.Faults.{IsGrowFault, IsGrowCause}
 use Rattle.bfs_stream.specs.declared.fault.GrowFault.{GrowFault}
 use Rattle.bfs_stream.specs.declared.fault.GrowFault.TheVariants as grow
 use Rattle.bfs_stream.proofs.Writes.{wrote_none, wrote_more, wrote_twice}
-use Rattle.bfs_stream_pages.specs.Held.{Held, Tells, known, stream_of}
+use Rattle.bfs_stream_pages.specs.Held.{Held, IsReadable, Tells, known, stream_of}
 use Rattle.bfs_stream_pages.specs.Moves.{Moved}
 use Rattle.bfs_stream_pages.specs.Causes.{HasFailed, HasCause, IsPageCause}
 use Rattle.bfs_stream_pages.specs.Goes.{HasMoved, HasFault, GoesOn}
 use Rattle.bfs_stream_pages.specs.Steps.{Comes, IsUndamaged, HasRoom, HasWritten, HasSize, HasAdded, all_of}
 use Rattle.bfs_stream_pages.specs.BytesLaws.{take_write, take_added, part_of}
 use Rattle.bfs_stream_pages.specs.MovesLaws.{moved_none, moved_twice, whole_moves}
-use Rattle.bfs_stream_pages.specs.GoesLaws.{goes_same, stream_is, long_fits, all_long, are_blocks}
+use Rattle.bfs_stream_pages.specs.GoesLaws.{goes_same, reads_stream, stream_is, long_fits, all_long, are_blocks}
 
 -- what is told, of what is known
 told_of : (failed : Option GrowFault) (start told : Option (ℕ → Option (List ℕ))) (m : ℕ → Option (List ℕ)) → known failed start told ≡ Some m → told ≡ Some m
@@ -217,12 +217,12 @@ page_written o v long m held sized at page told old new w low =
     stream_is o v long w.comes.map w.comes.held ∙ ap (take long) w.bytes ∙ take_write long at page (all_of o m) low (omega (arith, all, fits)) ∙ ap (with_page at page) (sym (stream_is o v long m held))
 
 -- a page that was read
-pub page_read : (o : Origin) (v : Room) (long : ℕ) (m : ℕ → Option (List ℕ)) → Held o v long m → AreSized o.sizes.block_size (Some m) → (index start n len : ℕ) → slice_get (places_at o.sizes (contents m) o.id) index ≡ Some n → start + len ≤ o.sizes.block_size → o.sizes.block_size * index + start + len ≤ long
+pub page_read : (o : Origin) (long : ℕ) (m : ℕ → Option (List ℕ)) → IsReadable o long m → AreSized o.sizes.block_size (Some m) → (index start n len : ℕ) → slice_get (places_at o.sizes (contents m) o.id) index ≡ Some n → start + len ≤ o.sizes.block_size → o.sizes.block_size * index + start + len ≤ long
     → take len (drop start (contents m n)) ≡ take len (drop (o.sizes.block_size * index + start) (stream_of o m))
-page_read o v long m held sized index start n len at inside low =
+page_read o long m held sized index start n len at inside low =
     let place : ℕ = o.sizes.block_size * index + start in
     part_of o.sizes.block_size (contents m) (places_at o.sizes (contents m) o.id) index n start len (are_blocks o o.sizes.block_size m held.told sized) at inside
-    ∙ sym (ap (λ (l : List ℕ). take len (drop place l)) (stream_is o v long m held) ∙ cut (all_of o m) place len long low)
+    ∙ sym (ap (λ (l : List ℕ). take len (drop place l)) (reads_stream o long m held) ∙ cut (all_of o m) place len long low)
   where
     cut : (xs : List ℕ) (place len long : ℕ) → place + len ≤ long → take len (drop place (take long xs)) ≡ take len (drop place xs)
     cut xs place len long low =

@@ -47,7 +47,7 @@ room_there o v long m index n told old new held at is same = record {
   bytes = sym (append-nil (all_of o m));
 }
 
-module _ (o : Origin) (v now : Room) (long : ℕ) (m : ℕ → Option (List ℕ)) (held : Held o v long m) (rest : now ≡ record v { low = now.low }) (told : Option (ℕ → Option (List ℕ))) (old new : ℕ → Bool) (index : ℕ) (grown : HasGrownBy o v now m 1 told old new) (low : o.sizes.block_size * index ≤ long) (some : 0 < o.sizes.block_size) where
+module _ (o : Origin) (v now : Room) (long : ℕ) (m : ℕ → Option (List ℕ)) (held : Held o v long m) (rest : now ≡ record v { tally = now.tally }) (told : Option (ℕ → Option (List ℕ))) (old new : ℕ → Bool) (index : ℕ) (grown : HasGrownBy o v now m 1 told old new) (low : o.sizes.block_size * index ≤ long) (some : 0 < o.sizes.block_size) where
   map : ℕ → Option (List ℕ)
   map = grown.grown.2.map
 
@@ -127,7 +127,7 @@ module _ (o : Origin) (v now : Room) (long : ℕ) (m : ℕ → Option (List ℕ)
       inside_of size index long n count some a b c e = let le : index ≤ n = le_of_mul-le-mul_left {m = index} {n = n} {k = size} (omega (arith, a, b)) some in omega (arith, le, c, e)
 
 -- the same of a result
-pub room_grown_ok : (o : Origin) (v now : Room) (long : ℕ) (m : ℕ → Option (List ℕ)) → Held o v long m → now ≡ record v { low = now.low } → (told : Option (ℕ → Option (List ℕ))) (old new : ℕ → Bool) (index : ℕ) (r : Result (Unit {0}) GrowFault) → OnOk r (HasGrownBy o v now m 1 told old new)
+pub room_grown_ok : (o : Origin) (v now : Room) (long : ℕ) (m : ℕ → Option (List ℕ)) → Held o v long m → now ≡ record v { tally = now.tally } → (told : Option (ℕ → Option (List ℕ))) (old new : ℕ → Bool) (index : ℕ) (r : Result (Unit {0}) GrowFault) → OnOk r (HasGrownBy o v now m 1 told old new)
     → o.sizes.block_size * index ≤ long → 0 < o.sizes.block_size → OnOk r (HasRoom o v now long m index told old new)
 room_grown_ok o v now long m held rest told old new index (Ok u) grown low some = room_grown o v now long m held rest told old new index grown low some
 room_grown_ok o v now long m held rest told old new index (Err fault) grown low some = tt

@@ -30,8 +30,30 @@ HasFault o v long told None (Some fault) old new = HasCause o v long told old ne
 -- The bitmap keeps all but its lower bound; what is known of the volume has moved on; a page that could not be added has its
 -- cause; each block that was changed had been so, or holds bits, or is one of the volume.
 pub record GoesOn (o : Origin) (v now : Room) (long more : ℕ) (told told_now : Option (ℕ → Option (List ℕ))) (failed failed_now : Option GrowFault) (old new : ℕ → Bool) (counts counts_now : Counts) : Type 0 where
-  pub rest : now ≡ record v { low = now.low }
+  pub rest : now ≡ record v { tally = now.tally }
   pub moved : HasMoved o v now long more told told_now failed_now old new
   pub fault : HasFault o v long told failed failed_now counts counts_now
   pub changed : (k : ℕ) → new k ≡ true → (old k ≡ true) ⊎ (IsBitmapBlock v k ⊎ (k < o.sizes.blocks))
+  pub later : AreLater counts counts_now
+
+-- Pages were only read between: what is told of the blocks, which of them have been changed and how many, the bitmap's room,
+-- the stream's length and the fault at which a page could not be added are as they were; the counts are later ones, or the
+-- same where there is such a fault.
+pub record IsRead (v now : Room) (long more : ℕ) (before after : Option (ℕ → Option (List ℕ))) (fault fault_now : Option GrowFault) (old new : ℕ → Bool) (n many : ℕ) (counts counts_now : Counts) : Type 0 where
+  pub room : now ≡ v
+  pub length : more ≡ long
+  pub told : after ≡ before
+  pub failed : fault_now ≡ fault
+  pub changed : new ≡ old
+  pub pairs : many ≡ n
+  pub later : AreLater counts counts_now
+  pub unasked : IsSome fault → counts_now ≡ counts
+
+-- Blocks were only read between: what is told of them, which of them have been changed and how many, and the stream's length
+-- are as they were; the counts are later ones.
+pub record OnlyReads (long more : ℕ) (before after : Option (ℕ → Option (List ℕ))) (old new : ℕ → Bool) (n many : ℕ) (counts counts_now : Counts) : Type 0 where
+  pub length : more ≡ long
+  pub told : after ≡ before
+  pub changed : new ≡ old
+  pub pairs : many ≡ n
   pub later : AreLater counts counts_now

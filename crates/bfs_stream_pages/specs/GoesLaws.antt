@@ -4,7 +4,7 @@ use Rattle.std.specs.Prelude.{IsSome}
 use Rattle.std.specs.Option.{option_map}
 use Rattle.std.proofs.lemmas.List.{length-take-le}
 use Rattle.std.proofs.Props.{props}
-use Rattle.std.proofs.Math.Logic.{∥∥₁_elim}
+use Rattle.std.proofs.Math.Logic.{∥∥₁_elim, ∥∥₁_map}
 use Rattle.bfs_super.specs.Conditions.{natural}
 use Rattle.bfs_bitmap.specs.Runs.{Room}
 use Rattle.bfs_txn.specs.Told.{AreSized}
@@ -21,10 +21,10 @@ use Rattle.bfs_stream.specs.declared.fault.GrowFault.{GrowFault}
 use Rattle.bfs_stream.specs.declared.fault.GrowFault.TheVariants as grow
 use Rattle.bfs_stream.proofs.Arrays.{later_twice}
 use Rattle.bfs_stream.proofs.Writes.{wrote_none, wrote_more, wrote_twice, changed_twice, later_none}
-use Rattle.bfs_stream_pages.specs.Held.{Held, known, stream_of}
+use Rattle.bfs_stream_pages.specs.Held.{Held, IsReadable, known, stream_of}
 use Rattle.bfs_stream_pages.specs.Moves.{Moved}
-use Rattle.bfs_stream_pages.specs.Causes.{HasFailed, HasCause, IsPageCause}
-use Rattle.bfs_stream_pages.specs.Goes.{HasMoved, HasFault, GoesOn}
+use Rattle.bfs_stream_pages.specs.Causes.{IsReadCause, HasFailed, HasCause, IsPageCause}
+use Rattle.bfs_stream_pages.specs.Goes.{IsRead, OnlyReads, HasMoved, HasFault, GoesOn}
 use Rattle.bfs_stream_pages.specs.Steps.{all_of}
 use Rattle.bfs_stream_pages.specs.BytesLaws.{AreBlocks, length_all}
 use Rattle.bfs_stream_pages.specs.MovesLaws.{moved_none, moved_twice, whole_moves}
@@ -90,7 +90,7 @@ fault_stays o v long told None now old new has none = let bad : false ≡ true =
 pub goes_twice : (o : Origin) (v now later : Room) (l0 l1 l2 : ℕ) (told told1 told2 : Option (ℕ → Option (List ℕ))) (f0 f1 f2 : Option GrowFault) (c0 c1 c2 : ℕ → Bool) (n0 n1 n2 : Counts)
     → GoesOn o v now l0 l1 told told1 f0 f1 c0 c1 n0 n1 → GoesOn o now later l1 l2 told1 told2 f1 f2 c1 c2 n1 n2 → GoesOn o v later l0 l2 told told2 f0 f2 c0 c2 n0 n2
 goes_twice o v now later l0 l1 l2 told told1 told2 f0 f1 f2 c0 c1 c2 n0 n1 n2 one two = record {
-  rest = two.rest ∙ ap (λ (x : Room). record x { low = later.low }) one.rest;
+  rest = two.rest ∙ ap (λ (x : Room). record x { tally = later.tally }) one.rest;
   moved = by_told told told1 told2 one.moved two.moved two.fault;
   fault = by_failed f0 f1 f2 one.fault one.moved two.fault;
   changed = changed_twice o.sizes v now c0 c1 c2 one.rest one.changed two.changed;
@@ -141,30 +141,136 @@ are_blocks o size m told sized k has = by_block (m k) (told k has) (sized k)
 pub sized_of : (size own : ℕ) (told : Option (ℕ → Option (List ℕ))) (m : ℕ → Option (List ℕ)) → own ≡ size → told ≡ Some m → AreSized own told → AreSized size (Some m)
 sized_of size own told m same is sized = subst (AreSized size) is (subst (λ (n : ℕ). AreSized n told) same sized)
 
+pub sized_as : (size own : ℕ) (told : Option (ℕ → Option (List ℕ))) → own ≡ size → AreSized own told → AreSized size told
+sized_as size own told same sized = subst (λ (n : ℕ). AreSized n told) same sized
+
 pub known_sized : (failed : Option GrowFault) (start : Option (ℕ → Option (List ℕ))) (size own : ℕ) (told : Option (ℕ → Option (List ℕ))) → own ≡ size → AreSized own told → AreSized size (known failed start told)
 known_sized (Some fault) start size own told same sized = tt
 known_sized None None size own told same sized = tt
 known_sized None (Some m) size own told same sized = subst (λ (n : ℕ). AreSized n told) same sized
 
 -- the stream's bytes are the first of those of its blocks
-module _ (o : Origin) (v : Room) (long : ℕ) (m : ℕ → Option (List ℕ)) (held : Held o v long m) where
-  pub stream_is : stream_of o m ≡ take long (all_of o m)
+module _ (o : Origin) (long : ℕ) (m : ℕ → Option (List ℕ)) (held : IsReadable o long m) where
+  pub reads_stream : stream_of o m ≡ take long (all_of o m)
   unfolding bytes_at
-  stream_is = ap (λ z. take (natural z) (all_of o m)) held.size
+  reads_stream = ap (λ z. take (natural z) (all_of o m)) held.size
 
-  pub long_fits : long ≤ o.sizes.block_size * length (places_at o.sizes (contents m) o.id)
-  long_fits = let h = held.owns.stands.sound.size_high in subst (λ z. natural z ≤ o.sizes.block_size * length (places_at o.sizes (contents m) o.id)) held.size h
+  pub reads_fits : long ≤ o.sizes.block_size * length (places_at o.sizes (contents m) o.id)
+  reads_fits = let h = held.stands.sound.size_high in subst (λ z. natural z ≤ o.sizes.block_size * length (places_at o.sizes (contents m) o.id)) held.size h
 
-  pub all_long : AreSized o.sizes.block_size (Some m) → length (all_of o m) ≡ o.sizes.block_size * length (places_at o.sizes (contents m) o.id)
-  all_long sized = length_all o.sizes.block_size (contents m) (places_at o.sizes (contents m) o.id) (are_blocks o o.sizes.block_size m held.told sized)
+  pub reads_all : AreSized o.sizes.block_size (Some m) → length (all_of o m) ≡ o.sizes.block_size * length (places_at o.sizes (contents m) o.id)
+  reads_all sized = length_all o.sizes.block_size (contents m) (places_at o.sizes (contents m) o.id) (are_blocks o o.sizes.block_size m held.told sized)
+
+-- what is held can be read
+pub readable : (o : Origin) (v : Room) (long : ℕ) (m : ℕ → Option (List ℕ)) → Held o v long m → IsReadable o long m
+readable o v long m held = record { stands = held.owns.stands; told = held.told; size = held.size }
+
+pub stream_is : (o : Origin) (v : Room) (long : ℕ) (m : ℕ → Option (List ℕ)) → Held o v long m → stream_of o m ≡ take long (all_of o m)
+stream_is o v long m held = reads_stream o long m (readable o v long m held)
+
+pub long_fits : (o : Origin) (v : Room) (long : ℕ) (m : ℕ → Option (List ℕ)) → Held o v long m → long ≤ o.sizes.block_size * length (places_at o.sizes (contents m) o.id)
+long_fits o v long m held = reads_fits o long m (readable o v long m held)
+
+pub all_long : (o : Origin) (v : Room) (long : ℕ) (m : ℕ → Option (List ℕ)) → Held o v long m → AreSized o.sizes.block_size (Some m) → length (all_of o m) ≡ o.sizes.block_size * length (places_at o.sizes (contents m) o.id)
+all_long o v long m held = reads_all o long m (readable o v long m held)
+
+-- what is told of a stream that can be read is of its length
+pub reads_sized : (o : Origin) (long : ℕ) (told : Option (ℕ → Option (List ℕ))) → ((m : ℕ → Option (List ℕ)) → told ≡ Some m → ∥ IsReadable o long m ∥₁) → AreSized o.sizes.block_size told → HasLength (option_map (stream_of o) told) long
+reads_sized o long None held sized = tt
+reads_sized o long (Some m) held sized = ∥∥₁_elim (held m refl) (Prim.hlevel props) (λ h. length_is h)
+  where
+    length_is : IsReadable o long m → length (stream_of o m) ≡ long
+    length_is h =
+        let all = reads_all o long m h sized in
+        let fits = reads_fits o long m h in
+        ap length (reads_stream o long m h) ∙ length-take-le long (all_of o m) (omega (arith, all, fits))
 
 -- what is told of the stream is of its length
 pub told_sized : (o : Origin) (v : Room) (long : ℕ) (told : Option (ℕ → Option (List ℕ))) → ((m : ℕ → Option (List ℕ)) → told ≡ Some m → ∥ Held o v long m ∥₁) → AreSized o.sizes.block_size told → HasLength (option_map (stream_of o) told) long
-told_sized o v long None held sized = tt
-told_sized o v long (Some m) held sized = ∥∥₁_elim (held m refl) (Prim.hlevel props) (λ h. length_is h)
+told_sized o v long told held sized = reads_sized o long told (λ m is. ∥∥₁_map (held m is) (λ h. readable o v long m h)) sized
+
+-- nothing was read
+pub read_same : (v : Room) (long : ℕ) (told : Option (ℕ → Option (List ℕ))) (failed : Option GrowFault) (old : ℕ → Bool) (pairs : ℕ) (counts : Counts) → IsRead v v long long told told failed failed old old pairs pairs counts counts
+read_same v long told failed old pairs counts = record {
+  room = refl;
+  length = refl;
+  told = refl;
+  failed = refl;
+  changed = refl;
+  pairs = refl;
+  later = later_none counts;
+  unasked = λ some. refl;
+}
+
+-- reading twice is reading
+pub read_twice : (v now later : Room) (l0 l1 l2 : ℕ) (t0 t1 t2 : Option (ℕ → Option (List ℕ))) (f0 f1 f2 : Option GrowFault) (c0 c1 c2 : ℕ → Bool) (p0 p1 p2 : ℕ) (n0 n1 n2 : Counts)
+    → IsRead v now l0 l1 t0 t1 f0 f1 c0 c1 p0 p1 n0 n1 → IsRead now later l1 l2 t1 t2 f1 f2 c1 c2 p1 p2 n1 n2 → IsRead v later l0 l2 t0 t2 f0 f2 c0 c2 p0 p2 n0 n2
+read_twice v now later l0 l1 l2 t0 t1 t2 f0 f1 f2 c0 c1 c2 p0 p1 p2 n0 n1 n2 one two = record {
+  room = two.room ∙ one.room;
+  length = two.length ∙ one.length;
+  told = two.told ∙ one.told;
+  failed = two.failed ∙ one.failed;
+  changed = two.changed ∙ one.changed;
+  pairs = two.pairs ∙ one.pairs;
+  later = later_twice n0 n1 n2 one.later two.later;
+  unasked = λ some. two.unasked (subst (λ (f : Option GrowFault). IsSome f) (sym one.failed) some) ∙ one.unasked some;
+}
+
+-- the counts alone move on
+goes_counts : (o : Origin) (v : Room) (long : ℕ) (told : Option (ℕ → Option (List ℕ))) (failed : Option GrowFault) (old : ℕ → Bool) (counts counts_now : Counts) → AreLater counts counts_now → (IsSome failed → counts_now ≡ counts) → GoesOn o v v long long told told failed failed old old counts counts_now
+goes_counts o v long told failed old counts counts_now later unasked =
+    let none = goes_same o v long told failed old counts in record { rest = refl; moved = none.moved; fault = by_failed failed unasked; changed = none.changed; later = later }
   where
-    length_is : Held o v long m → length (stream_of o m) ≡ long
-    length_is h =
-        let all = all_long o v long m h sized in
-        let fits = long_fits o v long m h in
-        ap length (stream_is o v long m h) ∙ length-take-le long (all_of o m) (omega (arith, all, fits))
+    by_failed : (f : Option GrowFault) → (IsSome f → counts_now ≡ counts) → HasFault o v long told f f counts counts_now
+    by_failed None same = tt
+    by_failed (Some fault) same = (refl, same refl)
+
+-- what only read goes on
+pub read_goes : (o : Origin) (v now : Room) (l0 l1 : ℕ) (s0 s1 t0 t1 : Option (ℕ → Option (List ℕ))) (f0 f1 : Option GrowFault) (c0 c1 : ℕ → Bool) (p0 p1 : ℕ) (n0 n1 : Counts)
+    → s1 ≡ s0 → IsRead v now l0 l1 t0 t1 f0 f1 c0 c1 p0 p1 n0 n1 → GoesOn o v now l0 l1 (known f0 s0 t0) (known f1 s1 t1) f0 f1 c0 c1 n0 n1
+read_goes o v now l0 l1 s0 s1 t0 t1 f0 f1 c0 c1 p0 p1 n0 n1 start read =
+    let same = goes_counts o v l0 (known f0 s0 t0) f0 c0 n0 n1 read.later read.unasked in
+    let told : known f1 s1 t1 ≡ known f0 s0 t0 =
+    ap (λ (f : Option GrowFault). known f s1 t1) read.failed
+    ∙ ap (λ (s : Option (ℕ → Option (List ℕ))). known f0 s t1) start
+    ∙ ap (known f0 s0) read.told in
+    subst (λ (x : Room). GoesOn o v x l0 l1 (known f0 s0 t0) (known f1 s1 t1) f0 f1 c0 c1 n0 n1) (sym read.room)
+    (subst (λ (l : ℕ). GoesOn o v v l0 l (known f0 s0 t0) (known f1 s1 t1) f0 f1 c0 c1 n0 n1) (sym read.length)
+    (subst (λ (t : Option (ℕ → Option (List ℕ))). GoesOn o v v l0 l0 (known f0 s0 t0) t f0 f1 c0 c1 n0 n1) (sym told)
+    (subst (λ (f : Option GrowFault). GoesOn o v v l0 l0 (known f0 s0 t0) (known f0 s0 t0) f0 f c0 c1 n0 n1) (sym read.failed)
+    (subst (λ (c : ℕ → Bool). GoesOn o v v l0 l0 (known f0 s0 t0) (known f0 s0 t0) f0 f0 c0 c n0 n1) (sym read.changed) same))))
+
+-- pages were read, and none had failed to be added
+pub read_quiet : (v : Room) (long : ℕ) (failed : Option GrowFault) (told told_now : Option (ℕ → Option (List ℕ))) (old new : ℕ → Bool) (pairs pairs_now : ℕ) (counts counts_now : Counts) → failed ≡ None → told_now ≡ told → new ≡ old → pairs_now ≡ pairs → AreLater counts counts_now
+    → IsRead v v long long told told_now failed failed old new pairs pairs_now counts counts_now
+read_quiet v long failed told told_now old new pairs pairs_now counts counts_now none same changed as_many later = record {
+  room = refl;
+  length = refl;
+  told = same;
+  failed = refl;
+  changed = changed;
+  pairs = as_many;
+  later = later;
+  unasked = λ some. let bad : false ≡ true = subst (λ (f : Option GrowFault). IsSome f) none some in cc;
+}
+
+-- a reader's calls: none, and some behind others
+pub only_none : (long : ℕ) (told : Option (ℕ → Option (List ℕ))) (old : ℕ → Bool) (n : ℕ) (counts : Counts) → OnlyReads long long told told old old n n counts counts
+only_none long told old n counts = record { length = refl; told = refl; changed = refl; pairs = refl; later = later_none counts }
+
+pub only_twice : (l0 l1 l2 : ℕ) (t0 t1 t2 : Option (ℕ → Option (List ℕ))) (c0 c1 c2 : ℕ → Bool) (p0 p1 p2 : ℕ) (n0 n1 n2 : Counts) → OnlyReads l0 l1 t0 t1 c0 c1 p0 p1 n0 n1 → OnlyReads l1 l2 t1 t2 c1 c2 p1 p2 n1 n2 → OnlyReads l0 l2 t0 t2 c0 c2 p0 p2 n0 n2
+only_twice l0 l1 l2 t0 t1 t2 c0 c1 c2 p0 p1 p2 n0 n1 n2 one two = record {
+  length = two.length ∙ one.length;
+  told = two.told ∙ one.told;
+  changed = two.changed ∙ one.changed;
+  pairs = two.pairs ∙ one.pairs;
+  later = later_twice n0 n1 n2 one.later two.later;
+}
+
+-- the cause behind a reader's calls is one before them
+pub only_cause : (l0 l1 : ℕ) (t0 t1 : Option (ℕ → Option (List ℕ))) (c0 c1 : ℕ → Bool) (p0 p1 : ℕ) (n0 n1 n2 : Counts) (fault : GrowFault) → OnlyReads l0 l1 t0 t1 c0 c1 p0 p1 n0 n1 → IsReadCause t1 n1 n2 fault → IsReadCause t0 n0 n2 fault
+only_cause l0 l1 t0 t1 c0 c1 p0 p1 n0 n1 n2 fault one cause = record {
+  block = cause.block;
+  below = grow_longer n0 n1 n2 one.later fault cause.below;
+  sound = λ some. cause.sound (subst (λ (t : Option (ℕ → Option (List ℕ))). IsSome t) (sym one.told) some);
+}

@@ -3,7 +3,7 @@ use Rattle.std.specs.Prelude.{◌≡◌, ℕ, pos, List, [], true, Option, Some,
 use Rattle.bfs_bitmap.specs.Runs.{Room, is_free}
 use Rattle.bfs_stream.specs.Sizes.{Origin}
 use Rattle.bfs_stream.specs.Places.{fields, places_at, bytes_at}
-use Rattle.bfs_stream.specs.Told.{contents, AreTold}
+use Rattle.bfs_stream.specs.Told.{contents, AreTold, Stands}
 use Rattle.bfs_stream.specs.Grown.{Owns}
 use Rattle.bfs_stream.specs.declared.fault.GrowFault.{GrowFault}
 
@@ -12,6 +12,12 @@ pub record Held (o : Origin) (v : Room) (long : ℕ) (m : ℕ → Option (List �
   pub owns : Owns o v [] m
   pub told : AreTold m (places_at o.sizes (contents m) o.id)
   pub spare : (k : ℕ) → is_free v m k ≡ true → IsSome (m k)
+  pub size : (fields o.sizes (contents m) o.id).size ≡ pos long
+
+-- The stream stands, its blocks are told, and it has so many bytes.
+pub record IsReadable (o : Origin) (long : ℕ) (m : ℕ → Option (List ℕ)) : Type 0 where
+  pub stands : Stands o m
+  pub told : AreTold m (places_at o.sizes (contents m) o.id)
   pub size : (fields o.sizes (contents m) o.id).size ≡ pos long
 
 -- the stream's bytes

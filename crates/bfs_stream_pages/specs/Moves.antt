@@ -16,7 +16,7 @@ KeepsInode old new = inode_at new ≡ record (inode_at old) { stream_bytes = (in
 -- was free, and its bit is set; no other bit changed; what is free now was free and is not in it; but for its own blocks and
 -- bits nothing changed, block 0 among the rest; and of the inode the stream alone.
 pub record Moved (o : Origin) (v now : Room) (m map : ℕ → Option (List ℕ)) : Type 0 where
-  pub rest : now ≡ record v { low = now.low }
+  pub rest : now ≡ record v { tally = now.tally }
   pub owns : Owns o now [] map
   pub fresh : List ℕ
   pub places : places_at o.sizes (contents map) o.id ≡ places_at o.sizes (contents m) o.id ++ fresh

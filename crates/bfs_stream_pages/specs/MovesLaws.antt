@@ -50,7 +50,7 @@ none_taken false zero taken = refl
 none_taken b (suc n) taken = let used = taken (omega arith) in used ∙ ap (λ (c : Bool). c && (suc n == 0)) (sym used)
 
 -- a stream that grows only moves on
-pub moved_grown : (o : Origin) (v now : Room) (m : ℕ → Option (List ℕ)) (fresh : List ℕ) (told : Option (ℕ → Option (List ℕ))) (old new : ℕ → Bool) (g : Grown o v now m fresh told old new) → now ≡ record v { low = now.low } → Moved o v now m g.map
+pub moved_grown : (o : Origin) (v now : Room) (m : ℕ → Option (List ℕ)) (fresh : List ℕ) (told : Option (ℕ → Option (List ℕ))) (old new : ℕ → Bool) (g : Grown o v now m fresh told old new) → now ≡ record v { tally = now.tally } → Moved o v now m g.map
 moved_grown o v now m fresh told old new g rest = record {
   rest = rest;
   owns = g.owns;
@@ -125,7 +125,7 @@ module _ (o : Origin) (v now later : Room) (m mid map : ℕ → Option (List ℕ
 
   pub moved_twice : Moved o v later m map
   moved_twice = record {
-    rest = two.rest ∙ ap (λ (x : Room). record x { low = later.low }) one.rest;
+    rest = two.rest ∙ ap (λ (x : Room). record x { tally = later.tally }) one.rest;
     owns = two.owns;
     fresh = one.fresh ++ two.fresh;
     places = two.places ∙ ap (λ (l : List ℕ). l ++ two.fresh) one.places ∙ append_assoc (places_at o.sizes (contents m) o.id) one.fresh two.fresh;

@@ -12,16 +12,16 @@ ghost use Rattle.bfs_stream.specs.Places.{places_at};
 ghost use Rattle.bfs_stream.specs.Told.{contents, AreTold, Stands};
 ghost use Rattle.bfs_stream.specs.Grown.{IsOfVolume, KeepsRest};
 ghost use Rattle.bfs_stream.specs.Faults.{IsGrowCause, IsGrowFault};
-ghost use Rattle.bfs_stream_pages.specs.Held.{Held, stream_of};
+ghost use Rattle.bfs_stream_pages.specs.Held.{Held, IsReadable, stream_of};
 ghost use Rattle.bfs_stream_pages.specs.Moves.{KeepsInode};
-ghost use Rattle.bfs_stream_pages.specs.Causes.{HasFailed};
+ghost use Rattle.bfs_stream_pages.specs.Causes.{HasFailed, IsOfBlock};
 ghost use Rattle.bfs_stream_pages.specs.Steps.{IsUndamaged, HasRoom, HasWritten, HasSize, HasAdded};
 
 use bfs_bitmap::Bitmap;
 use bfs_inode::InodeMut;
 use bfs_stream::{GrowFault, Stream, StreamFault};
 use bfs_super::Super;
-use bfs_txn::{BlockFault, Edits};
+use bfs_txn::{BlockFault, Blocks, Edits};
 use std::alloc::Global;
 use std::marker::Model;
 
@@ -49,7 +49,7 @@ impl Backing {
     ghost use Rattle.bfs_stream.specs.Sizes.{Origin};
 
     /// The stream of the inode at this block. Takes no memory.
-    pub(crate) fn at(alloc: Global, inode: u64, sup: &Super) -> Backing
+    pub fn at(alloc: Global, inode: u64, sup: &Super) -> Backing
         requires valid { IsValid sup.now }
         requires inside { inode < natural sup.now.num_blocks }
         ensures { result ≡ record { id = inode; sizes = sizes_of sup.now } }
@@ -84,34 +84,36 @@ impl Backing {
     }
 
     /// Reads the stream's block at a place, and gives its number.
-    pub(crate) fn load<E: Edits>(
+    pub(crate) fn load<B: Blocks>(
         &mut self,
-        edits: &mut E,
+        under: &mut B,
         index: u64,
         block: &mut [u8],
     ) -> Result<u64, GrowFault>
-        requires size { E.size edits.old ≡ self.old.sizes.block_size }
+        requires size { B.size under.old ≡ self.old.sizes.block_size }
         requires block { length block.old ≡ self.old.sizes.block_size }
-        ensures found { (m : ℕ → Option (List ℕ)) → E.told edits.old ≡ Some m → Stands self.old m → AreTold m (places_at self.old.sizes (contents m) self.old.id) → IfOk result (λ n. (slice_get (places_at self.old.sizes (contents m) self.old.id) index ≡ Some n) × (block.new ≡ contents m n)) }
-        ensures sound { (m : ℕ → Option (List ℕ)) → E.told edits.old ≡ Some m → Stands self.old m → index < length (places_at self.old.sizes (contents m) self.old.id) → IfErr result IsUndamaged }
+        ensures found { (m : ℕ → Option (List ℕ)) → B.told under.old ≡ Some m → Stands self.old m → AreTold m (places_at self.old.sizes (contents m) self.old.id) → IfOk result (λ n. (slice_get (places_at self.old.sizes (contents m) self.old.id) index ≡ Some n) × (block.new ≡ contents m n)) }
+        ensures sound { (m : ℕ → Option (List ℕ)) → B.told under.old ≡ Some m → Stands self.old m → index < length (places_at self.old.sizes (contents m) self.old.id) → IfErr result IsUndamaged }
         ensures below { IfOk result (λ n. n < self.old.sizes.blocks) }
         ensures length { length block.new ≡ self.old.sizes.block_size }
         ensures same { self.new ≡ self.old }
-        ensures told { E.told edits.new ≡ E.told edits.old }
-        ensures changed { E.changed edits.new ≡ E.changed edits.old }
-        ensures size { E.size edits.new ≡ E.size edits.old }
-        ensures frame { E.frame edits.new ≡ E.frame edits.old }
-        ensures later { AreLater (E.counts edits.old) (E.counts edits.new) }
-        ensures cause { IfErr result (IsGrowCause 1 (E.counts edits.old) (E.counts edits.new)) }
+        ensures told { B.told under.new ≡ B.told under.old }
+        ensures changed { B.changed under.new ≡ B.changed under.old }
+        ensures pairs { B.pairs under.new ≡ B.pairs under.old }
+        ensures size { B.size under.new ≡ B.size under.old }
+        ensures frame { B.frame under.new ≡ B.frame under.old }
+        ensures later { AreLater (B.counts under.old) (B.counts under.new) }
+        ensures block { IfErr result IsOfBlock }
+        ensures cause { IfErr result (IsGrowCause 1 (B.counts under.old) (B.counts under.new)) }
     {
-        let number = match self.stream.block(edits, index) {
+        let number = match self.stream.block(under, index) {
             Ok(number) => number,
             Err(StreamFault::PastEnd { .. }) => {
                 return Err(GrowFault::Block(BlockFault::Damaged { block: self.inode }));
             }
             Err(StreamFault::Block(fault)) => return Err(GrowFault::Block(fault)),
         };
-        match edits.get(number, block) {
+        match under.get(number, block) {
             Ok(()) => {}
             Err(fault) => return Err(GrowFault::Block(fault)),
         }
@@ -119,30 +121,32 @@ impl Backing {
     }
 
     /// Reads a page of the stream from a block's byte on. The buffer then has that block.
-    pub(crate) fn read_page<E: Edits>(
+    pub(crate) fn read_page<B: Blocks>(
         &mut self,
-        edits: &mut E,
+        under: &mut B,
         block: &mut [u8],
         index: u64,
         start: usize,
         into: &mut [u8],
     ) -> Result<(), GrowFault>
-        requires size { E.size edits.old ≡ self.old.sizes.block_size }
+        requires size { B.size under.old ≡ self.old.sizes.block_size }
         requires block { length block.old ≡ self.old.sizes.block_size }
         requires page { length into.old ≡ 1024 }
         requires inside { start + 1024 ≤ self.old.sizes.block_size }
-        ensures page { (v : Room) (long : ℕ) (m : ℕ → Option (List ℕ)) → E.told edits.old ≡ Some m → Held self.old v long m → self.old.sizes.block_size * index + start + 1024 ≤ long → OnOk result (into.new ≡ page_at (stream_of self.old m) (self.old.sizes.block_size * index + start)) }
-        ensures sound { (m : ℕ → Option (List ℕ)) → E.told edits.old ≡ Some m → Stands self.old m → index < length (places_at self.old.sizes (contents m) self.old.id) → IfErr result IsUndamaged }
+        ensures page { (long : ℕ) (m : ℕ → Option (List ℕ)) → B.told under.old ≡ Some m → IsReadable self.old long m → self.old.sizes.block_size * index + start + 1024 ≤ long → OnOk result (into.new ≡ page_at (stream_of self.old m) (self.old.sizes.block_size * index + start)) }
+        ensures sound { (m : ℕ → Option (List ℕ)) → B.told under.old ≡ Some m → Stands self.old m → index < length (places_at self.old.sizes (contents m) self.old.id) → IfErr result IsUndamaged }
         ensures length { length into.new ≡ 1024 }
         ensures same { self.new ≡ self.old }
-        ensures told { E.told edits.new ≡ E.told edits.old }
-        ensures changed { E.changed edits.new ≡ E.changed edits.old }
-        ensures size { E.size edits.new ≡ E.size edits.old }
-        ensures frame { E.frame edits.new ≡ E.frame edits.old }
-        ensures later { AreLater (E.counts edits.old) (E.counts edits.new) }
-        ensures cause { IfErr result (IsGrowCause 1 (E.counts edits.old) (E.counts edits.new)) }
+        ensures told { B.told under.new ≡ B.told under.old }
+        ensures changed { B.changed under.new ≡ B.changed under.old }
+        ensures pairs { B.pairs under.new ≡ B.pairs under.old }
+        ensures size { B.size under.new ≡ B.size under.old }
+        ensures frame { B.frame under.new ≡ B.frame under.old }
+        ensures later { AreLater (B.counts under.old) (B.counts under.new) }
+        ensures block { IfErr result IsOfBlock }
+        ensures cause { IfErr result (IsGrowCause 1 (B.counts under.old) (B.counts under.new)) }
     {
-        match self.load(edits, index, block) {
+        match self.load(under, index, block) {
             Ok(_) => {}
             Err(fault) => return Err(fault),
         }
@@ -162,7 +166,7 @@ impl Backing {
         ensures room { (long : ℕ) (m : ℕ → Option (List ℕ)) → E.told edits.old ≡ Some m → Held self.old bitmap.old long m → self.old.sizes.block_size * index ≤ long → OnOk result (HasRoom self.old bitmap.old bitmap.new long m index (E.told edits.new) (E.changed edits.old) (E.changed edits.new)) }
         ensures faults { (long : ℕ) (m : ℕ → Option (List ℕ)) → E.told edits.old ≡ Some m → Held self.old bitmap.old long m → self.old.sizes.block_size * index ≤ long → IfErr result (IsGrowFault self.old bitmap.old m 1) }
         ensures same { self.new ≡ self.old }
-        ensures rest { bitmap.new ≡ record bitmap.old { low = bitmap.new.low } }
+        ensures rest { bitmap.new ≡ record bitmap.old { tally = bitmap.new.tally } }
         ensures changed { (k : ℕ) → E.changed edits.new k ≡ true → (E.changed edits.old k ≡ true) ⊎ (IsBitmapBlock bitmap.old k ⊎ (k < self.old.sizes.blocks)) }
         ensures size { E.size edits.new ≡ E.size edits.old }
         ensures frame { E.frame edits.new ≡ E.frame edits.old }
@@ -212,7 +216,7 @@ impl Backing {
     }
 
     /// Writes the stream's size in bytes into the inode. The buffer then has the inode's block.
-    pub(crate) fn put_size<E: Edits>(
+    pub fn put_size<E: Edits>(
         &mut self,
         edits: &mut E,
         block: &mut [u8],
@@ -261,7 +265,7 @@ impl Backing {
         ensures added { (m : ℕ → Option (List ℕ)) → E.told edits.old ≡ Some m → Held self.old bitmap.old at m → OnOk result (HasAdded self.old bitmap.old bitmap.new (at + 1024) m from.now (E.told edits.new) (E.changed edits.old) (E.changed edits.new)) }
         ensures faults { (m : ℕ → Option (List ℕ)) → E.told edits.old ≡ Some m → Held self.old bitmap.old at m → IfErr result (HasFailed self.old bitmap.old m) }
         ensures same { self.new ≡ self.old }
-        ensures rest { bitmap.new ≡ record bitmap.old { low = bitmap.new.low } }
+        ensures rest { bitmap.new ≡ record bitmap.old { tally = bitmap.new.tally } }
         ensures changed { (k : ℕ) → E.changed edits.new k ≡ true → (E.changed edits.old k ≡ true) ⊎ (IsBitmapBlock bitmap.old k ⊎ (k < self.old.sizes.blocks)) }
         ensures size { E.size edits.new ≡ E.size edits.old }
         ensures frame { E.frame edits.new ≡ E.frame edits.old }

@@ -3,11 +3,18 @@
 #![tactic(auto)]
 
 mod backing;
+mod fault;
 mod laws;
 mod pages;
+mod reader;
 
+pub use backing::Backing;
+pub use fault::MapFault;
 pub use laws::others_stay;
 pub use pages::StreamPages;
+pub use reader::StreamReader;
 
+#[cfg(test)]
+mod reader_tests;
 #[cfg(test)]
 mod tests;

@@ -97,11 +97,11 @@ impl<E: Edits> Pages for StreamPages<'_, '_, E> {
     ghost use Rattle.std.specs.Prelude.{◌≡◌, ◌∷◌, [], refl, List};
     ghost use Rattle.std.specs.Option.{option_map};
     ghost use Rattle.bfs_stream_pages.specs.Held.{known, stream_of};
-    ghost use Rattle.bfs_stream_pages.specs.Goes.{GoesOn};
+    ghost use Rattle.bfs_stream_pages.specs.Goes.{GoesOn, IsRead};
     ghost use Rattle.bfs_stream_pages.specs.Causes.{IsPageCause};
-    ghost use Rattle.std.proofs.Common.{◌∙◌, subst};
+    ghost use Rattle.std.proofs.Common.{◌∙◌, subst, ap};
     ghost use Rattle.bfs_stream.specs.Sizes.{Origin};
-    ghost use Rattle.bfs_stream_pages.specs.GoesLaws.{goes_same, goes_twice, cause_before, told_sized, known_sized};
+    ghost use Rattle.bfs_stream_pages.specs.GoesLaws.{goes_same, goes_twice, cause_before, told_sized, known_sized, read_same, read_twice, read_goes};
 
     type Fault = GrowFault;
 
@@ -117,11 +117,19 @@ impl<E: Edits> Pages for StreamPages<'_, '_, E> {
 
     ghost goes_on = { λ p q. (q.backing ≡ p.backing) × (E.frame q.edits.now ≡ E.frame p.edits.now) × GoesOn p.backing p.bitmap.now q.bitmap.now p.length q.length (known p.failed (E.told p.start.value) (E.told p.edits.now)) (known q.failed (E.told q.start.value) (E.told q.edits.now)) p.failed q.failed (E.changed p.edits.now) (E.changed q.edits.now) (E.counts p.edits.now) (E.counts q.edits.now) };
 
+    ghost is_read = { λ p q. (q.backing ≡ p.backing) × (q.start.value ≡ p.start.value) × (E.frame q.edits.now ≡ E.frame p.edits.now) × (q.edits.ghost_name ≡ p.edits.ghost_name) × (q.bitmap.ghost_name ≡ p.bitmap.ghost_name) × IsRead p.bitmap.now q.bitmap.now p.length q.length (E.told p.edits.now) (E.told q.edits.now) p.failed q.failed (E.changed p.edits.now) (E.changed q.edits.now) (E.pairs p.edits.now) (E.pairs q.edits.now) (E.counts p.edits.now) (E.counts q.edits.now) };
+
     ghost is_cause = { λ p q fault. IsPageCause p.backing p.bitmap.now p.length (known p.failed (E.told p.start.value) (E.told p.edits.now)) p.failed (E.counts p.edits.now) (E.counts q.edits.now) fault };
 
     ghost goes_on_same = { λ p. (refl, refl, goes_same p.backing p.bitmap.now p.length (known p.failed (E.told p.start.value) (E.told p.edits.now)) p.failed (E.changed p.edits.now) (E.counts p.edits.now)) };
 
     ghost goes_on_twice = { λ p q r a b. (b.0 ∙ a.0, b.1 ∙ a.1, goes_twice p.backing p.bitmap.now q.bitmap.now r.bitmap.now p.length q.length r.length (known p.failed (E.told p.start.value) (E.told p.edits.now)) (known q.failed (E.told q.start.value) (E.told q.edits.now)) (known r.failed (E.told r.start.value) (E.told r.edits.now)) p.failed q.failed r.failed (E.changed p.edits.now) (E.changed q.edits.now) (E.changed r.edits.now) (E.counts p.edits.now) (E.counts q.edits.now) (E.counts r.edits.now) a.2 (subst (λ (o : Origin). GoesOn o q.bitmap.now r.bitmap.now q.length r.length (known q.failed (E.told q.start.value) (E.told q.edits.now)) (known r.failed (E.told r.start.value) (E.told r.edits.now)) q.failed r.failed (E.changed q.edits.now) (E.changed r.edits.now) (E.counts q.edits.now) (E.counts r.edits.now)) a.0 b.2)) };
+
+    ghost is_read_same = { λ p. (refl, refl, refl, refl, refl, read_same p.bitmap.now p.length (E.told p.edits.now) p.failed (E.changed p.edits.now) (E.pairs p.edits.now) (E.counts p.edits.now)) };
+
+    ghost is_read_twice = { λ p q r a b. (b.0 ∙ a.0, b.1 ∙ a.1, b.2 ∙ a.2, b.3 ∙ a.3, b.4 ∙ a.4, read_twice p.bitmap.now q.bitmap.now r.bitmap.now p.length q.length r.length (E.told p.edits.now) (E.told q.edits.now) (E.told r.edits.now) p.failed q.failed r.failed (E.changed p.edits.now) (E.changed q.edits.now) (E.changed r.edits.now) (E.pairs p.edits.now) (E.pairs q.edits.now) (E.pairs r.edits.now) (E.counts p.edits.now) (E.counts q.edits.now) (E.counts r.edits.now) a.5 b.5) };
+
+    ghost is_read_on = { λ p q a. (a.0, a.2, read_goes p.backing p.bitmap.now q.bitmap.now p.length q.length (E.told p.start.value) (E.told q.start.value) (E.told p.edits.now) (E.told q.edits.now) p.failed q.failed (E.changed p.edits.now) (E.changed q.edits.now) (E.pairs p.edits.now) (E.pairs q.edits.now) (E.counts p.edits.now) (E.counts q.edits.now) (ap (λ (e : E). E.told e) a.1) a.5) };
 
     ghost is_cause_before = { λ p q r fault a b. cause_before p.backing p.bitmap.now q.bitmap.now p.length q.length (known p.failed (E.told p.start.value) (E.told p.edits.now)) (known q.failed (E.told q.start.value) (E.told q.edits.now)) p.failed q.failed (E.changed p.edits.now) (E.changed q.edits.now) (E.counts p.edits.now) (E.counts q.edits.now) (E.counts r.edits.now) fault a.2 (subst (λ (o : Origin). IsPageCause o q.bitmap.now q.length (known q.failed (E.told q.start.value) (E.told q.edits.now)) q.failed (E.counts q.edits.now) (E.counts r.edits.now) fault) a.0 b) };
 

@@ -25,6 +25,7 @@ struct Silent {
 
 impl Blocks for Silent {
     ghost use Rattle.std.specs.Prelude.{None, [], false};
+    ghost use Rattle.bfs_txn.specs.Told.{read_last};
 
     ghost told = { λ s. None };
 
@@ -36,7 +37,11 @@ impl Blocks for Silent {
 
     ghost pairs = { λ s. 0 };
 
-    ghost frame = { λ s. record { names = []; kept = []; below = None } };
+    ghost last = { λ s. read_last s.blocks };
+
+    ghost Note = { Unit {0} };
+
+    ghost frame = { λ s. record { note = tt; names = []; kept = []; below = None } };
 
     ghost sized = { λ s. tt };
 
@@ -46,7 +51,7 @@ impl Blocks for Silent {
 }
 
 /// The superblock of a volume with blocks of this size, 4,096 of them behind two whole groups.
-fn superblock(size: u32, shift: u32) -> Result<Super, SuperFault>
+pub(crate) fn superblock(size: u32, shift: u32) -> Result<Super, SuperFault>
     requires small { size ≤ 8192 }
     requires low { shift ≤ 13 }
     ensures valid { IfOk result IsValid }
@@ -108,7 +113,7 @@ fn added<E: Edits>(
     requires whole { length % 1024 ≡ 0 }
     requires held { (m : ℕ → Option (List ℕ)) → E.told edits.old ≡ Some m → ∥ Held (record { id = inode; sizes = sizes_of sup.now }) bitmap.old length m ∥₁ }
     ensures size { E.size edits.new ≡ E.size edits.old }
-    ensures rest { bitmap.new ≡ record bitmap.old { low = bitmap.new.low } }
+    ensures rest { bitmap.new ≡ record bitmap.old { tally = bitmap.new.tally } }
 {
     let mut pages = StreamPages::over(alloc, edits, bitmap, inode, sup, length);
     pages.append(&[fill; 1024])
@@ -134,7 +139,7 @@ fn written<E: Edits>(
     requires place { at % 1024 ≡ 0 }
     requires low { at < length }
     ensures size { E.size edits.new ≡ E.size edits.old }
-    ensures rest { bitmap.new ≡ record bitmap.old { low = bitmap.new.low } }
+    ensures rest { bitmap.new ≡ record bitmap.old { tally = bitmap.new.tally } }
 {
     let mut pages = StreamPages::over(alloc, edits, bitmap, inode, sup, length);
     pages.set(at, &[fill; 1024])
@@ -163,7 +168,7 @@ fn read<E: Edits, L: Ledger>(
     requires place { at % 1024 ≡ 0 }
     requires low { at < length }
     ensures size { E.size edits.new ≡ E.size edits.old }
-    ensures rest { bitmap.new ≡ record bitmap.old { low = bitmap.new.low } }
+    ensures rest { bitmap.new ≡ record bitmap.old { tally = bitmap.new.tally } }
 {
     let mut steps = Steps::<L>::begin(ledger);
     let mut into = [0u8; 1024];
@@ -193,7 +198,7 @@ fn is_read(
     requires place { at % 1024 ≡ 0 }
     requires low { at < length }
     ensures size { edits.new.under.now.blocks.block_size ≡ edits.old.under.now.blocks.block_size }
-    ensures rest { bitmap.new ≡ record bitmap.old { low = bitmap.new.low } }
+    ensures rest { bitmap.new ≡ record bitmap.old { tally = bitmap.new.tally } }
 {
     match read::<Overlay<'_, Silent>, Brand>(
         alloc,
@@ -223,7 +228,7 @@ fn add_by_turns(
     requires size { edits.old.under.now.blocks.block_size ≡ sup.now.block_size }
     requires volume { IsOfVolume (sizes_of sup.now) bitmap.old }
     ensures size { edits.new.under.now.blocks.block_size ≡ edits.old.under.now.blocks.block_size }
-    ensures rest { bitmap.new ≡ record bitmap.old { low = bitmap.new.low } }
+    ensures rest { bitmap.new ≡ record bitmap.old { tally = bitmap.new.tally } }
 {
     for i in 0..count {
         let length = 1024 * u64::from(i);
@@ -253,7 +258,7 @@ fn are_read(
     requires size { edits.old.under.now.blocks.block_size ≡ sup.now.block_size }
     requires volume { IsOfVolume (sizes_of sup.now) bitmap.old }
     ensures size { edits.new.under.now.blocks.block_size ≡ edits.old.under.now.blocks.block_size }
-    ensures rest { bitmap.new ≡ record bitmap.old { low = bitmap.new.low } }
+    ensures rest { bitmap.new ≡ record bitmap.old { tally = bitmap.new.tally } }
 {
     let length = 1024 * u64::from(count);
     let mut right = true;

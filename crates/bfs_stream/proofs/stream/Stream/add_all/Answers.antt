@@ -9,7 +9,7 @@ use Rattle.bfs_stream.proofs.stream.Stream.add_all.Goals as goal
 
 pub loop-left-preserved : goal.loop-left-preserved
 loop-left-preserved g c =
-    let rest = c.in-Ok.ensures.rest ∙ ap (λ (x : Room). record x { low = c.add.new.bitmap.low }) c.loop-left.invariant.rest in
+    let rest = c.in-Ok.ensures.rest ∙ ap (λ (x : Room). record x { tally = c.add.new.bitmap.tally }) c.loop-left.invariant.rest in
     record {
       long = c.in-Ok.ensures.length;
       size = c.in-Ok.ensures.size ∙ c.loop-left.invariant.size;

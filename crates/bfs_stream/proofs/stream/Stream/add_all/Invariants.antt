@@ -13,7 +13,7 @@ invariant-loop-left g l = record {
   long : length l.bytes ≡ l.self.sizes.block_size;
   size : g.E.Blocks.size l.edits ≡ g.E.Blocks.size l.fn.edits;
   frame : g.E.Blocks.frame l.edits ≡ g.E.Blocks.frame l.fn.edits;
-  rest : l.bitmap ≡ record l.fn.bitmap { low = l.bitmap.low };
+  rest : l.bitmap ≡ record l.fn.bitmap { tally = l.bitmap.tally };
   volume : IsOfVolume l.self.sizes l.bitmap;
   grown : (m : ℕ → Option (List ℕ)) → g.E.Blocks.told l.fn.edits ≡ Some m → Owns l.self l.fn.bitmap [] m → IsGrownSo l.self l.fn.bitmap l.bitmap m l.fn.blocks l.left (g.E.Blocks.told l.edits) (g.E.Blocks.changed l.fn.edits) (g.E.Blocks.changed l.edits);
   left : l.left ≤ l.fn.blocks;

@@ -1,4 +1,4 @@
-use Rattle.std.proofs.Common.{◌≡◌, ◌∙◌, ℕ, List, length, ap, sym, subst, arith}
+use Rattle.std.proofs.Common.{◌≡◌, ◌∙◌, ℕ, List, Option, Some, length, ap, sym, subst, arith}
 use Rattle.std.proofs.lemmas.List.{with_items_is}
 use Rattle.bfs_inode.specs.Inode.{stream_at}
 use Rattle.bfs_stream.specs.Places.{fields, places_at}
@@ -6,7 +6,7 @@ use Rattle.bfs_stream.proofs.Named.{direct_blocks, indirect_blocks, double_block
 use Rattle.bfs_txn.specs.Told.{AreOfBlock}
 use Rattle.bfs_stream.specs.Sizes.{Origin}
 use Rattle.bfs_stream.specs.Told.{contents}
-use Rattle.bfs_stream.specs.Scans.{ends_of, last_end}
+use Rattle.bfs_stream.specs.Scans.{IsDamagedBy, IsLevelRun, ends_of, last_end}
 use Rattle.bfs_stream.proofs.Arrays.{read_is}
 use Rattle.bfs_stream.proofs.Placed.{last_is, ends_are, length-places, told_inode}
 use Rattle.bfs_stream.proofs.stream.Stream.block.Goals as goal
@@ -26,3 +26,24 @@ returns-then-index-blocks-clause-none g c m is stands =
     ∙ last_is ends.direct ends.indirect ends.double (length (direct_blocks o.sizes (contents m) o.id)) (length (indirect_blocks o.sizes (contents m) o.id)) (length (double_blocks o.sizes (contents m) o.id)) are.direct are.indirect are.double are.order
     ∙ sym (length-places o.sizes (contents m) o.id) in
     (last, omega (arith, last))
+
+pub returns-clause-blamed : goal.returns-clause-blamed
+returns-clause-blamed g c =
+    let o = c.args.self.now in
+    let bytes = c.deref_mut-2.result.now in
+    let read : bytes ≡ c.get.new.into = c.deref_mut-2.ensures.value ∙ with_items_is c.in-Ok.bytes c.get.new.into (let a = c.get.auto.into in let b = c.deref_mut.ensures.len in let d = c.deref_mut.ensures.value in let e = c.in-Ok.bytes.ok in omega (arith, a, b)) in
+    let id : c.self.inside.inode ≡ o.id = ap (λ (x : Origin). x.id) c.self.view_is in
+    let pair : ℕ → List ℕ → Option (ℕ × List ℕ) = λ k l. Some (k, l) in
+    let last : g.B.Blocks.last c.get.new.self ≡ Some (o.id, bytes) = c.in-Ok-get.ensures.last ∙ ap (λ (l : List ℕ). pair c.self.inside.inode l) (sym read) ∙ ap (λ (k : ℕ). pair k bytes) id in
+    ((ends_of o.sizes (stream_at bytes)).indirect, c.in-Err-in_levels.ensures.blamed last)
+
+pub returns-clause-damaged : goal.returns-clause-damaged
+returns-clause-damaged g c m is some =
+    let o = c.args.self.now in
+    let bytes = c.deref_mut-2.result.now in
+    let id : c.self.inside.inode ≡ o.id = ap (λ (x : Origin). x.id) c.self.view_is in
+    let of : AreOfBlock (g.B.Blocks.told c.args.under.now) o.id c.get.new.into = subst (λ (k : ℕ). AreOfBlock (g.B.Blocks.told c.args.under.now) k c.get.new.into) id c.in-Ok-get.ensures.bytes in
+    let read : bytes ≡ contents m o.id =
+    c.deref_mut-2.ensures.value ∙ with_items_is c.in-Ok.bytes c.get.new.into (let a = c.get.auto.into in let b = c.deref_mut.ensures.len in let d = c.deref_mut.ensures.value in let e = c.in-Ok.bytes.ok in omega (arith, a, b)) ∙ read_is m (g.B.Blocks.told c.args.under.now) o.id c.get.new.into is some of in
+    subst (λ (l : List ℕ). IsDamagedBy o.sizes m o.id (IsLevelRun o.sizes (ends_of o.sizes (stream_at l)).indirect c.args.index) c.in-Err-in_levels.fault) read
+    (c.in-Err-in_levels.ensures.damaged m (c.in-Ok-get.ensures.told ∙ is))

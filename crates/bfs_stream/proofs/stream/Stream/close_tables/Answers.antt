@@ -10,7 +10,7 @@ use Rattle.bfs_stream.proofs.stream.Stream.close_tables.Goals as goal
 
 pub loop-now-preserved : goal.loop-now-preserved
 loop-now-preserved g c =
-    let rest = c.in-Ok.ensures.rest ∙ ap (λ (x : Room). record x { given = c.close_table.new.bitmap.given }) c.loop-now.invariant.rest in
+    let rest = c.in-Ok.ensures.rest ∙ ap (λ (x : Room). record x { given = c.close_table.new.bitmap.given; tally = c.close_table.new.bitmap.tally }) c.loop-now.invariant.rest in
     let per : c.table_length-per_table.result ≡ array_length c.args.self.now.sizes * runs_per_block c.args.self.now.sizes = c.table_length-per_table.ensures.value in
     let spare = c.is_spare.ensures.spare c.loop-now-test.true in
     record {

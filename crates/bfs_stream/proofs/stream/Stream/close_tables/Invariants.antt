@@ -14,7 +14,7 @@ invariant-loop-now g l = record {
   long : length l.bytes ≡ l.self.sizes.block_size;
   size : g.E.Blocks.size l.edits ≡ g.E.Blocks.size l.fn.edits;
   frame : g.E.Blocks.frame l.edits ≡ g.E.Blocks.frame l.fn.edits;
-  rest : l.bitmap ≡ record l.fn.bitmap { given = l.bitmap.given };
+  rest : l.bitmap ≡ record l.fn.bitmap { given = l.bitmap.given; tally = l.bitmap.tally };
   volume : IsOfVolume l.self.sizes l.bitmap;
   few : l.listed ≤ array_length l.self.sizes * runs_per_block l.self.sizes;
   used : l.fn.tables.used ≤ l.listed * (array_length l.self.sizes * runs_per_block l.self.sizes);

@@ -21,7 +21,7 @@ loop-gone-init g c = record {
 
 pub loop-gone-preserved : goal.loop-gone-preserved
 loop-gone-preserved g c =
-    let rest = c.in-Ok.ensures.rest ∙ ap (λ (x : Room). record x { given = c.cut.new.bitmap.given }) c.loop-gone.invariant.rest in
+    let rest = c.in-Ok.ensures.rest ∙ ap (λ (x : Room). record x { given = c.cut.new.bitmap.given; tally = c.cut.new.bitmap.tally }) c.loop-gone.invariant.rest in
     record {
       long = c.in-Ok.ensures.length;
       size = c.in-Ok.ensures.size ∙ c.loop-gone.invariant.size;

@@ -14,7 +14,7 @@ invariant-loop-gone g l = record {
   long : length l.bytes ≡ l.self.sizes.block_size;
   size : g.E.Blocks.size l.edits ≡ g.E.Blocks.size l.fn.edits;
   frame : g.E.Blocks.frame l.edits ≡ g.E.Blocks.frame l.fn.edits;
-  rest : l.bitmap ≡ record l.fn.bitmap { given = l.bitmap.given };
+  rest : l.bitmap ≡ record l.fn.bitmap { given = l.bitmap.given; tally = l.bitmap.tally };
   volume : IsOfVolume l.self.sizes l.bitmap;
   trimmed : (m : ℕ → Option (List ℕ)) → g.E.Blocks.told l.fn.edits ≡ Some m → Owns l.self l.fn.bitmap [] m → MayLose l.self m l.fn.blocks → IsTrimmedSo l.self l.fn.bitmap l.bitmap m l.fn.blocks l.left (g.E.Blocks.told l.edits) (g.E.Blocks.changed l.fn.edits) (g.E.Blocks.changed l.edits);
   later : AreLater (g.E.Blocks.counts l.fn.edits) (g.E.Blocks.counts l.edits);

@@ -1,4 +1,6 @@
 use Rattle.std.specs.Prelude.{Result, Ok, Err, OnOk}
+use Rattle.std.proofs.Common.{ap}
+use Rattle.bfs_bitmap.specs.Runs.{Room}
 use Rattle.bfs_txn.specs.declared.fault.BlockFault.{BlockFault}
 use Rattle.bfs_stream.proofs.Giving.{gave_is}
 use Rattle.bfs_stream.proofs.stream.Stream.give.Goals as goal
@@ -10,4 +12,4 @@ both (Err x) p q f = p
 pub returns-clause-gave : goal.returns-clause-gave
 returns-clause-gave g c m is fits =
     both c.give_back.result c.give_back.ensures.given (c.give_back.ensures.marked m is fits)
-    (λ given mark. gave_is c.args.self.now.sizes c.args.bitmap.now c.give_back.new.self c.args.run m (g.E.Blocks.told c.give_back.new.edits) c.requires.volume given mark)
+    (λ given mark. gave_is c.args.self.now.sizes c.args.bitmap.now c.give_back.new.self c.args.run m (g.E.Blocks.told c.give_back.new.edits) c.requires.volume (ap (λ (v : Room). v.given) given) mark)

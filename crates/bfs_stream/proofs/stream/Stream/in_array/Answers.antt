@@ -78,3 +78,13 @@ returns-in-Broken-clause-damaged g c m is =
     let few : bad.0 < runs_per_block s = let e = c.runs_per_block-runs.ensures.value in let lt = bad.1 in omega (arith, e, lt) in
     inr (read_other s (IsUsed s) m (g.B.Blocks.told c.loop-i.under) (c.first_block-first.result + c.loop-i.i) c.get.new.into (c.loop-i.invariant.told ∙ is) c.in-Ok.ensures.bytes
     (bad.0, few, let e : 0 + 8 * bad.0 ≡ 8 * bad.0 = omega arith in subst (λ (n : ℕ). ¬ IsUsed s (run_in c.get.new.into n)) e bad.2))
+
+pub returns-in-Broken-clause-blamed : goal.returns-in-Broken-clause-blamed
+returns-in-Broken-clause-blamed g c =
+    let s = c.args.self.now.sizes in
+    let bad = c.in-Broken.ensures.broken in
+    let few : bad.0 < runs_per_block s = let e = c.runs_per_block-runs.ensures.value in let lt = bad.1 in omega (arith, e, lt) in
+    (c.get.new.into, c.in-Ok.ensures.last, inr (bad.0, few, let e : 0 + 8 * bad.0 ≡ 8 * bad.0 = omega arith in subst (λ (n : ℕ). ¬ IsUsed s (run_in c.get.new.into n)) e bad.2))
+
+pub returns-clause-damaged : goal.returns-clause-damaged
+returns-clause-damaged g c m is = c.too_short.ensures.damaged m

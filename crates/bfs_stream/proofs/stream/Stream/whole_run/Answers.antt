@@ -43,3 +43,11 @@ returns-else-is_whole-clause-damaged g c m is =
     let few : c.args.place % runs < runs_per_block s = let e = c.runs_per_block-runs.ensures.value in let lt = mod-lt c.args.place some in omega (arith, e, lt) in
     inr (read_other s (IsWhole s) m (g.B.Blocks.told c.args.under.now) (c.first_block.result + c.args.place / runs) c.get.new.into is c.in-Ok.ensures.bytes
     (c.args.place % runs, few, λ whole. let bad : false ≡ true = c.if-is_whole.ensures.1 (subst (IsWhole s) (sym c.run_at-run.ensures) whole) in cc))
+
+pub returns-else-is_whole-clause-blamed : goal.returns-else-is_whole-clause-blamed
+returns-else-is_whole-clause-blamed g c =
+    let s = c.args.self.now.sizes in
+    let runs = c.runs_per_block-runs.result in
+    let some : 0 < runs = let e = c.runs_per_block-runs.ensures.some in omega (arith, e) in
+    let few : c.args.place % runs < runs_per_block s = let e = c.runs_per_block-runs.ensures.value in let lt = mod-lt c.args.place some in omega (arith, e, lt) in
+    (c.get.new.into, c.in-Ok.ensures.last, inr (c.args.place % runs, few, λ whole. let bad : false ≡ true = c.if-is_whole.ensures.1 (subst (IsWhole s) (sym c.run_at-run.ensures) whole) in cc))

@@ -14,5 +14,5 @@ returns-clause-found g c m is stands told =
     let there : Stands c.self.inside.stream m = subst (λ (x : Origin). Stands x m) (sym c.self.view_is) stands in
     let found : slice_get (places_at o.sizes (contents m) o.id) c.args.index ≡ Some c.in-Ok.number =
     subst (λ (x : Origin). slice_get (places_at x.sizes (contents m) x.id) c.args.index ≡ Some c.in-Ok.number) c.self.view_is (c.in-Ok.ensures.found m is there) in
-    let of : AreOfBlock (g.E.Blocks.told c.args.edits.now) c.in-Ok.number c.get.new.into = subst (λ (t : Option (ℕ → Option (List ℕ))). AreOfBlock t c.in-Ok.number c.get.new.into) c.in-Ok.ensures.told c.in-Ok-get.ensures.bytes in
-    (found, read_is m (g.E.Blocks.told c.args.edits.now) c.in-Ok.number c.get.new.into is (told c.in-Ok.number (counted_at (places_at o.sizes (contents m) o.id) c.args.index c.in-Ok.number found)) of)
+    let of : AreOfBlock (g.B.Blocks.told c.args.under.now) c.in-Ok.number c.get.new.into = subst (λ (t : Option (ℕ → Option (List ℕ))). AreOfBlock t c.in-Ok.number c.get.new.into) c.in-Ok.ensures.told c.in-Ok-get.ensures.bytes in
+    (found, read_is m (g.B.Blocks.told c.args.under.now) c.in-Ok.number c.get.new.into is (told c.in-Ok.number (counted_at (places_at o.sizes (contents m) o.id) c.args.index c.in-Ok.number found)) of)

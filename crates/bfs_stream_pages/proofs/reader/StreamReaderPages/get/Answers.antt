@@ -1,0 +1,22 @@
+use Rattle.std.proofs.Common.{◌∙◌, ℕ, sym, ap, arith}
+use Rattle.bfs_txn.specs.Pages.{page_at}
+use Rattle.bfs_stream_pages.specs.Held.{stream_of}
+use Rattle.bfs_stream_pages.specs.GoesLaws.{reads_fits}
+use Rattle.bfs_stream_pages.proofs.Paged.{index_inside, page_inside}
+use Rattle.bfs_stream_pages.proofs.Readers.{reader_page, reader_cause}
+use Rattle.bfs_stream_pages.proofs.reader.StreamReaderPages.get.Goals as goal
+
+pub returns-clause-page : goal.returns-clause-page
+returns-clause-page g c =
+    let s = c.args.self.now in
+    reader_page s.backing s.length (g.B.Blocks.told s.under.now) s.held c.args.at c.read_page.new.into
+    (λ m is h.
+    let low = page_inside c.args.at s.length c.requires.whole s.whole c.requires.inside in
+    let at = c.place-index.ensures.at in
+    c.in-Ok-read_page.ensures.page s.length m is h (omega (arith, low, at)) ∙ ap (λ (k : ℕ). page_at (stream_of s.backing m) k) (sym at))
+
+pub returns-in-Err-read_page-clause-cause : goal.returns-in-Err-read_page-clause-cause
+returns-in-Err-read_page-clause-cause g c =
+    let s = c.args.self.now in
+    reader_cause s.backing s.length (g.B.Blocks.told s.under.now) (g.B.Blocks.counts s.under.now) (g.B.Blocks.counts c.read_page.new.under) c.in-Err-read_page.fault s.held c.in-Err-read_page.ensures.block c.in-Err-read_page.ensures.cause
+    (λ m is h. c.in-Err-read_page.ensures.sound m is h.stands (index_inside s.backing.sizes.block_size c.args.at c.place-index.result.0 c.place-index.result.1 s.length _ c.place-index.ensures.at c.requires.inside (reads_fits s.backing s.length m h)))

@@ -4,3 +4,4 @@ pub mod Sorting
 pub mod Free
 pub mod Knowns
 pub mod Lasts
+pub mod Follows

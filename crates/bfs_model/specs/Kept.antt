@@ -1,5 +1,5 @@
 -- What the program `Model` keeps, as a state of the plain tree.
-use Rattle.std.specs.Prelude.{ℕ, ℤ, Bool, true, not, ◌&&◌, ◌==◌, ◌-◌, nat_le, nat_lt, reverse, List, map as each}
+use Rattle.std.specs.Prelude.{ℕ, ℤ, Bool, true, false, not, ◌&&◌, ◌==◌, ◌-◌, nat_le, nat_lt, reverse, List, map as each}
 use Rattle.std.specs.Global.{Vec}
 use Rattle.bfs_base.specs.declared.kind.KeyKind.{KeyKind}
 use Rattle.std.specs.FinMap.{FinMap, from_entries, insert, remove}
@@ -15,6 +15,10 @@ use Rattle.bfs_model.specs.declared.nodes.NodeChange.{NodeChange}
 use Rattle.bfs_model.specs.declared.nodes.NodeChange.TheVariants.{Touch, Content, Size, Mode, Name}
 use Rattle.bfs_tree.specs.Trees.{Attribute, Attributes, Node, Nodes}
 use Rattle.bfs_tree.specs.States.{State, Known}
+use Rattle.bfs_tree.specs.Steps.{Step}
+use Rattle.bfs_tree.specs.declared.call.Call.{Call}
+use Rattle.bfs_tree.specs.declared.call.Call.TheVariants as calls
+use Rattle.bfs_tree.specs.declared.reply.Entry.{Entry}
 
 abbrev pub attribute_of : kept_attribute.Attribute → Attribute
 attribute_of a = record { code = a.code; bytes = a.bytes }
@@ -93,3 +97,30 @@ with_attribute name a stamp n = record n { attributes = insert n.attributes name
 
 abbrev pub without_attribute : List ℕ → ℤ → Node → Node
 without_attribute name stamp n = record n { attributes = remove n.attributes name; changed = stamp }
+
+-- the call leaves the state as it is, and has one answer
+abbrev pub is_read : Call → Bool
+is_read (calls.Make dir name kind mode) = false
+is_read (calls.Remove dir name) = false
+is_read (calls.Rename dir name to_dir to_name) = false
+is_read (calls.Lookup dir name) = true
+is_read (calls.List dir) = true
+is_read (calls.Stat id) = true
+is_read (calls.SetMode id mode uid gid) = false
+is_read (calls.SetSize id size) = false
+is_read (calls.ReadLink id) = true
+is_read (calls.AttrWrite id name kind bytes) = false
+is_read (calls.AttrRead id name) = true
+is_read (calls.AttrRemove id name) = false
+is_read (calls.AttrList id) = true
+is_read (calls.IndexMake name kind) = false
+is_read (calls.IndexRemove name) = false
+is_read calls.IndexList = true
+is_read (calls.IndexFind name low high) = true
+is_read (calls.Hold id at count writes) = false
+is_read (calls.Release id bytes whole before after) = false
+is_read calls.Sync = false
+
+-- some state comes after the entry
+abbrev pub IsAStep : State → Entry → Type 0
+IsAStep s entry = (after : State) × Step s entry after

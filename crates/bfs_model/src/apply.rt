@@ -1,7 +1,7 @@
 // One call of any kind.
 ghost use Rattle.std.specs.Prelude.{◌≡◌, ◌↔◌, ◌+◌, ◌-◌, ◌^◌, min, IfOk, IsTrue, OnErr, OnOk};
 ghost use Rattle.bfs_tree.specs.Answers.{IsReady};
-ghost use Rattle.bfs_tree.specs.Steps.{Turn};
+ghost use Rattle.bfs_tree.specs.Steps.{ByTree};
 ghost use Rattle.bfs_tree.specs.Trees.{IsPlain};
 ghost use Rattle.bfs_tree.specs.declared.call.Call.TheVariants as calls;
 ghost use Rattle.bfs_tree.specs.declared.reply.Reply.TheVariants.{Synced};
@@ -13,11 +13,11 @@ use std::alloc::AllocError;
 
 impl Model {
     /// Answers a session's call, of an entry with this stamp, and changes the tree, which stays plain. It is
-    /// never refused for want of room, nor by the disk. A Sync is told the number of calls that were answered
-    /// before it.
+    /// refused by the call's own refusals alone, never for want of room, nor by the disk. A Sync is told the
+    /// number of calls that were answered before it.
     pub fn apply(&mut self, session: u32, call: &Call, stamp: i64) -> Result<Reply, AllocError>
         requires { IsReady session call.now (state_of self.old) }
-        ensures ok { IfOk result (λ reply. Turn session stamp call.now reply (state_of self.old) (state_of self.new)) }
+        ensures ok { IfOk result (λ reply. ByTree session stamp call.now reply (state_of self.old) (state_of self.new)) }
         ensures plain { IsPlain (state_of self.old).tree → IsPlain (state_of self.new).tree }
         ensures upto { call.now ≡ calls.Sync → IfOk result (λ reply. reply ≡ Synced self.old.answered) }
         ensures counted { OnOk result (self.new.answered ≡ min (self.old.answered + 1) (2 ^ 64 - 1)) }
@@ -47,7 +47,7 @@ impl Model {
 
     fn answer(&mut self, session: u32, call: &Call, stamp: i64) -> Result<Reply, AllocError>
         requires { IsReady session call.now (state_of self.old) }
-        ensures ok { IfOk result (λ reply. Turn session stamp call.now reply (state_of self.old) (state_of self.new)) }
+        ensures ok { IfOk result (λ reply. ByTree session stamp call.now reply (state_of self.old) (state_of self.new)) }
         ensures upto { call.now ≡ calls.Sync → IfOk result (λ reply. reply ≡ Synced self.old.answered) }
         ensures kept { self.new.answered ≡ self.old.answered }
         ensures err { OnErr result (state_of self.new ≡ state_of self.old) }

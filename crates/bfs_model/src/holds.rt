@@ -6,22 +6,20 @@ ghost use Rattle.bfs_tree.specs.declared.state.Hold.{Hold};
 ghost use Rattle.bfs_tree.specs.States.{is_hold_of, last_hold, without_last, learn};
 ghost use Rattle.bfs_tree.specs.Answers.{Ends};
 ghost use Rattle.bfs_tree.specs.Refusals.{is_past};
-ghost use Rattle.bfs_tree.specs.Changes.{holding, holding_to_write};
-ghost use Rattle.bfs_tree.specs.Steps.{Reads, Turn};
+ghost use Rattle.bfs_tree.specs.Changes.{holding, holding_to_write, released};
+ghost use Rattle.bfs_tree.specs.Steps.{Reads, ByTree};
 ghost use Rattle.bfs_model.specs.Kept.{known_of, state_of};
 ghost use Rattle.bfs_tree.specs.declared.call.Call.TheVariants as calls;
 ghost use Rattle.bfs_tree.specs.declared.reply.Reply.TheVariants.{Synced};
 
 use crate::known::{Places, agrees, byte_at, forget, learn};
 use crate::model::{KnownByte, Model};
-use crate::moves::conflict_at;
 use crate::nodes::{NodeChange, change_node};
-use crate::reads::node_at;
 use bfs_tree::{Hold, Reply};
 use std::alloc::{AllocError, Global};
 
 /// The piece goes past the end of the file.
-fn is_past(size: u64, at: u64, length: u64) -> bool
+pub(crate) fn is_past(size: u64, at: u64, length: u64) -> bool
     ensures { result ≡ is_past size at length }
 {
     at > size || length > size - at
@@ -118,43 +116,27 @@ impl Model {
         write: bool,
         stamp: i64,
     ) -> Result<Reply, AllocError>
-        ensures ok { IfOk result (λ reply. Turn session stamp (calls.Hold id at length write) reply (state_of self.old) (state_of self.new)) }
+        ensures ok { IfOk result (λ reply. ByTree session stamp (calls.Hold id at length write) reply (state_of self.old) (state_of self.new)) }
         ensures err { OnErr result (state_of self.new ≡ state_of self.old) }
         ensures kept { self.new.answered ≡ self.old.answered }
     {
-        let Some(node) = node_at(&self.nodes, id) else {
-            return Ok(Reply::NotFound);
-        };
-        if !node.kind.is_file() {
-            return Ok(Reply::NotFile);
-        }
-        if length > 65536 {
-            return Ok(Reply::TooBig);
-        }
-        if is_past(node.size, at, length) {
-            return Ok(Reply::PastEnd { size: node.size });
-        }
-        match conflict_at(&self.holds, id, write) {
-            Some(hold) => Ok(Reply::Held {
-                session: hold.session,
-            }),
+        match self.refuse_hold(id, at, length, write) {
+            Some(reply) => Ok(reply),
             None => {
-                self.add_hold(
-                    Hold {
-                        session,
-                        id,
-                        at,
-                        length,
-                        write,
-                    },
-                    stamp,
-                )?;
+                let hold = Hold {
+                    session,
+                    id,
+                    at,
+                    length,
+                    write,
+                };
+                self.add_hold(hold, stamp)?;
                 Ok(Reply::Done)
             }
         }
     }
 
-    fn add_hold(&mut self, hold: Hold, stamp: i64) -> Result<(), AllocError>
+    pub(crate) fn add_hold(&mut self, hold: Hold, stamp: i64) -> Result<(), AllocError>
         ensures ok { OnOk result (state_of self.new ≡ holding (state_of self.old) hold stamp) }
         ensures err { OnErr result (state_of self.new ≡ state_of self.old) }
         ensures kept { self.new.answered ≡ self.old.answered }
@@ -192,16 +174,34 @@ impl Model {
         whole: bool,
     ) -> Result<Reply, AllocError>
         requires { IsSomeAnd (last_hold self.old.holds.items session id) (λ hold. IsTrue whole → Ends (state_of self.old) hold bytes.now) }
-        ensures ok { IfOk result (λ reply. (stamp : ℤ) (before after : ℕ) → Turn session stamp (calls.Release id bytes.now whole before after) reply (state_of self.old) (state_of self.new)) }
+        ensures ok { IfOk result (λ reply. (stamp : ℤ) (before after : ℕ) → ByTree session stamp (calls.Release id bytes.now whole before after) reply (state_of self.old) (state_of self.new)) }
         ensures err { OnErr result (state_of self.new ≡ state_of self.old) }
         ensures kept { self.new.answered ≡ self.old.answered }
     {
+        self.end_hold(session, id, bytes, whole)?;
+        Ok(Reply::Done)
+    }
+
+    /// The session's last hold on a file goes, if it has one.
+    pub(crate) fn end_hold(
+        &mut self,
+        session: u32,
+        id: u64,
+        bytes: &[u8],
+        whole: bool,
+    ) -> Result<(), AllocError>
+        ensures ok { OnOk result (state_of self.new ≡ released (state_of self.old) session id bytes.now whole (last_hold self.old.holds.items session id)) }
+        ensures err { OnErr result (state_of self.new ≡ state_of self.old) }
+        ensures kept { self.new.answered ≡ self.old.answered }
+    {
+        let Some(hold) = last_hold_of(&self.holds, session, id) else {
+            return Ok(());
+        };
         let at = last_hold_at(&self.holds, session, id);
-        let hold = self.holds[at];
         let known = known_after(self.alloc, self.known.as_slice(), id, hold, bytes, whole)?;
         self.known = known;
         let _ = self.holds.remove(at);
-        Ok(Reply::Done)
+        Ok(())
     }
 
     /// Says up to which place of the history a session's calls are durable.

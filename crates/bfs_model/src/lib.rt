@@ -4,6 +4,7 @@
 
 mod apply;
 mod finds;
+mod follow;
 mod holds;
 mod known;
 mod model;
@@ -11,10 +12,11 @@ mod moves;
 mod named;
 mod nodes;
 mod reads;
+mod refusals;
 mod sorts;
 mod start;
 #[cfg(test)]
 mod tests;
 mod writes;
 
-pub use model::Model;
+pub use model::{Attribute, KnownByte, Model, Node};

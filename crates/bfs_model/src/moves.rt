@@ -2,20 +2,21 @@
 ghost use Rattle.std.specs.Prelude.{◌≡◌, ◌≤◌, IfOk, OnOk, OnErr, MatchOption, length, None, Some};
 ghost use Rattle.std.specs.Option.{option_map_or, option_map};
 ghost use Rattle.std.specs.List.{list_any};
-ghost use Rattle.std.specs.FinMap.{get, len};
+ghost use Rattle.std.specs.FinMap.{get, len, entries};
+ghost use Rattle.bfs_tree.specs.Trees.{child_in};
 ghost use Rattle.std.specs.Prelude.{◌==◌};
 ghost use Rattle.bfs_tree.specs.States.{conflict};
 ghost use Rattle.bfs_tree.specs.Refusals.{line_up};
-ghost use Rattle.bfs_tree.specs.Changes.{dropped, resized};
+ghost use Rattle.bfs_tree.specs.Changes.{dropped, removed, renamed, resized, moved, moved_over, without_node};
 ghost use Rattle.bfs_tree.specs.Steps.{Writes};
 ghost use Rattle.bfs_model.specs.Kept.{nodes_of, state_of};
 ghost use Rattle.bfs_tree.specs.declared.call.Call.TheVariants.{Remove, Rename, SetSize};
 
 use crate::known::{Places, forget};
 use crate::model::{Model, Node};
-use crate::nodes::{NodeChange, change_node, has_children, take_node};
+use crate::nodes::{NodeChange, change_node, take_node};
 use crate::reads::{child_at, node_at};
-use bfs_tree::{Bytes, Hold, Reply, is_bad_name};
+use bfs_tree::{Bytes, Hold, Reply};
 use std::alloc::AllocError;
 use std::collections::BTreeMap;
 
@@ -48,7 +49,7 @@ fn node_count(nodes: &BTreeMap<u64, Node>) -> usize
 }
 
 /// The directory is that node or below it.
-fn is_below(nodes: &BTreeMap<u64, Node>, id: u64, dir: u64) -> bool
+pub(crate) fn is_below(nodes: &BTreeMap<u64, Node>, id: u64, dir: u64) -> bool
     ensures { result ≡ list_any (λ x. x == id) (line_up (nodes_of nodes.now.entries) (len (nodes_of nodes.now.entries)) dir) }
 {
     let mut at = dir;
@@ -68,26 +69,29 @@ impl Model {
         ensures err { OnErr result (state_of self.new ≡ state_of self.old) }
         ensures kept { self.new.answered ≡ self.old.answered }
     {
-        let Some(parent) = node_at(&self.nodes, dir) else {
-            return Ok(Reply::NotFound);
-        };
-        if !parent.kind.is_dir() {
-            return Ok(Reply::NotDir);
-        }
-        let Some((id, node)) = child_at(&self.nodes, self.root, dir, name) else {
-            return Ok(Reply::NotFound);
-        };
-        if node.kind.is_dir() && has_children(&self.nodes, self.root, id) {
-            return Ok(Reply::NotEmpty);
-        }
-        match conflict_at(&self.holds, id, true) {
-            Some(hold) => Ok(Reply::Held {
-                session: hold.session,
-            }),
+        match self.refuse_remove(dir, name) {
+            Some(reply) => Ok(reply),
             None => {
-                self.drop_node(dir, id, stamp)?;
+                self.remove_node(dir, name, stamp)?;
                 Ok(Reply::Done)
             }
+        }
+    }
+
+    /// The node of this name leaves the tree, if there is one.
+    pub(crate) fn remove_node(
+        &mut self,
+        dir: u64,
+        name: &[u8],
+        stamp: i64,
+    ) -> Result<(), AllocError>
+        ensures ok { OnOk result (state_of self.new ≡ removed (state_of self.old) dir stamp (child_in self.old.root dir name.now (entries (nodes_of self.old.nodes.entries)))) }
+        ensures err { OnErr result (state_of self.new ≡ state_of self.old) }
+        ensures kept { self.new.answered ≡ self.old.answered }
+    {
+        match child_at(&self.nodes, self.root, dir, name) {
+            None => Ok(()),
+            Some((id, _)) => self.drop_node(dir, id, stamp),
         }
     }
 
@@ -102,7 +106,70 @@ impl Model {
         Ok(())
     }
 
-    /// Moves a node to another name, in the same directory or in another.
+    /// The node gets the new name and parent, and both directories have changed.
+    fn move_node(&mut self, dir: u64, to_dir: u64, to_name: Bytes, id: u64, stamp: i64)
+        ensures moved { state_of self.new ≡ moved (state_of self.old) dir to_dir to_name stamp id }
+        ensures kept { self.new.answered ≡ self.old.answered }
+    {
+        change_node(&mut self.nodes, dir, NodeChange::Touch, stamp);
+        change_node(&mut self.nodes, to_dir, NodeChange::Touch, stamp);
+        change_node(
+            &mut self.nodes,
+            id,
+            NodeChange::Name {
+                name: to_name,
+                parent: to_dir,
+            },
+            stamp,
+        );
+    }
+
+    /// The node takes the place of another one, which leaves the tree.
+    fn move_over(
+        &mut self,
+        dir: u64,
+        to_dir: u64,
+        to_name: Bytes,
+        id: u64,
+        there: u64,
+        stamp: i64,
+    ) -> Result<(), AllocError>
+        ensures ok { OnOk result (state_of self.new ≡ moved (without_node (state_of self.old) there) dir to_dir to_name stamp id) }
+        ensures err { OnErr result (state_of self.new ≡ state_of self.old) }
+        ensures kept { self.new.answered ≡ self.old.answered }
+    {
+        self.known = forget(self.alloc, self.known.as_slice(), there, Places::All)?;
+        take_node(&mut self.nodes, there);
+        self.move_node(dir, to_dir, to_name, id, stamp);
+        Ok(())
+    }
+
+    /// Moves a node to a name, which another node may have.
+    fn place_node(
+        &mut self,
+        dir: u64,
+        to_dir: u64,
+        to_name: &[u8],
+        id: u64,
+        stamp: i64,
+    ) -> Result<(), AllocError>
+        ensures ok { OnOk result (state_of self.new ≡ moved_over (state_of self.old) dir to_dir to_name.now stamp id (child_in self.old.root to_dir to_name.now (entries (nodes_of self.old.nodes.entries)))) }
+        ensures err { OnErr result (state_of self.new ≡ state_of self.old) }
+        ensures kept { self.new.answered ≡ self.old.answered }
+    {
+        let name = Bytes::from_slice(self.alloc, to_name)?;
+        let Some((there, _)) = child_at(&self.nodes, self.root, to_dir, to_name) else {
+            self.move_node(dir, to_dir, name, id, stamp);
+            return Ok(());
+        };
+        if there == id {
+            return Ok(());
+        }
+        self.move_over(dir, to_dir, name, id, there, stamp)
+    }
+
+    /// Moves a node to another name, in the same directory or in another. A node that has the name, and that
+    /// may be replaced, leaves the tree.
     pub fn rename(
         &mut self,
         dir: u64,
@@ -115,43 +182,32 @@ impl Model {
         ensures err { OnErr result (state_of self.new ≡ state_of self.old) }
         ensures kept { self.new.answered ≡ self.old.answered }
     {
-        let Some(parent) = node_at(&self.nodes, dir) else {
-            return Ok(Reply::NotFound);
-        };
-        if !parent.kind.is_dir() {
-            return Ok(Reply::NotDir);
+        match self.refuse_rename(dir, name, to_dir, to_name) {
+            Some(reply) => Ok(reply),
+            None => {
+                self.rename_node(dir, name, to_dir, to_name, stamp)?;
+                Ok(Reply::Done)
+            }
         }
-        let Some((id, node)) = child_at(&self.nodes, self.root, dir, name) else {
-            return Ok(Reply::NotFound);
-        };
-        let Some(target) = node_at(&self.nodes, to_dir) else {
-            return Ok(Reply::NotFound);
-        };
-        if !target.kind.is_dir() {
-            return Ok(Reply::NotDir);
+    }
+
+    /// The node of this name is moved, if there is one.
+    pub(crate) fn rename_node(
+        &mut self,
+        dir: u64,
+        name: &[u8],
+        to_dir: u64,
+        to_name: &[u8],
+        stamp: i64,
+    ) -> Result<(), AllocError>
+        ensures ok { OnOk result (state_of self.new ≡ renamed (state_of self.old) dir to_dir to_name.now stamp (child_in self.old.root dir name.now (entries (nodes_of self.old.nodes.entries)))) }
+        ensures err { OnErr result (state_of self.new ≡ state_of self.old) }
+        ensures kept { self.new.answered ≡ self.old.answered }
+    {
+        match child_at(&self.nodes, self.root, dir, name) {
+            None => Ok(()),
+            Some((id, _)) => self.place_node(dir, to_dir, to_name, id, stamp),
         }
-        if is_bad_name(to_name) {
-            return Ok(Reply::NameBad);
-        }
-        if node.kind.is_dir() && is_below(&self.nodes, id, to_dir) {
-            return Ok(Reply::Inside);
-        }
-        let None = child_at(&self.nodes, self.root, to_dir, to_name) else {
-            return Ok(Reply::Exists);
-        };
-        let name = Bytes::from_slice(self.alloc, to_name)?;
-        change_node(&mut self.nodes, dir, NodeChange::Touch, stamp);
-        change_node(&mut self.nodes, to_dir, NodeChange::Touch, stamp);
-        change_node(
-            &mut self.nodes,
-            id,
-            NodeChange::Name {
-                name,
-                parent: to_dir,
-            },
-            stamp,
-        );
-        Ok(Reply::Done)
     }
 
     /// Makes a file longer or shorter.
@@ -160,19 +216,8 @@ impl Model {
         ensures err { OnErr result (state_of self.new ≡ state_of self.old) }
         ensures kept { self.new.answered ≡ self.old.answered }
     {
-        let Some(node) = node_at(&self.nodes, id) else {
-            return Ok(Reply::NotFound);
-        };
-        if !node.kind.is_file() {
-            return Ok(Reply::NotFile);
-        }
-        if size > 1_073_741_824 {
-            return Ok(Reply::TooBig);
-        }
-        match conflict_at(&self.holds, id, true) {
-            Some(hold) => Ok(Reply::Held {
-                session: hold.session,
-            }),
+        match self.refuse_set_size(id, size) {
+            Some(reply) => Ok(reply),
             None => {
                 self.resize(id, size, stamp)?;
                 Ok(Reply::Done)
@@ -180,7 +225,8 @@ impl Model {
         }
     }
 
-    fn resize(&mut self, id: u64, size: u64, stamp: i64) -> Result<(), AllocError>
+    /// The file, if there is one, gets a size.
+    pub(crate) fn resize(&mut self, id: u64, size: u64, stamp: i64) -> Result<(), AllocError>
         ensures ok { OnOk result (state_of self.new ≡ resized (state_of self.old) id size stamp) }
         ensures err { OnErr result (state_of self.new ≡ state_of self.old) }
         ensures kept { self.new.answered ≡ self.old.answered }

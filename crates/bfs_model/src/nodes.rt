@@ -18,7 +18,7 @@ pub(crate) enum NodeChange {
     /// The content of a file.
     Content,
     Size { size: u64 },
-    Mode { mode: u32, uid: u32, gid: u32 },
+    Mode { mode: u32, uid: i32, gid: i32 },
     Name { name: Bytes, parent: u64 },
 }
 

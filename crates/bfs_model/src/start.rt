@@ -2,9 +2,9 @@
 ghost use Rattle.std.specs.Prelude.{◌≡◌, IfOk, [], OnOk};
 ghost use Rattle.std.specs.FinMap.{empty};
 ghost use Rattle.bfs_tree.specs.Trees.{IsPlain, empty_tree, built_in};
-ghost use Rattle.bfs_model.specs.Kept.{indices_of, state_of};
+ghost use Rattle.bfs_model.specs.Kept.{indices_of, known_of, nodes_of, state_of};
 
-use crate::model::Model;
+use crate::model::{KnownByte, Model, Node};
 use crate::named::put_index;
 use crate::nodes::put_node;
 use crate::writes::made_node;
@@ -28,6 +28,30 @@ fn built_in_indices(alloc: Global) -> Result<BTreeMap<Vec<u8>, KeyKind>, AllocEr
 }
 
 impl Model {
+    /// A tree of these nodes and indices, with these bytes of its files known. Nobody holds anything.
+    pub fn of(
+        alloc: Global,
+        root: u64,
+        nodes: BTreeMap<u64, Node>,
+        indices: BTreeMap<Vec<u8>, KeyKind>,
+        known: Vec<KnownByte>,
+    ) -> Model
+        ensures tree { (state_of result).tree ≡ record { root = root; nodes = nodes_of nodes.entries; indices = indices_of indices.entries } }
+        ensures held { (state_of result).holds ≡ [] }
+        ensures known { (state_of result).known ≡ known_of known.items }
+        ensures counted { result.answered ≡ 0 }
+    {
+        Model {
+            alloc,
+            root,
+            nodes,
+            indices,
+            holds: Vec::new(alloc),
+            known,
+            answered: 0,
+        }
+    }
+
     /// The tree of a new volume: its root alone, with this id, and the three indices. It is plain, and nobody
     /// holds anything.
     pub fn new(alloc: Global, root: u64, stamp: i64) -> Result<Model, AllocError>

@@ -1,7 +1,9 @@
 // Worked calls, with the replies that they must have.
 use crate::Model;
-use bfs_tree::{Bytes, Call, FoundRow, Key, KeyKind, MakeKind, Reply};
+use crate::writes::made_node;
+use bfs_tree::{Bytes, Call, Entry, FoundRow, Key, KeyKind, MakeKind, Reply};
 use std::alloc::{AllocError, Global};
+use std::collections::BTreeMap;
 use std::test::Fail;
 
 const ROOT: u64 = 514;
@@ -68,6 +70,14 @@ fn text(alloc: Global, reply: &Reply) -> Result<Vec<u8>, AllocError> {
     match reply {
         Reply::Names { names } => push_names(&mut all, names.as_slice())?,
         Reply::Rows { rows } => push_rows(alloc, &mut all, rows.as_slice())?,
+        Reply::Target { bytes } => {
+            all.push(b' ')?;
+            all.extend_from_slice(bytes.as_slice())?;
+        }
+        Reply::Indices { rows } => {
+            all.push(b' ')?;
+            push_number(alloc, &mut all, rows.as_slice().len() as i64)?;
+        }
         Reply::Held { session } => {
             all.push(b' ')?;
             push_number(alloc, &mut all, i64::from(*session))?;
@@ -153,15 +163,133 @@ fn calls_have_the_replies_of_the_worked_rows(rt: HostRuntime) -> Result<(), Fail
         (20, "ok"),
         (21, "notfound"),
         (25, "ok"),
-        (26, "ok"),
+        (26, "ok 4"),
         (31, "ok"),
         (29, "ok a"),
         (27, "ok"),
         (28, "ok b=b"),
-        (30, "exists"),
+        (30, "ok"),
         (29, "ok b"),
     ] {
         let reply = step(rt.alloc(), &mut tree, number)?;
+        assert_eq!(rt;
+            text(rt.alloc(), &reply)?.as_slice(),
+            want.as_bytes(),
+            "call {number}"
+        );
+    }
+    Ok(())
+}
+
+fn link(alloc: Global, target: &[u8]) -> Result<MakeKind, AllocError> {
+    Ok(MakeKind::Link {
+        target: Bytes::from_slice(alloc, target)?,
+    })
+}
+
+/// The target of the link of this name in the root.
+fn read_named(tree: &Model, name: &[u8]) -> Result<Reply, AllocError> {
+    match tree.lookup(ROOT, name) {
+        Reply::Found { id, .. } => tree.read_link(id),
+        other => Ok(other),
+    }
+}
+
+/// One call of the lists below.
+fn replace_step(alloc: Global, tree: &mut Model, number: u8) -> Result<Reply, AllocError> {
+    match number {
+        1 => tree.make(ROOT, b"a", &link(alloc, b"x")?, 0o777, 1),
+        2 => tree.make(ROOT, b"b", &link(alloc, b"y")?, 0o777, 2),
+        3 => tree.rename(ROOT, b"a", ROOT, b"b", 3),
+        4 => tree.list(ROOT),
+        5 => read_named(tree, b"b"),
+        6 => tree.index_find(b"name", &name(alloc, b"a")?, &name(alloc, b"z")?),
+        7 => tree.make(ROOT, b"d", &MakeKind::Dir, 0o755, 7),
+        8 => tree.make(ROOT, b"f", &MakeKind::File, 0o644, 8),
+        9 => tree.rename(ROOT, b"f", ROOT, b"d", 9),
+        10 => tree.rename(ROOT, b"d", ROOT, b"f", 10),
+        11 => tree.make(ROOT, b"e", &MakeKind::Dir, 0o755, 11),
+        12 => tree.make(2, b"x", &MakeKind::Dir, 0o755, 12),
+        13 => tree.rename(ROOT, b"d", ROOT, b"e", 13),
+        14 => tree.remove(2, b"x", 14),
+        15 => tree.rename(ROOT, b"f", ROOT, b"f", 15),
+        16 => tree.make(ROOT, b"a", &MakeKind::Dir, 0o755, 16),
+        17 => tree.index_make(b"w", KeyKind::I32, 17),
+        18 => Ok(tree.index_remove(b"name", 18)),
+        _ => tree.index_list(),
+    }
+}
+
+#[test]
+fn a_link_takes_the_place_of_another(rt: HostRuntime) -> Result<(), Fail> {
+    let mut tree = Model::new(rt.alloc(), ROOT, 0)?;
+    for (number, want) in [
+        (1, "ok"),
+        (2, "ok"),
+        (3, "ok"),
+        (4, "ok b"),
+        (5, "ok x"),
+        (6, "ok b=b"),
+    ] {
+        let reply = replace_step(rt.alloc(), &mut tree, number)?;
+        assert_eq!(rt;
+            text(rt.alloc(), &reply)?.as_slice(),
+            want.as_bytes(),
+            "call {number}"
+        );
+    }
+    Ok(())
+}
+
+#[test]
+fn directories_are_replaced_by_directories_where_they_are_empty(
+    rt: HostRuntime,
+) -> Result<(), Fail> {
+    let mut tree = Model::new(rt.alloc(), ROOT, 0)?;
+    for (number, want) in [
+        (7, "ok"),
+        (8, "ok"),
+        (9, "exists"),
+        (10, "exists"),
+        (11, "ok"),
+        (12, "ok"),
+        (13, "notempty"),
+        (14, "ok"),
+        (13, "ok"),
+        (4, "ok e f"),
+        (15, "ok"),
+    ] {
+        let reply = replace_step(rt.alloc(), &mut tree, number)?;
+        assert_eq!(rt;
+            text(rt.alloc(), &reply)?.as_slice(),
+            want.as_bytes(),
+            "call {number}"
+        );
+    }
+    Ok(())
+}
+
+/// A tree of its root alone, without indices.
+fn without_indices(alloc: Global) -> Result<Model, AllocError> {
+    let mut nodes = BTreeMap::new(alloc);
+    let root = made_node(alloc, ROOT, b"", &MakeKind::Dir, 0o755, 0)?;
+    let Ok(_) = nodes.insert(ROOT, root) else {
+        return Err(AllocError);
+    };
+    Ok(Model::of(alloc, ROOT, nodes, BTreeMap::new(alloc), Vec::new(alloc)))
+}
+
+#[test]
+fn no_index_is_made_on_a_tree_without_indices(rt: HostRuntime) -> Result<(), Fail> {
+    let mut tree = without_indices(rt.alloc())?;
+    for (number, want) in [
+        (16, "ok"),
+        (6, "noindex"),
+        (17, "noindex"),
+        (18, "noindex"),
+        (19, "ok 0"),
+    ] {
+        let reply = replace_step(rt.alloc(), &mut tree, number)?;
         assert_eq!(rt;
             text(rt.alloc(), &reply)?.as_slice(),
             want.as_bytes(),
@@ -254,10 +382,7 @@ fn is_read_back(
     name: &[u8],
     target: &[u8],
 ) -> Result<bool, AllocError> {
-    let link = MakeKind::Link {
-        target: Bytes::from_slice(alloc, target)?,
-    };
-    let Reply::Made { id } = tree.make(ROOT, name, &link, 0o777, 1)? else {
+    let Reply::Made { id } = tree.make(ROOT, name, &link(alloc, target)?, 0o777, 1)? else {
         return Ok(false);
     };
     match tree.read_link(id)? {
@@ -446,6 +571,88 @@ fn holds_conflict_and_whole_writes_are_known(rt: HostRuntime) -> Result<(), Fail
         assert_eq!(rt;
             known(rt.alloc(), &tree)?.as_slice(),
             bytes.as_slice(),
+            "after {number}"
+        );
+    }
+    Ok(())
+}
+
+fn make_file(alloc: Global) -> Result<Call, AllocError> {
+    Ok(Call::Make {
+        dir: ROOT,
+        name: Bytes::from_slice(alloc, b"f")?,
+        kind: MakeKind::File,
+        mode: 0o644,
+    })
+}
+
+fn remove_file(alloc: Global) -> Result<Call, AllocError> {
+    Ok(Call::Remove {
+        dir: ROOT,
+        name: Bytes::from_slice(alloc, b"f")?,
+    })
+}
+
+fn entry(call: Call, reply: Reply) -> Entry {
+    Entry {
+        session: 1,
+        tag: 1,
+        stamp: 1,
+        call,
+        reply,
+    }
+}
+
+/// One entry of the list below.
+fn entry_of(alloc: Global, number: u8) -> Result<Entry, AllocError> {
+    Ok(match number {
+        1 => entry(make_file(alloc)?, Reply::Made { id: 7 }),
+        2 => entry(make_file(alloc)?, Reply::Made { id: ROOT }),
+        3 => entry(make_file(alloc)?, Reply::Exists),
+        4 => entry(Call::Stat { id: 7 }, Reply::NotFound),
+        5 => entry(remove_file(alloc)?, Reply::NotFound),
+        6 => entry(remove_file(alloc)?, Reply::NoSpace { free: 0, needed: 1 }),
+        7 => entry(
+            Call::List { dir: ROOT },
+            Reply::NoSpace { free: 0, needed: 1 },
+        ),
+        8 => entry(
+            Call::Sync,
+            Reply::Stopped {
+                durable: 0,
+                faults: 1,
+            },
+        ),
+        9 => entry(Call::Sync, Reply::Synced { upto: 3 }),
+        _ => entry(remove_file(alloc)?, Reply::Done),
+    })
+}
+
+#[test]
+fn a_history_is_followed_where_its_entries_may_come(rt: HostRuntime) -> Result<(), Fail> {
+    let mut tree = Model::new(rt.alloc(), ROOT, 0)?;
+    for (number, want, names) in [
+        (3, false, "ok"),
+        (2, false, "ok"),
+        (1, true, "ok f"),
+        (1, false, "ok f"),
+        (3, true, "ok f"),
+        (4, false, "ok f"),
+        (5, false, "ok f"),
+        (6, true, "ok f"),
+        (7, false, "ok f"),
+        (8, true, "ok f"),
+        (9, true, "ok f"),
+        (10, true, "ok"),
+        (10, false, "ok"),
+        (5, true, "ok"),
+    ] {
+        let entry = entry_of(rt.alloc(), number)?;
+        assert_eq!(rt; tree.follow(&entry)?, want, "entry {number}");
+        let listed = tree.list(ROOT)?;
+        assert_eq!(rt;
+            text(rt.alloc(), &listed)?.as_slice(),
+            names.as_bytes(),
             "after {number}"
         );
     }

@@ -1,20 +1,17 @@
 // The calls that change nodes.
-ghost use Rattle.std.specs.Prelude.{◌≡◌, IfOk, OnErr, length};
+ghost use Rattle.std.specs.Prelude.{◌≡◌, IfOk, OnOk, OnErr, length};
 ghost use Rattle.bfs_tree.specs.Names.{target_of};
 ghost use Rattle.bfs_tree.specs.Trees.{new_node};
-ghost use Rattle.bfs_tree.specs.Changes.{kind_made};
+ghost use Rattle.std.specs.FinMap.{insert};
+ghost use Rattle.bfs_tree.specs.Changes.{kind_made, made, with_node, with_nodes};
 ghost use Rattle.bfs_tree.specs.Steps.{Writes};
-ghost use Rattle.bfs_model.specs.Kept.{node_of, state_of};
+ghost use Rattle.bfs_model.specs.Kept.{indices_of, node_of, nodes_of, state_of, with_attribute};
 ghost use Rattle.bfs_tree.specs.declared.call.Call.TheVariants.{Make, SetMode, AttrWrite, AttrRemove, IndexMake, IndexRemove};
 
-use crate::model::{Attribute, Model, Node, attribute_at, index_at};
-use crate::named::{drop_index, index_count, put_index, remove_attribute, write_attribute};
+use crate::model::{Attribute, Model, Node};
+use crate::named::{drop_index, put_index, remove_attribute, write_attribute};
 use crate::nodes::{NodeChange, change_node, free_id, put_node};
-use crate::reads::{child_at, node_at};
-use bfs_tree::{
-    Bytes, KeyKind, MakeKind, Reply, is_bad_attribute_name, is_bad_name, is_bad_target,
-    is_built_in, is_float,
-};
+use bfs_tree::{Bytes, KeyKind, MakeKind, Reply};
 use std::alloc::{AllocError, Global};
 use std::collections::BTreeMap;
 
@@ -58,43 +55,49 @@ impl Model {
         ensures err { OnErr result (state_of self.new ≡ state_of self.old) }
         ensures kept { self.new.answered ≡ self.old.answered }
     {
-        let Some(parent) = node_at(&self.nodes, dir) else {
-            return Ok(Reply::NotFound);
-        };
-        if !parent.kind.is_dir() {
-            return Ok(Reply::NotDir);
+        match self.refuse_make(dir, name, kind) {
+            Some(reply) => Ok(reply),
+            None => {
+                let id = free_id(&self.nodes);
+                self.make_node(dir, name, kind, mode, stamp, id)?;
+                Ok(Reply::Made { id })
+            }
         }
-        if is_bad_name(name) || is_bad_target(kind) {
-            return Ok(Reply::NameBad);
-        }
-        if kind.target_len() > 1024 {
-            return Ok(Reply::TooBig);
-        }
-        let None = child_at(&self.nodes, self.root, dir, name) else {
-            return Ok(Reply::Exists);
-        };
+    }
+
+    /// The new node, with this id.
+    pub(crate) fn make_node(
+        &mut self,
+        dir: u64,
+        name: &[u8],
+        kind: &MakeKind,
+        mode: u32,
+        stamp: i64,
+        id: u64,
+    ) -> Result<(), AllocError>
+        ensures ok { OnOk result (state_of self.new ≡ made (state_of self.old) dir name.now kind.now mode stamp id) }
+        ensures err { OnErr result (state_of self.new ≡ state_of self.old) }
+        ensures kept { self.new.answered ≡ self.old.answered }
+    {
         let node = made_node(self.alloc, dir, name, kind, mode, stamp)?;
-        let id = free_id(&self.nodes);
         put_node(&mut self.nodes, id, node)?;
         change_node(&mut self.nodes, dir, NodeChange::Touch, stamp);
-        Ok(Reply::Made { id })
+        Ok(())
     }
 
     /// Sets who may do what with a node, and whose it is.
-    pub fn set_mode(&mut self, id: u64, mode: u32, uid: u32, gid: u32, stamp: i64) -> Reply
+    pub fn set_mode(&mut self, id: u64, mode: u32, uid: i32, gid: i32, stamp: i64) -> Reply
         ensures ok { Writes stamp (SetMode id mode uid gid) result (state_of self.old) (state_of self.new) }
         ensures kept { self.new.answered ≡ self.old.answered }
     {
-        let Some(_) = node_at(&self.nodes, id) else {
-            return Reply::NotFound;
-        };
-        change_node(
-            &mut self.nodes,
-            id,
-            NodeChange::Mode { mode, uid, gid },
-            stamp,
-        );
-        Reply::Done
+        match self.refuse_node(id) {
+            Some(reply) => reply,
+            None => {
+                let change = NodeChange::Mode { mode, uid, gid };
+                change_node(&mut self.nodes, id, change, stamp);
+                Reply::Done
+            }
+        }
     }
 
     /// Gives a node an attribute, in place of one of the same name.
@@ -110,22 +113,34 @@ impl Model {
         ensures err { OnErr result (state_of self.new ≡ state_of self.old) }
         ensures kept { self.new.answered ≡ self.old.answered }
     {
-        let Some(_) = node_at(&self.nodes, id) else {
-            return Ok(Reply::NotFound);
-        };
-        if is_bad_attribute_name(name) {
-            return Ok(Reply::NameBad);
+        match self.refuse_attr_write(id, name, bytes) {
+            Some(reply) => Ok(reply),
+            None => {
+                self.put_attribute(id, name, kind, bytes, stamp)?;
+                Ok(Reply::Done)
+            }
         }
-        if bytes.len() > 65536 {
-            return Ok(Reply::TooBig);
-        }
+    }
+
+    /// The node, if there is one, gets an attribute.
+    pub(crate) fn put_attribute(
+        &mut self,
+        id: u64,
+        name: &[u8],
+        kind: u32,
+        bytes: &[u8],
+        stamp: i64,
+    ) -> Result<(), AllocError>
+        ensures ok { OnOk result (state_of self.new ≡ with_nodes (state_of self.old) (with_node (nodes_of self.old.nodes.entries) id (with_attribute name.now (record { code = kind; bytes = bytes.now }) stamp))) }
+        ensures err { OnErr result (state_of self.new ≡ state_of self.old) }
+        ensures kept { self.new.answered ≡ self.old.answered }
+    {
         let key = Vec::from_slice(self.alloc, name)?;
         let attribute = Attribute {
             code: kind,
             bytes: Bytes::from_slice(self.alloc, bytes)?,
         };
-        write_attribute(&mut self.nodes, id, key, attribute, stamp)?;
-        Ok(Reply::Done)
+        write_attribute(&mut self.nodes, id, key, attribute, stamp)
     }
 
     /// Takes an attribute from a node.
@@ -133,14 +148,13 @@ impl Model {
         ensures ok { Writes stamp (AttrRemove id name.now) result (state_of self.old) (state_of self.new) }
         ensures kept { self.new.answered ≡ self.old.answered }
     {
-        let Some(node) = node_at(&self.nodes, id) else {
-            return Reply::NotFound;
-        };
-        let Some(_) = attribute_at(&node.attributes, name) else {
-            return Reply::NoAttr;
-        };
-        remove_attribute(&mut self.nodes, id, name, stamp);
-        Reply::Done
+        match self.refuse_attr(id, name) {
+            Some(reply) => reply,
+            None => {
+                remove_attribute(&mut self.nodes, id, name, stamp);
+                Reply::Done
+            }
+        }
     }
 
     /// Makes an index.
@@ -154,21 +168,23 @@ impl Model {
         ensures err { OnErr result (state_of self.new ≡ state_of self.old) }
         ensures kept { self.new.answered ≡ self.old.answered }
     {
-        let None = index_at(&self.indices, name) else {
-            return Ok(Reply::Exists);
-        };
-        if is_float(kind) {
-            return Ok(Reply::FloatIndex);
+        match self.refuse_index_make(name, kind) {
+            Some(reply) => Ok(reply),
+            None => {
+                self.add_index(name, kind)?;
+                Ok(Reply::Done)
+            }
         }
-        if is_bad_name(name) {
-            return Ok(Reply::NameBad);
-        }
-        if index_count(&self.indices) >= 32 {
-            return Ok(Reply::IndexCount);
-        }
+    }
+
+    /// The index is there.
+    pub(crate) fn add_index(&mut self, name: &[u8], kind: KeyKind) -> Result<(), AllocError>
+        ensures ok { OnOk result (state_of self.new ≡ record (state_of self.old) { tree = record (state_of self.old).tree { indices = insert (indices_of self.old.indices.entries) name.now kind } }) }
+        ensures err { OnErr result (state_of self.new ≡ state_of self.old) }
+        ensures kept { self.new.answered ≡ self.old.answered }
+    {
         let key = Vec::from_slice(self.alloc, name)?;
-        put_index(&mut self.indices, key, kind)?;
-        Ok(Reply::Done)
+        put_index(&mut self.indices, key, kind)
     }
 
     /// Gives an index up.
@@ -176,13 +192,12 @@ impl Model {
         ensures ok { Writes stamp (IndexRemove name.now) result (state_of self.old) (state_of self.new) }
         ensures kept { self.new.answered ≡ self.old.answered }
     {
-        let Some(_) = index_at(&self.indices, name) else {
-            return Reply::NoIndex;
-        };
-        if is_built_in(name) {
-            return Reply::BuiltIn;
+        match self.refuse_index_remove(name) {
+            Some(reply) => reply,
+            None => {
+                drop_index(&mut self.indices, name);
+                Reply::Done
+            }
         }
-        drop_index(&mut self.indices, name);
-        Reply::Done
     }
 }

@@ -5,3 +5,6 @@ pub mod Ways
 pub mod Plains
 pub mod Members
 pub mod Keeps
+pub mod ListMoves
+pub mod Stamps
+pub mod Sames

@@ -11,7 +11,7 @@ use Rattle.std.specs.FinMap.Entries.{below_all}
 use Rattle.bfs_tree.specs.Trees.{Tree, Node, Nodes, child}
 use Rattle.bfs_tree.specs.Refusals.{has_children}
 
-abbrev In : {A : Type 0} → A → List A → Type 0
+abbrev pub In : {A : Type 0} → A → List A → Type 0
 In x [] = ⊥
 In x (y ∷ ys) = (x ≡ y) ⊎ In x ys
 
@@ -27,6 +27,19 @@ found-in p q (x ∷ xs) e h =
           ] h
       | false ↦ λ _ h. let later = found-in p q xs e h in (inr later.0, later.1)
     ] refl h
+
+-- and it is what is sought
+found-hits : {A : Type 0} (p q : A → Bool) (es : List A) (e : A) → find p (filter q es) ≡ Some e → p e ≡ true
+found-hits p q [] e h = cc
+found-hits p q (x ∷ xs) e h =
+    elim (q x) as (λ b. find p (cond b (x ∷ filter q xs) (filter q xs)) ≡ Some e → p e ≡ true) [
+      | true ↦ λ h.
+          elim (p x) as (λ b. p x ≡ b → cond b (Some x) (find p (filter q xs)) ≡ Some e → p e ≡ true) [
+            | true ↦ λ hit h. let same : e ≡ x = cc in ap p same ∙ hit
+            | false ↦ λ _ h. found-hits p q xs e h
+          ] refl h
+      | false ↦ λ h. found-hits p q xs e h
+    ] h
 
 -- and where it finds none, none that passes has what is sought
 none-in : {A : Type 0} (p q : A → Bool) (es : List A) (e : A) → find p (filter q es) ≡ None → In e es → q e ≡ true → p e ≡ true → ⊥
@@ -54,22 +67,22 @@ empty-in q (x ∷ xs) e h among passes =
 
 -- ---- entries, in the order of ids
 
-head-true : (a b : Bool) → T (a && b) → T a
+pub head-true : (a b : Bool) → T (a && b) → T a
 head-true true b h = tt
 head-true false b h = h
 
-tail-true : (a b : Bool) → T (a && b) → T b
+pub tail-true : (a b : Bool) → T (a && b) → T b
 tail-true true b h = h
 tail-true false b h = absurd h
 
-below-in : (k : ℕ) (es : List (ℕ × Node)) (e : ℕ × Node) → T (below_all nat_cmp k es) → In e es → T (is_lt (nat_cmp k e.0))
+pub below-in : (k : ℕ) (es : List (ℕ × Node)) (e : ℕ × Node) → T (below_all nat_cmp k es) → In e es → T (is_lt (nat_cmp k e.0))
 below-in k [] e h among = absurd among
 below-in k (x ∷ xs) e h among = elim among as (λ _. T (is_lt (nat_cmp k e.0))) [
   | inl same ↦ subst (λ (y : ℕ × Node). T (is_lt (nat_cmp k y.0))) (sym same) (head-true (is_lt (nat_cmp k x.0)) (below_all nat_cmp k xs) h)
   | inr later ↦ below-in k xs e (tail-true (is_lt (nat_cmp k x.0)) (below_all nat_cmp k xs) h) later
 ]
 
-true-is : (b : Bool) → T b → b ≡ true
+pub true-is : (b : Bool) → T b → b ≡ true
 true-is true h = refl
 true-is false h = absurd h
 
@@ -100,10 +113,10 @@ find-in (x ∷ xs) id n h =
       | false ↦ λ _ h. inr (find-in xs id n h)
     ] refl h
 
-entry-of : (nodes : Nodes) (id : ℕ) (n : Node) → get nodes id ≡ Some n → In (id, n) (entries nodes)
+pub entry-of : (nodes : Nodes) (id : ℕ) (n : Node) → get nodes id ≡ Some n → In (id, n) (entries nodes)
 entry-of nodes id n is = find-in (entries nodes) id n (sym (get-entries nodes id) ∙ is)
 
-node-of : (nodes : Nodes) (e : ℕ × Node) → In e (entries nodes) → get nodes e.0 ≡ Some e.1
+pub node-of : (nodes : Nodes) (e : ℕ × Node) → In e (entries nodes) → get nodes e.0 ≡ Some e.1
 node-of nodes e among = get-entries nodes e.0 ∙ in-find (entries nodes) e (entries_sorted nodes) among
 
 -- ---- children
@@ -119,6 +132,16 @@ pub child-there : (tree : Tree) (d : ℕ) (name : List ℕ) (e : ℕ × Node) �
 child-there tree d name e is =
     let met = found-in (λ (e : ℕ × Node). bytes_eq e.1.name name) (λ (e : ℕ × Node). not (e.0 == tree.root) && (e.1.parent == d)) (entries tree.nodes) e is in
     (node-of tree.nodes e met.0, child-apart tree.root d e.0 e.1.parent met.1)
+
+-- it stands in the directory, under the name
+pub child-seat : (tree : Tree) (d : ℕ) (name : List ℕ) (e : ℕ × Node) → child tree d name ≡ Some e → (e.1.parent ≡ d) × (e.1.name ≡ name)
+child-seat tree d name e is =
+    let met = found-in (λ (e : ℕ × Node). bytes_eq e.1.name name) (λ (e : ℕ × Node). not (e.0 == tree.root) && (e.1.parent == d)) (entries tree.nodes) e is in
+    let hit = found-hits (λ (e : ℕ × Node). bytes_eq e.1.name name) (λ (e : ℕ × Node). not (e.0 == tree.root) && (e.1.parent == d)) (entries tree.nodes) e is in
+    (parent-is tree.root d e.0 e.1.parent met.1, (bytes_eq-Decides e.1.name name).0 hit)
+  where
+    parent-is : (root d id parent : ℕ) → (not (id == root) && (parent == d)) ≡ true → parent ≡ d
+    parent-is root d id parent e = grind (arith, e)
 
 -- where no child has the name, no node but the root stands there under it
 pub no-child : (tree : Tree) (d : ℕ) (name : List ℕ) → child tree d name ≡ None → (id : ℕ) (n : Node) → get tree.nodes id ≡ Some n → id ≢ tree.root → n.parent ≡ d → n.name ≡ name → ⊥

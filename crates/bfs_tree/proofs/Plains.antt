@@ -3,15 +3,11 @@
 use Rattle.std.proofs.Common.{◌≡◌, ◌≢◌, ◌⊎◌, inl, inr, ℕ, List, [], Option, Some, None, true, false, cond, refl, ap, sym, ◌∙◌, subst, arith}
 use Rattle.std.specs.Option.{option_map}
 use Rattle.std.specs.Ordering.{nat_cmp, eq_by_cmp}
-use Rattle.std.specs.FinMap.{FinMap, get}
-use Rattle.std.specs.Prelude.{codes}
-use Rattle.bfs_base.specs.Keys.{text_cmp}
-use Rattle.bfs_base.specs.declared.kind.KeyKind.{KeyKind}
-use Rattle.bfs_base.specs.declared.kind.KeyKind.TheVariants.{Text, I64}
+use Rattle.std.specs.FinMap.{get}
 use Rattle.bfs_tree.specs.declared.call.Kind.{Kind}
 use Rattle.bfs_tree.specs.declared.call.Kind.TheVariants.{Dir}
 use Rattle.bfs_tree.specs.Names.{is_bad_name}
-use Rattle.bfs_tree.specs.Trees.{Tree, Node, Nodes, LeadsTo, IsPlain, at_top, by_parent}
+use Rattle.bfs_tree.specs.Trees.{Tree, Node, Nodes, LeadsTo, HasPlainNodes, HasPlainIndices, IsPlain, at_top, by_parent}
 
 pub record Shape : Type 0 where
   pub kind : Kind
@@ -50,6 +46,11 @@ leads-of tree top _ (way_up id s is up) =
     let n = seen (get tree.nodes id) s is in
     by_parent id n.0 n.1 (subst (LeadsTo tree top) (ap (λ (t : Shape). t.parent) (sym n.2)) (leads-of tree top s.parent up))
 
+-- the same shapes have the same ways
+pub way-alike : (at bt : Shapes) → ((q : ℕ) → at q ≡ bt q) → (top q : ℕ) → Way at top q → Way bt top q
+way-alike at bt same top _ way_end = way_end
+way-alike at bt same top _ (way_up q s is up) = way_up q s (sym (same q) ∙ is) (way-alike at bt same top s.parent up)
+
 abbrev pub IsDir : Shapes → ℕ → Type 0
 IsDir at id = (s : Shape) × (at id ≡ Some s) × (s.kind ≡ Dir)
 
@@ -64,7 +65,7 @@ pub record Plain (root : ℕ) (at : Shapes) : Type 0 where
   pub apart : (a b : ℕ) (s t : Shape) → at a ≡ Some s → at b ≡ Some t → s.parent ≡ t.parent → s.name ≡ t.name → a ≡ b
   pub named : (id : ℕ) (s : Shape) → at id ≡ Some s → id ≢ root → is_bad_name s.name ≡ false
 
-pub plain-of : (tree : Tree) → IsPlain tree → Plain tree.root (shapes tree.nodes)
+pub plain-of : (tree : Tree) → HasPlainNodes tree → Plain tree.root (shapes tree.nodes)
 plain-of tree p = record {
   root_dir = (shape p.root.0, shown tree.nodes tree.root p.root.0 p.root.1, p.root.2);
   own = λ s is.
@@ -87,28 +88,20 @@ plain-of tree p = record {
       ap (λ (t : Shape). is_bad_name t.name) (sym n.2) ∙ p.named id n.0 n.1 other;
 }
 
-abbrev Indices : Type 0
-Indices = FinMap text_cmp KeyKind
-
--- a tree with plain shapes and with the three indices is plain
-pub plain-with : (tree : Tree) → Plain tree.root (shapes tree.nodes) → get tree.indices (codes "name") ≡ Some Text → get tree.indices (codes "size") ≡ Some I64 → get tree.indices (codes "last_modified") ≡ Some I64
-    → IsPlain tree
-plain-with tree q by_name by_size by_time = record {
+-- a tree with plain shapes has plain nodes
+pub plain-nodes : (tree : Tree) → Plain tree.root (shapes tree.nodes) → HasPlainNodes tree
+plain-nodes tree q = record {
   root = dir-of tree.nodes tree.root q.root_dir;
   own = λ n is. q.own (shape n) (shown tree.nodes tree.root n is);
   parents = λ id n is. dir-of tree.nodes n.parent (q.parents id (shape n) (shown tree.nodes id n is));
   lead = λ id n is. leads-of tree tree.root id (q.lead id (shape n) (shown tree.nodes id n is));
   apart = λ a b m n is_a is_b parents names. q.apart a b (shape m) (shape n) (shown tree.nodes a m is_a) (shown tree.nodes b n is_b) parents names;
   named = λ id n is other. q.named id (shape n) (shown tree.nodes id n is) other;
-  by_name = by_name;
-  by_size = by_size;
-  by_time = by_time;
 }
 
--- and one with plain shapes and the indices of a plain tree
+-- and one with plain shapes and the indices of a plain tree is plain
 pub of-plain : (old new : Tree) → IsPlain old → new.indices ≡ old.indices → Plain new.root (shapes new.nodes) → IsPlain new
-of-plain old new p same q =
-    plain-with new q (ap (λ (m : Indices). get m (codes "name")) same ∙ p.by_name) (ap (λ (m : Indices). get m (codes "size")) same ∙ p.by_size) (ap (λ (m : Indices). get m (codes "last_modified")) same ∙ p.by_time)
+of-plain old new p same q = record { nodes = plain-nodes new q; indices = subst HasPlainIndices (sym same) p.indices }
 
 -- ---- one node is put, or taken
 
@@ -118,7 +111,7 @@ put at id s q = cond (eq_by_cmp nat_cmp q id) (Some s) (at q)
 abbrev pub taken : Shapes → ℕ → Shapes
 taken at id q = cond (eq_by_cmp nat_cmp q id) None (at q)
 
-same-or-other : (q id : ℕ) → ((q ≡ id) × (eq_by_cmp nat_cmp q id ≡ true)) ⊎ ((q ≢ id) × (eq_by_cmp nat_cmp q id ≡ false))
+pub same-or-other : (q id : ℕ) → ((q ≡ id) × (eq_by_cmp nat_cmp q id ≡ true)) ⊎ ((q ≢ id) × (eq_by_cmp nat_cmp q id ≡ false))
 same-or-other q id =
     elim (eq_by_cmp nat_cmp q id) as (λ b. eq_by_cmp nat_cmp q id ≡ b → ((q ≡ id) × (b ≡ true)) ⊎ ((q ≢ id) × (b ≡ false))) [
       | true ↦ λ e. inl (grind (arith, e), refl)
@@ -209,11 +202,11 @@ module _ (at : Shapes) (id : ℕ) (s : Shape) where
       }
 
 module _ (at : Shapes) (id : ℕ) where
-  taken-other : (q : ℕ) → eq_by_cmp nat_cmp q id ≡ false → taken at id q ≡ at q
+  pub taken-other : (q : ℕ) → eq_by_cmp nat_cmp q id ≡ false → taken at id q ≡ at q
   taken-other q e = ap (λ b. cond b None (at q)) e
 
   -- a node that is left
-  left : (q : ℕ) (t : Shape) → taken at id q ≡ Some t → (q ≢ id) × (at q ≡ Some t)
+  pub left : (q : ℕ) (t : Shape) → taken at id q ≡ Some t → (q ≢ id) × (at q ≡ Some t)
   left q t is = elim (same-or-other q id) as (λ _. (q ≢ id) × (at q ≡ Some t)) [
     | inl here ↦ let gone : taken at id q ≡ None = ap (λ b. cond b None (at q)) here.1 in cc
     | inr other ↦ (other.0, sym (taken-other q other.1) ∙ is)
@@ -232,6 +225,11 @@ module _ (at : Shapes) (id : ℕ) where
     | inl here ↦ absurd (away here.0)
     | inr other ↦ way_up q t (taken-other q other.1 ∙ is) (way-taken childless top t.parent (childless q t is) up)
   ]
+
+  -- a way that is left was there
+  pub way-back : (top q : ℕ) → Way (taken at id) top q → Way at top q
+  way-back top _ way_end = way_end
+  way-back top _ (way_up q t is up) = way_up q t (left q t is).1 (way-back top t.parent up)
 
   pub plain-taken : (root : ℕ) → Plain root at → id ≢ root → ((q : ℕ) (t : Shape) → at q ≡ Some t → q ≢ root → t.parent ≢ id) → Plain root (taken at id)
   plain-taken root p away childless =

@@ -9,9 +9,9 @@ use Rattle.bfs_tree.specs.declared.reply.Entry.{Entry}
 use Rattle.bfs_tree.specs.declared.state.Hold.{Hold}
 use Rattle.bfs_tree.specs.Trees.{Node, child}
 use Rattle.bfs_tree.specs.States.{State, conflict}
-use Rattle.bfs_tree.specs.Refusals.{first, at_node, at_child, at_index, held, refusals, own_refusal}
+use Rattle.bfs_tree.specs.Refusals.{first, at_node, at_child, at_replaced, at_index, replaced, held, refusals, own_refusal}
 use Rattle.bfs_tree.specs.Answers.{IsAnswer}
-use Rattle.bfs_tree.specs.Steps.{refused, by_disk, no_room, answered, is_done, is_by_disk, is_for_room, Step, next}
+use Rattle.bfs_tree.specs.Steps.{refused, answered, by_tree, by_disk, no_room, is_done, is_by_disk, is_for_room, Step, next}
 use Rattle.std.specs.FinMap.{get}
 
 -- each reply of a row of refusals is one of no call that is done
@@ -32,6 +32,10 @@ child-refuses : (o : Option (ℕ × Node)) (rest : ℕ → Node → List (Bool �
 child-refuses None rest each = (refl, tt)
 child-refuses (Some e) rest each = each e.0 e.1
 
+replaced-refuses : (o : Option (ℕ × Node)) (rest : ℕ → Node → List (Bool × Reply)) → ((id : ℕ) (n : Node) → EachRefuses (rest id n)) → EachRefuses (at_replaced o rest)
+replaced-refuses None rest each = tt
+replaced-refuses (Some e) rest each = each e.0 e.1
+
 index-refuses : (o : Option KeyKind) (rest : KeyKind → List (Bool × Reply)) → ((k : KeyKind) → EachRefuses (rest k)) → EachRefuses (at_index o rest)
 index-refuses None rest each = (refl, tt)
 index-refuses (Some k) rest each = each k
@@ -44,7 +48,7 @@ rows-refuse : (call : Call) (s : State) → EachRefuses (refusals call s)
 rows-refuse (calls.Make dir name kind mode) s = node-refuses (get s.tree.nodes dir) _ (λ d. (refl, (refl, (refl, (refl, tt)))))
 rows-refuse (calls.Remove dir name) s = node-refuses (get s.tree.nodes dir) _ (λ d. (refl, child-refuses (child s.tree dir name) _ (λ id n. (refl, held-refuses (conflict s.holds id true)))))
 rows-refuse (calls.Rename dir name to_dir to_name) s =
-    node-refuses (get s.tree.nodes dir) _ (λ d. (refl, child-refuses (child s.tree dir name) _ (λ id n. node-refuses (get s.tree.nodes to_dir) _ (λ t. (refl, (refl, (refl, (refl, tt))))))))
+    node-refuses (get s.tree.nodes dir) _ (λ d. (refl, child-refuses (child s.tree dir name) _ (λ id n. node-refuses (get s.tree.nodes to_dir) _ (λ t. (refl, (refl, (refl, replaced-refuses (replaced id (child s.tree to_dir to_name)) _ (λ there o. (refl, (refl, held-refuses (conflict s.holds there true)))))))))))
 rows-refuse (calls.Lookup dir name) s = node-refuses (get s.tree.nodes dir) _ (λ d. (refl, child-refuses (child s.tree dir name) _ (λ id n. tt)))
 rows-refuse (calls.List dir) s = node-refuses (get s.tree.nodes dir) _ (λ d. (refl, tt))
 rows-refuse (calls.Stat id) s = node-refuses (get s.tree.nodes id) _ (λ n. tt)
@@ -55,7 +59,7 @@ rows-refuse (calls.AttrWrite id name kind bytes) s = node-refuses (get s.tree.no
 rows-refuse (calls.AttrRead id name) s = node-refuses (get s.tree.nodes id) _ (λ n. (refl, tt))
 rows-refuse (calls.AttrRemove id name) s = node-refuses (get s.tree.nodes id) _ (λ n. (refl, tt))
 rows-refuse (calls.AttrList id) s = node-refuses (get s.tree.nodes id) _ (λ n. tt)
-rows-refuse (calls.IndexMake name kind) s = (refl, (refl, (refl, (refl, tt))))
+rows-refuse (calls.IndexMake name kind) s = (refl, (refl, (refl, (refl, (refl, tt)))))
 rows-refuse (calls.IndexRemove name) s = (refl, (refl, tt))
 rows-refuse calls.IndexList s = tt
 rows-refuse (calls.IndexFind name low high) s = index-refuses (get s.tree.indices name) _ (λ k. (refl, tt))
@@ -109,13 +113,13 @@ answer-done session (calls.Release id bytes whole before after) s r h = ap is_do
 answer-done session calls.Sync s r h = ap is_done h.1
 
 pub step-next : (old new : State) (e : Entry) → Step old e new → new ≡ next old e
-step-next old new e (refused is_refused stays) = rw (own-refuses e.call old e.reply is_refused) stays
+step-next old new e (by_tree (refused is_refused stays)) = rw (own-refuses e.call old e.reply is_refused) stays
 step-next old new e (by_disk fault stays) = rw (disk-refuses e.reply fault) stays
 step-next old new e (no_room free changes want stays) = rw (room-refuses e.reply want) stays
-step-next old new e (answered free answer is) = rw (answer-done e.session e.call old e.reply answer) is
+step-next old new e (by_tree (answered free answer is)) = rw (answer-done e.session e.call old e.reply answer) is
 
 pub refusal-unique : (old new : State) (e : Entry) (r : Reply) → own_refusal e.call old ≡ Some r → Step old e new → ((e.reply ≡ r) ⊎ IsTrue (is_by_disk e.reply)) × (new ≡ old)
-refusal-unique old new e r is (refused is_refused stays) = let same : e.reply ≡ r = cc in (inl same, stays)
+refusal-unique old new e r is (by_tree (refused is_refused stays)) = let same : e.reply ≡ r = cc in (inl same, stays)
 refusal-unique old new e r is (by_disk fault stays) = (inr fault, stays)
 refusal-unique old new e r is (no_room free changes want stays) = cc
-refusal-unique old new e r is (answered free answer same) = cc
+refusal-unique old new e r is (by_tree (answered free answer same)) = cc

@@ -1,5 +1,5 @@
 -- The replies of calls that are done, and what they say of the state.
-use Rattle.std.specs.Prelude.{◌≡◌, ℕ, List, length, None, IsSomeAnd, IsTrue, IsFalse, map as each}
+use Rattle.std.specs.Prelude.{◌≡◌, ◌≤◌, ◌≤ℤ◌, ℕ, pos, List, length, None, IsSomeAnd, IsTrue, IsFalse, map as each}
 use Rattle.std.specs.FinMap.{get, entries}
 use Rattle.bfs_base.specs.Keys.{text_cmp}
 use Rattle.bfs_base.specs.declared.kind.KeyKind.{KeyKind}
@@ -64,6 +64,12 @@ IsAnswer session (calls.IndexFind name low high) s reply = IsSomeAnd (get s.tree
 IsAnswer session (calls.Hold id at count writes) s reply = reply ≡ Done
 IsAnswer session (calls.Release id bytes whole before after) s reply = (reply ≡ Done) × IsSomeAnd (last_hold s.holds session id) (λ hold. IsTrue whole → Ends s hold bytes)
 IsAnswer session calls.Sync s reply = (upto : ℕ) × (reply ≡ Synced upto)
+
+-- What is asked of a call whoever makes it: a mode has no bit but the twelve of permissions, and no user or group is below 0.
+abbrev pub KeepsRanges : Call → Type 0
+KeepsRanges (calls.Make dir name kind mode) = mode ≤ 4095
+KeepsRanges (calls.SetMode id mode uid gid) = (mode ≤ 4095) × (pos 0 ≤ℤ uid) × (pos 0 ≤ℤ gid)
+KeepsRanges _ = Unit {0}
 
 -- What a call needs of its session: for a Release a hold on that id, and bytes that may be its. Other calls need nothing.
 abbrev pub IsReady : ℕ → Call → State → Type 0

@@ -1,5 +1,5 @@
 -- How a call that is done changes the state. Nothing else changes.
-use Rattle.std.specs.Prelude.{ℕ, ℤ, List, [], ◌∷◌, ◌++◌, length, Option, Some, None, Bool, ◌&&◌, if◌then◌else◌}
+use Rattle.std.specs.Prelude.{ℕ, ℤ, List, [], ◌∷◌, ◌++◌, length, Option, Some, None, Bool, ◌&&◌, ◌==◌, if◌then◌else◌}
 use Rattle.std.specs.FinMap.{get, insert, remove}
 use Rattle.bfs_tree.specs.declared.call.Kind.{Kind}
 use Rattle.bfs_tree.specs.declared.call.Kind.TheVariants as node
@@ -44,6 +44,10 @@ made s dir name kind mode stamp id =
     with_nodes s (with_node (insert s.tree.nodes id (new_node (kind_made kind) name dir mode (length (target_of kind)) (target_of kind) stamp)) dir (touched stamp))
 
 -- the node leaves the tree, and what is known of its bytes is forgotten
+abbrev pub without_node : State → ℕ → State
+without_node s id = record { tree = record s.tree { nodes = remove s.tree.nodes id }; holds = s.holds; known = forget_node s.known id }
+
+-- and its directory has changed
 abbrev pub dropped : State → ℕ → ℤ → ℕ → State
 dropped s dir stamp id = record { tree = record s.tree { nodes = with_node (remove s.tree.nodes id) dir (touched stamp) }; holds = s.holds; known = forget_node s.known id }
 
@@ -56,11 +60,20 @@ abbrev pub resized : State → ℕ → ℕ → ℤ → State
 resized s id size stamp =
     record { tree = record s.tree { nodes = with_node s.tree.nodes id (λ n. record n { size = size; modified = stamp; changed = stamp }) }; holds = s.holds; known = forget_from s.known id size }
 
--- the node gets the new name and parent
+-- the node gets the new name and parent, and both directories have changed
+abbrev pub moved : State → ℕ → ℕ → List ℕ → ℤ → ℕ → State
+moved s dir to_dir to_name stamp id =
+    with_nodes s (with_node (with_node (with_node s.tree.nodes dir (touched stamp)) to_dir (touched stamp)) id (λ n. record n { name = to_name; parent = to_dir; changed = stamp }))
+
+-- The node is moved to a name. Where it has that name itself, nothing changes, and another node of that name leaves the
+-- tree first.
+abbrev pub moved_over : State → ℕ → ℕ → List ℕ → ℤ → ℕ → Option (ℕ × Node) → State
+moved_over s dir to_dir to_name stamp id None = moved s dir to_dir to_name stamp id
+moved_over s dir to_dir to_name stamp id (Some there) = if there.0 == id then s else moved (without_node s there.0) dir to_dir to_name stamp id
+
 abbrev pub renamed : State → ℕ → ℕ → List ℕ → ℤ → Option (ℕ × Node) → State
 renamed s dir to_dir to_name stamp None = s
-renamed s dir to_dir to_name stamp (Some e) =
-    with_nodes s (with_node (with_node (with_node s.tree.nodes dir (touched stamp)) to_dir (touched stamp)) e.0 (λ n. record n { name = to_name; parent = to_dir; changed = stamp }))
+renamed s dir to_dir to_name stamp (Some e) = moved_over s dir to_dir to_name stamp e.0 (child s.tree to_dir to_name)
 
 -- a hold is appended; one for writing forgets its places, and its file counts as changed
 abbrev pub holding_to_write : State → Hold → ℤ → State

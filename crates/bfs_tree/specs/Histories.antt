@@ -1,6 +1,8 @@
 -- Legal and After: the histories that a tree may have.
-use Rattle.std.specs.Prelude.{◌≡◌, ◌<◌, ◌≤◌, ◌+◌, ◌<ℤ◌, ℕ, List, [], ◌∷◌, ◌++◌, length, Bool, true, false, IsTrue, ◌==◌, if◌then◌else◌}
+use Rattle.std.specs.Prelude.{◌≡◌, ◌<◌, ◌≤◌, ◌+◌, ◌*◌, ◌<ℤ◌, ◌+ℤ◌, ℕ, ℤ, pos, Some, IsSome, List, [], ◌∷◌, ◌++◌, length, Bool, true, false, IsTrue, ◌==◌, if◌then◌else◌}
 use Rattle.std.specs.List.{All, list_any, fold}
+use Rattle.std.specs.Int.{int_max}
+use Rattle.std.specs.FinMap.{get}
 use Rattle.bfs_tree.specs.declared.call.Call.{Call}
 use Rattle.bfs_tree.specs.declared.call.Call.TheVariants as calls
 use Rattle.bfs_tree.specs.declared.reply.Reply.{Reply}
@@ -8,12 +10,29 @@ use Rattle.bfs_tree.specs.declared.reply.Reply.TheVariants as replies
 use Rattle.bfs_tree.specs.declared.reply.Entry.{Entry}
 use Rattle.bfs_tree.specs.Steps.{Step, next, is_by_disk}
 use Rattle.bfs_tree.specs.States.{State, Known}
-use Rattle.bfs_tree.specs.Trees.{Tree}
+use Rattle.bfs_tree.specs.Trees.{Tree, Node, IsNode, is_file}
 
 -- what stands at mounting: a tree, and the bytes of its files by (id, place)
 pub record Mounted : Type 0 where
   pub tree : Tree
   pub bytes : Known
+
+-- a place of a file, below its size
+abbrev pub IsFilePlace : Tree → ℕ → ℕ → Type 0
+IsFilePlace tree id place = (node : Node) × IsNode tree id node × IsTrue (is_file node.kind) × (place < node.size)
+
+-- The bytes at mounting are those of the files: each is a byte at a place of a file, and each such place has one.
+pub record IsMounted (t0 : Mounted) : Type 0 where
+  pub within : (id place byte : ℕ) → get t0.bytes (id, place) ≡ Some byte → (byte < 256) × IsFilePlace t0.tree id place
+  pub whole : (id place : ℕ) → IsFilePlace t0.tree id place → IsSome (get t0.bytes (id, place))
+
+-- The stamp that an entry draws: the greater of the one after the last stamp, and the seconds of the clock in the upper 48
+-- bits. The last stamp is that of the history's last entry, and 0 at mounting.
+abbrev pub drawn : ℤ → ℕ → ℤ
+drawn last now = int_max (last +ℤ pos 1) (pos (now * 65536))
+
+abbrev pub last_stamp : List Entry → ℤ
+last_stamp history = fold (λ last e. e.stamp) (pos 0) history
 
 -- the state at mounting: nobody holds anything, and every byte of the files is known
 abbrev pub start : Mounted → State

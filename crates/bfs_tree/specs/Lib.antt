@@ -9,3 +9,4 @@ pub mod Changes
 pub mod Steps
 pub mod Histories
 pub mod Laws
+pub mod ListedLaws

@@ -14,7 +14,7 @@ use Rattle.bfs_base.specs.declared.kind.KeyKind.TheVariants as kinds
 use Rattle.bfs_tree.specs.declared.rows.Key.{Key}
 use Rattle.bfs_tree.specs.declared.rows.Key.TheVariants as keys
 use Rattle.bfs_tree.specs.declared.rows.FoundRow.{FoundRow}
-use Rattle.bfs_tree.specs.Orders.{in_order}
+use Rattle.bfs_tree.specs.Orders.{placed, in_order}
 use Rattle.bfs_tree.specs.Trees.{Node, Nodes, Tree, Attribute, is_file}
 
 -- the type code of the attributes that an index of this kind lists: CSTR, LONG, ULNG, LLNG, ULLG, FLOT and DBLE, four letters each
@@ -76,6 +76,23 @@ listed_among root index kind nodes = in_order (pair_cmp kind) (pairs_in root ind
 -- Listed: the pairs of key and id of all nodes that match the index's rule, by key, then by id
 abbrev pub listed : Tree → List ℕ → KeyKind → List (List ℕ × ℕ)
 listed tree index kind = listed_among tree.root index kind (entries tree.nodes)
+
+-- the key under which an index lists the node of an id, if it is there and the index does
+abbrev pub key_at : Tree → List ℕ → KeyKind → ℕ → Option (List ℕ)
+key_at tree index kind id = option_and_then (key_in tree.root index kind id) (get tree.nodes id)
+
+-- pairs without those of a node
+abbrev pub without_id : ℕ → List (List ℕ × ℕ) → List (List ℕ × ℕ)
+without_id id pairs = filter (λ pair. not (pair.1 == id)) pairs
+
+-- pairs with one of a node in its place, if it has a key
+abbrev pub with_key : KeyKind → ℕ → Option (List ℕ) → List (List ℕ × ℕ) → List (List ℕ × ℕ)
+with_key kind id None pairs = pairs
+with_key kind id (Some key) pairs = placed (pair_cmp kind) pairs (key, id)
+
+-- the pairs of a node go, and the pair of its new key comes, if it has one
+abbrev pub relisted : KeyKind → ℕ → Option (List ℕ) → List (List ℕ × ℕ) → List (List ℕ × ℕ)
+relisted kind id key pairs = with_key kind id key (without_id id pairs)
 
 -- a key's kind, and its bytes as they stand in a page of the index
 abbrev pub kind_of_key : Key → KeyKind

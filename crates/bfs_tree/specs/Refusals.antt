@@ -6,6 +6,7 @@ use Rattle.std.specs.Str.{bytes_eq}
 use Rattle.std.specs.FinMap.{get, len, entries}
 use Rattle.bfs_base.specs.declared.kind.KeyKind.{KeyKind}
 use Rattle.bfs_base.specs.declared.kind.KeyKind.TheVariants as kinds
+use Rattle.bfs_tree.specs.declared.call.Kind.{Kind}
 use Rattle.bfs_tree.specs.declared.call.Call.{Call}
 use Rattle.bfs_tree.specs.declared.call.Call.TheVariants as calls
 use Rattle.bfs_tree.specs.declared.reply.Reply.{Reply}
@@ -40,6 +41,20 @@ held (Some h) = (true, Held h.session) ∷ []
 abbrev pub line_up : Nodes → ℕ → ℕ → List ℕ
 line_up nodes zero d = d ∷ []
 line_up nodes (suc n) d = d ∷ line_up nodes n (option_map_or (λ node. node.parent) (get nodes d) d)
+
+-- of the node that has a name, the one that a rename to that name replaces: the moved node itself is none
+abbrev pub replaced : ℕ → Option (ℕ × Node) → Option (ℕ × Node)
+replaced id None = None
+replaced id (Some e) = if e.0 == id then None else Some e
+
+-- nothing where no node is replaced, and else what comes for that node
+abbrev pub at_replaced : Option (ℕ × Node) → (ℕ → Node → List (Bool × Reply)) → List (Bool × Reply)
+at_replaced None rest = []
+at_replaced (Some e) rest = rest e.0 e.1
+
+-- just one of the two kinds is a directory
+abbrev pub is_one_dir : Kind → Kind → Bool
+is_one_dir a b = if is_dir a then not (is_dir b) else is_dir b
 
 -- the node is a directory, and the other directory is it or below it
 abbrev pub is_inside : Tree → ℕ → Node → ℕ → Bool
@@ -88,7 +103,7 @@ at_index None rest = (true, NoIndex) ∷ []
 at_index (Some kind) rest = rest kind
 
 -- The refusals of each call with their conditions, in order. A target is at most 1,024 bytes, a file 1,073,741,824, an
--- attribute and a held piece 65,536. There are at most 32 indices.
+-- attribute and a held piece 65,536. There are at most 32 indices, and none is made where there is none.
 abbrev pub refusals : Call → State → List (Bool × Reply)
 refusals (calls.Make dir name kind mode) s = at_node (get s.tree.nodes dir) (λ d.
     (not (is_dir d.kind), NotDir) ∷ (is_bad_name name || is_bad_target kind, NameBad) ∷ (nat_lt 1024 (length (target_of kind)), TooBig) ∷ (is_some (child s.tree dir name), Exists) ∷ [])
@@ -98,7 +113,8 @@ refusals (calls.Remove dir name) s = at_node (get s.tree.nodes dir) (λ d.
 refusals (calls.Rename dir name to_dir to_name) s = at_node (get s.tree.nodes dir) (λ d.
     (not (is_dir d.kind), NotDir) ∷ at_child (child s.tree dir name) (λ id node.
     at_node (get s.tree.nodes to_dir) (λ t.
-    (not (is_dir t.kind), NotDir) ∷ (is_bad_name to_name, NameBad) ∷ (is_inside s.tree id node to_dir, Inside) ∷ (is_some (child s.tree to_dir to_name), Exists) ∷ [])))
+    (not (is_dir t.kind), NotDir) ∷ (is_bad_name to_name, NameBad) ∷ (is_inside s.tree id node to_dir, Inside) ∷ at_replaced (replaced id (child s.tree to_dir to_name)) (λ there other.
+    (is_one_dir node.kind other.kind, Exists) ∷ (is_full s.tree there other, NotEmpty) ∷ held (conflict s.holds there true)))))
 refusals (calls.Lookup dir name) s = at_node (get s.tree.nodes dir) (λ d.
     (not (is_dir d.kind), NotDir) ∷ at_child (child s.tree dir name) (λ id node. []))
 refusals (calls.List dir) s = at_node (get s.tree.nodes dir) (λ d. (not (is_dir d.kind), NotDir) ∷ [])
@@ -113,7 +129,7 @@ refusals (calls.AttrRead id name) s = at_node (get s.tree.nodes id) (λ node. (i
 refusals (calls.AttrRemove id name) s = at_node (get s.tree.nodes id) (λ node. (is_none (get node.attributes name), NoAttr) ∷ [])
 refusals (calls.AttrList id) s = at_node (get s.tree.nodes id) (λ node. [])
 refusals (calls.IndexMake name kind) s =
-    (is_some (get s.tree.indices name), Exists) ∷ (is_float kind, FloatIndex) ∷ (is_bad_name name, NameBad) ∷ (nat_le 32 (len s.tree.indices), IndexCount) ∷ []
+    (len s.tree.indices == 0, NoIndex) ∷ (is_some (get s.tree.indices name), Exists) ∷ (is_float kind, FloatIndex) ∷ (is_bad_name name, NameBad) ∷ (nat_le 32 (len s.tree.indices), IndexCount) ∷ []
 refusals (calls.IndexRemove name) s = (is_none (get s.tree.indices name), NoIndex) ∷ (is_built_in name, BuiltIn) ∷ []
 refusals calls.IndexList s = []
 refusals (calls.IndexFind name low high) s = at_index (get s.tree.indices name) (λ kind.

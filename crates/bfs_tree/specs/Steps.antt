@@ -60,27 +60,32 @@ is_done (replies.Rows rows) = true
 is_done (replies.Synced upto) = true
 is_done _ = false
 
--- One call of a session, its reply, and the states before and after. It is refused by the first of its own refusals
--- whose condition holds; or by the disk; or for want of room, where it changes the tree and no own refusal's condition
--- holds; and then the state stays. Or it is done, where no own refusal's condition holds, with the reply and the change
--- that belong to it.
+-- One call of a session that is answered by the tree alone, its reply, and the states before and after. It is refused
+-- by the first of its own refusals whose condition holds, and then the state stays. Or no such condition holds, and it is
+-- done with the reply and the change that belong to it.
+pub data ByTree (session : ℕ) (stamp : ℤ) (call : Call) (reply : Reply) (old new : State) : Type 0 where
+  refused : own_refusal call old ≡ Some reply → new ≡ old → ByTree session stamp call reply old new
+  answered : own_refusal call old ≡ None → IsAnswer session call old reply → new ≡ changed session stamp call reply old → ByTree session stamp call reply old new
+
+-- One call of a session, its reply, and the states before and after. It is answered by the tree alone; or it is refused by
+-- the disk; or for want of room, where it changes the tree and no own refusal's condition holds; and where it is refused
+-- the state stays.
 pub data Turn (session : ℕ) (stamp : ℤ) (call : Call) (reply : Reply) (old new : State) : Type 0 where
-  refused : own_refusal call old ≡ Some reply → new ≡ old → Turn session stamp call reply old new
+  by_tree : ByTree session stamp call reply old new → Turn session stamp call reply old new
   by_disk : IsTrue (is_by_disk reply) → new ≡ old → Turn session stamp call reply old new
   no_room : own_refusal call old ≡ None → IsTrue (changes_tree call) → IsTrue (is_for_room reply) → new ≡ old → Turn session stamp call reply old new
-  answered : own_refusal call old ≡ None → IsAnswer session call old reply → new ≡ changed session stamp call reply old → Turn session stamp call reply old new
 
 -- Step: the entry leads from the old state to the new one
 abbrev pub Step : State → Entry → State → Type 0
 Step old entry new = Turn entry.session entry.stamp entry.call entry.reply old new
 
--- the call may be answered so, and the state stays
+-- the tree alone answers the call so, and the state stays
 abbrev pub Reads : Call → State → Reply → Type 0
-Reads call s reply = (session : ℕ) (stamp : ℤ) → Turn session stamp call reply s s
+Reads call s reply = (session : ℕ) (stamp : ℤ) → ByTree session stamp call reply s s
 
--- the call, which no session's holds decide, may be answered so, with this stamp, and leads from one state to another
+-- the tree alone answers the call so, with this stamp and whatever the session, and it leads from one state to another
 abbrev pub Writes : ℤ → Call → Reply → State → State → Type 0
-Writes stamp call reply old new = (session : ℕ) → Turn session stamp call reply old new
+Writes stamp call reply old new = (session : ℕ) → ByTree session stamp call reply old new
 
 -- the state after an entry that is a Step
 abbrev pub next : State → Entry → State

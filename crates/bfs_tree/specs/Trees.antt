@@ -1,5 +1,5 @@
 -- The plain tree: nodes by id, and the kinds of the indices by name. It has no pages, runs or bits.
-use Rattle.std.specs.Prelude.{◌≡◌, ◌≢◌, ℕ, ℤ, List, [], Option, Some, Bool, true, false, not, ◌&&◌, ◌==◌, codes}
+use Rattle.std.specs.Prelude.{◌≡◌, ◌≢◌, ◌⊎◌, ℕ, ℤ, pos, List, [], Option, Some, Bool, true, false, not, ◌&&◌, ◌==◌, codes}
 use Rattle.std.specs.List.{filter, find}
 use Rattle.std.specs.Str.{bytes_eq}
 use Rattle.std.specs.Ordering.{nat_cmp}
@@ -26,8 +26,8 @@ pub record Node : Type 0 where
   pub name : List ℕ
   pub parent : ℕ
   pub mode : ℕ
-  pub uid : ℕ
-  pub gid : ℕ
+  pub uid : ℤ
+  pub gid : ℤ
   pub created : ℤ
   pub modified : ℤ
   pub changed : ℤ
@@ -39,10 +39,14 @@ pub record Node : Type 0 where
 abbrev pub Nodes : Type 0
 Nodes = FinMap nat_cmp Node
 
+-- the kinds of the indices by name; a volume may have none
+abbrev pub Indices : Type 0
+Indices = FinMap text_cmp KeyKind
+
 pub record Tree : Type 0 where
   pub root : ℕ
   pub nodes : Nodes
-  pub indices : FinMap text_cmp KeyKind
+  pub indices : Indices
 
 abbrev pub is_file : Kind → Bool
 is_file File = true
@@ -87,27 +91,39 @@ pub data LeadsTo (tree : Tree) (top : ℕ) : ℕ → Type 0 where
   at_top : LeadsTo tree top top
   by_parent : (id : ℕ) (node : Node) → IsNode tree id node → LeadsTo tree top node.parent → LeadsTo tree top id
 
--- The conditions of a plain tree. The root is a directory that has no name and is its own parent. Each node's parent is
--- a directory of the tree, and parents lead to the root. Two nodes with one parent have different names, and no name but
--- the root's is bad. The three built-in indices are there with their kinds.
-pub record IsPlain (tree : Tree) : Type 0 where
+-- What a plain tree keeps of its nodes. The root is a directory that has no name and is its own parent. Each node's
+-- parent is a directory of the tree, and parents lead to the root. Two nodes with one parent have different names, and
+-- no name but the root's is bad.
+pub record HasPlainNodes (tree : Tree) : Type 0 where
   pub root : IsDirectory tree tree.root
   pub own : (node : Node) → IsNode tree tree.root node → (node.name ≡ []) × (node.parent ≡ tree.root)
   pub parents : (id : ℕ) (node : Node) → IsNode tree id node → IsDirectory tree node.parent
   pub lead : (id : ℕ) (node : Node) → IsNode tree id node → LeadsTo tree tree.root id
   pub apart : (a b : ℕ) (m n : Node) → IsNode tree a m → IsNode tree b n → m.parent ≡ n.parent → m.name ≡ n.name → a ≡ b
   pub named : (id : ℕ) (node : Node) → IsNode tree id node → id ≢ tree.root → is_bad_name node.name ≡ false
-  pub by_name : get tree.indices (codes "name") ≡ Some Text
-  pub by_size : get tree.indices (codes "size") ≡ Some I64
-  pub by_time : get tree.indices (codes "last_modified") ≡ Some I64
+
+-- the three built-in indices are there with their kinds
+pub record HasBuiltIn (indices : Indices) : Type 0 where
+  pub by_name : get indices (codes "name") ≡ Some Text
+  pub by_size : get indices (codes "size") ≡ Some I64
+  pub by_time : get indices (codes "last_modified") ≡ Some I64
+
+-- there is no index, or the three built-in ones are there
+abbrev pub HasPlainIndices : Indices → Type 0
+HasPlainIndices indices = (indices ≡ empty) ⊎ HasBuiltIn indices
+
+-- the conditions of a plain tree
+pub record IsPlain (tree : Tree) : Type 0 where
+  pub nodes : HasPlainNodes tree
+  pub indices : HasPlainIndices tree.indices
 
 -- a new node: of user and group 0, with no attributes, all three stamps the same
 abbrev pub new_node : Kind → List ℕ → ℕ → ℕ → ℕ → List ℕ → ℤ → Node
 new_node kind name parent mode size target stamp =
-    record { kind = kind; name = name; parent = parent; mode = mode; uid = 0; gid = 0; created = stamp; modified = stamp; changed = stamp; size = size; target = target; attributes = empty }
+    record { kind = kind; name = name; parent = parent; mode = mode; uid = pos 0; gid = pos 0; created = stamp; modified = stamp; changed = stamp; size = size; target = target; attributes = empty }
 
--- the three indices that every tree has
-abbrev pub built_in : FinMap text_cmp KeyKind
+-- the three indices that a tree has at first
+abbrev pub built_in : Indices
 built_in = insert (insert (insert empty (codes "name") Text) (codes "size") I64) (codes "last_modified") I64
 
 -- Empty: the root alone, a directory of mode 0755 that is its own parent and has no name, and the three indices

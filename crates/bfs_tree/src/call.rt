@@ -1,5 +1,6 @@
 // The calls of a volume.
-ghost use Rattle.std.specs.Prelude.{◌≡◌, IfOk, length};
+ghost use Rattle.std.specs.Prelude.{◌≡◌, ◌↔◌, IfOk, IsTrue, length};
+ghost use Rattle.bfs_tree.specs.Answers.{KeepsRanges};
 ghost use Rattle.bfs_tree.specs.Names.{target_of};
 ghost use Rattle.bfs_tree.specs.Changes.{kind_made};
 ghost use Rattle.bfs_tree.specs.Trees.{is_file, is_dir, is_link};
@@ -82,7 +83,7 @@ impl MakeKind {
 /// A call: 1 to 17 in the order of the list are the calls on names, attributes and indices, and the last
 /// three are the service entries, which hold a piece of a file, let it go, and ask for what is durable.
 ///
-/// `mode` is at most 0o7777, `uid` and `gid` are below 2^31. Ids, places, lengths and sizes count in bytes.
+/// `mode` is at most 0o7777, `uid` and `gid` are not below 0. Ids, places, lengths and sizes count in bytes.
 /// An attribute's `kind` is its type code.
 #[derive(Debug, Drop)]
 pub enum Call {
@@ -115,8 +116,8 @@ pub enum Call {
     SetMode {
         id: u64,
         mode: u32,
-        uid: u32,
-        gid: u32,
+        uid: i32,
+        gid: i32,
     },
     SetSize {
         id: u64,
@@ -169,4 +170,17 @@ pub enum Call {
         after: u64,
     },
     Sync,
+}
+
+impl Call {
+    /// The mode, the user and the group of the call are in their ranges, where it has them.
+    pub fn keeps_ranges(&self) -> bool
+        ensures { IsTrue result ↔ KeepsRanges self.now }
+    {
+        match self {
+            Call::Make { mode, .. } => *mode <= 0o7777,
+            Call::SetMode { mode, uid, gid, .. } => *mode <= 0o7777 && *uid >= 0 && *gid >= 0,
+            _ => true,
+        }
+    }
 }

@@ -1,0 +1,6 @@
+use Rattle.std.proofs.Common.{refl, arith}
+use Rattle.bfs_tree.proofs.Sames.{same-by-places}
+use Rattle.bfs_tree.proofs.same.same_attributes.Goals as goal
+
+pub returns : goal.returns
+returns c = (λ _. same-by-places c.args.rows.now c.args.others.now c.if-rows-others.false (λ k d short. c.loop-i.invariant k d (omega (arith, short, c.loop-i-test.false))), λ _. refl)

@@ -1,0 +1,7 @@
+pub mod Cuts
+pub mod Spelled
+pub mod Unescaping
+pub mod Parts
+pub mod Octal
+pub mod BadLines
+pub mod Noted

@@ -1,0 +1,30 @@
+// Scripts of a volume's commands, and the text of the replies. A script is read by the grammar in specs/Grammar.antt, whose
+// words stand in specs/Words.antt and whose lines in specs/Cutting.antt; the text of a history is that of specs/Texts.antt.
+#![tactic(auto)]
+
+mod command;
+mod commands;
+mod digits;
+mod escapes;
+mod fault;
+mod lines;
+mod next;
+mod pieces;
+mod put;
+mod reading;
+mod replies;
+mod rows;
+mod script;
+mod texts;
+mod values;
+mod verbs;
+mod words;
+
+pub use command::{Command, Path};
+pub use fault::ScriptFault;
+pub use reading::parse;
+pub use script::{Line, Script};
+pub use texts::{is_quiet, text};
+
+#[cfg(test)]
+mod tests;

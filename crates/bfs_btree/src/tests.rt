@@ -363,3 +363,39 @@ fn keys_are_found_in_a_tree_of_another_maker(rt: HostRuntime) -> Result<(), Fail
     }
     Ok(())
 }
+
+/// A tree whose root has the key m twice, with an empty leaf between.
+fn empty_between(bytes: &mut Vec<u8>) -> Result<(), AllocError> {
+    bytes.extend_from_slice(&header_of(2, 5120))?;
+    bytes.extend_from_slice(&page_of(&[(b"m", 2048), (b"m", 3072)], (-1, -1, 4096)))?;
+    bytes.extend_from_slice(&page_of(&[(b"a", 1), (b"m", 5)], (-1, 3072, -1)))?;
+    bytes.extend_from_slice(&page_of(&[], (2048, 4096, -1)))?;
+    bytes.extend_from_slice(&page_of(&[(b"x", 9)], (3072, -1, -1)))?;
+    Ok(())
+}
+
+#[test]
+fn an_empty_leaf_stands_between_two_keys_that_are_the_same(rt: HostRuntime) -> Result<(), Fail> {
+    let mut bytes = Vec::new(rt.alloc());
+    empty_between(&mut bytes)?;
+    let wants: [(&[u8], Option<(u64, i64)>); 5] = [
+        (b"a", Some((2048, 1))),
+        (b"b", Some((2048, 6))),
+        (b"m", Some((2048, 5))),
+        (b"n", Some((4096, 7))),
+        (b"x", Some((4096, 9))),
+    ];
+    match stream_of(bytes) {
+        Some(mut pages) => {
+            assert_eq!(rt; found(&mut pages, b"n"), None);
+            assert_eq!(rt; said(&mut pages, b"m", 8), Reply::Exists);
+            assert_eq!(rt; said(&mut pages, b"b", 6), Reply::Done);
+            assert_eq!(rt; said(&mut pages, b"n", 7), Reply::Done);
+            assert!(rt; found_at(&mut pages, &wants));
+            assert_eq!(rt; taken(&mut pages, b"m"), Removal::Value(5));
+            assert_eq!(rt; found(&mut pages, b"m"), None);
+        }
+        None => assert!(rt; false),
+    }
+    Ok(())
+}

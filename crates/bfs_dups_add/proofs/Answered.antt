@@ -10,20 +10,21 @@ use Rattle.bfs_values.specs.declared.link.Link.{Link}
 use Rattle.bfs_values.specs.declared.link.Link.TheVariants.{Number, Fragment, Chain}
 use Rattle.bfs_values.specs.Links.{link_in}
 use Rattle.bfs_values.specs.Values.{IsFragment, page_count, chain_of, numbers_of_pages, AreDuplicates, in_order, placed, HasNumbers, numbers_in, HasValues, values_in}
-use Rattle.bfs_dups_add.specs.Chained.{Chained, IsRoom}
+use Rattle.bfs_values.specs.Chained.{Chained}
+use Rattle.bfs_dups_add.specs.Rooms.{IsRoom}
 use Rattle.bfs_dups_add.specs.declared.scan.Room.{Room}
-use Rattle.bfs_dups_add.specs.Stored.{Stored, SameNumbers, IsRevalued, with_number}
+use Rattle.bfs_values.specs.Stored.{Stored, SameNumbers, IsRevalued, with_number}
 use Rattle.bfs_dups_add.specs.Written.{IsVacated, IsPut, IsLast}
 use Rattle.bfs_pages.proofs.OfKind.{leaf-fields}
 use Rattle.bfs_pages.proofs.Splice.{times-append}
-use Rattle.bfs_rows.specs.Reached.{times_named}
+use Rattle.bfs_values.specs.Reached.{times_named}
 use Rattle.bfs_values.specs.Kinds.{IsValueOf, IsNamed, IsWanted}
 use Rattle.bfs_node.specs.declared.fault.PageKind.TheVariants.{Fragment as FragmentKind, Leaf as LeafKind}
-use Rattle.bfs_dups_add.specs.Named.{IsNamedIn}
-use Rattle.bfs_dups_add.proofs.Chaining.{chain-there}
+use Rattle.bfs_values.specs.Named.{IsNamedIn}
+use Rattle.bfs_values.proofs.Chaining.{chain-there}
 use Rattle.bfs_dups_add.proofs.Composed.{vacated}
 use Rattle.bfs_dups_add.proofs.Lengthened.{raised}
-use Rattle.bfs_dups_add.proofs.Opened.{own, Open, opened, closed, named-split}
+use Rattle.bfs_values.proofs.Opened.{own, Open, opened, closed, named-split}
 use Rattle.bfs_dups_add.proofs.Ordered.{order-times}
 use Rattle.bfs_dups_add.proofs.Slotted.{decide, own-self}
 

@@ -9,7 +9,7 @@ use Rattle.bfs_txn.specs.Pages.{HasLength}
 use Rattle.bfs_pages.specs.Answers.{IsOfKind, IsOfPages, IsRefused, IsOutgrown, IsSpared}
 use Rattle.bfs_pages.specs.Writes.{IsFailed}
 use Rattle.bfs_values.specs.Kinds.{IsWanted, IsCut}
-use Rattle.bfs_dups_add.specs.Stored.{IsTooLong, IsScant}
+use Rattle.bfs_values.specs.Stored.{IsTooLong, IsScant}
 
 outgrown : (told : Option (List ℕ)) → IfSome told IsOutgrown → IfSome told IsTooLong
 outgrown None h = tt

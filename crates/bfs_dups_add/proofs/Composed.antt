@@ -14,10 +14,10 @@ use Rattle.bfs_values.specs.declared.link.Link.{Link}
 use Rattle.bfs_values.specs.declared.link.Link.TheVariants.{Number, Fragment, Chain, Nothing}
 use Rattle.bfs_values.specs.Links.{link_in, link_by, page_bits}
 use Rattle.bfs_dups_add.specs.Slots.{SameBut}
-use Rattle.bfs_dups_add.specs.Stored.{Stored, SameNumbers}
+use Rattle.bfs_values.specs.Stored.{Stored, SameNumbers}
 use Rattle.bfs_dups_add.specs.Written.{IsCleared, IsEmptied, IsVacated}
 use Rattle.bfs_dups_add.proofs.Gained.{emptied}
-use Rattle.bfs_dups_add.proofs.Opened.{Open, opened}
+use Rattle.bfs_values.proofs.Opened.{Open, opened}
 use Rattle.bfs_dups_add.proofs.Slotted.{cleared}
 
 pub told-whole : (told : Option (List ℕ)) (size : ℕ) (b : List ℕ) → HasLength told size → size % 1024 ≡ 0 → told ≡ Some b → length b % 1024 ≡ 0

@@ -6,7 +6,7 @@ use Rattle.bfs_pages.specs.Trees.{page_in}
 use Rattle.bfs_values.specs.Links.{link_in}
 use Rattle.bfs_values.specs.declared.link.Link.{Link}
 use Rattle.bfs_values.specs.declared.link.Link.TheVariants.{Number, Fragment, Chain, Nothing}
-use Rattle.bfs_dups_add.specs.Named.{IsFull, IsCrowded}
+use Rattle.bfs_values.specs.Named.{IsFull, IsCrowded}
 
 -- the page of fragments that a value names, if it names one, has no free fragment
 abbrev pub NamesFull : List ℕ → ℤ → Type 0

@@ -5,8 +5,8 @@ use Rattle.bfs_pages.specs.Trees.{page_in}
 use Rattle.bfs_values.specs.declared.link.Link.TheVariants.{Number, Fragment, Chain}
 use Rattle.bfs_values.specs.Links.{link_in}
 use Rattle.bfs_values.specs.Values.{fragment_count, fragment_numbers, placed, numbers_in, values_in}
-use Rattle.bfs_dups_add.specs.Formed.{IsFormed}
-use Rattle.bfs_dups_add.specs.Stored.{with_number}
+use Rattle.bfs_values.specs.Formed.{IsFormed}
+use Rattle.bfs_values.specs.Stored.{with_number}
 use Rattle.bfs_dups_add.proofs.Answered.{with-old, with-new, pair-new}
 use Rattle.bfs_dups_add.proofs.Moved.{length-numbers}
 

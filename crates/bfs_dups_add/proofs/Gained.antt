@@ -9,11 +9,11 @@ use Rattle.bfs_pages.specs.Trees.{page_in, state_of, IsTree}
 use Rattle.bfs_pages.proofs.Splice.{self, times-append}
 use Rattle.bfs_values.specs.declared.link.Link.TheVariants.{Number, Fragment}
 use Rattle.bfs_values.specs.Values.{IsFragment, fragment_count, fragment_numbers, HasValues}
-use Rattle.bfs_rows.specs.Reached.{times_named}
-use Rattle.bfs_dups_add.specs.Stored.{SameNumbers}
+use Rattle.bfs_values.specs.Reached.{times_named}
+use Rattle.bfs_values.specs.Stored.{SameNumbers}
 use Rattle.bfs_dups_add.specs.Written.{IsPut, IsLone, IsEmptied}
-use Rattle.bfs_dups_add.proofs.Holding.{exchange, put, give, reached-child, reached-once}
-use Rattle.bfs_dups_add.proofs.Opened.{own, pages_of, Open, Keeps, keep-all, rows-kept}
+use Rattle.bfs_dups_add.proofs.Holding.{put, give, reached-child, reached-once}
+use Rattle.bfs_values.proofs.Opened.{exchange, own, pages_of, Open, Keeps, keep-all, rows-kept}
 use Rattle.bfs_dups_add.proofs.Slotted.{decide, eq_no, some-bytes, own-self, own-page, unnamed}
 
 eq_true : (a d : ℕ) → a ≡ d → (a == d) ≡ true

@@ -17,23 +17,6 @@ use Rattle.bfs_remove.specs.Removed.{IsGiven}
 use Rattle.bfs_remove.proofs.Giving.{given-back}
 use Rattle.bfs_dups_add.specs.Written.{IsPut}
 
--- the pages that values reach, in another order
-pub exchange : (kind : KeyKind) (b r s : List ℕ) (t : Shape) (fs : List ℕ) → ((x : ℕ) → times x s ≡ times x r) → IsTree kind b r t fs → IsTree kind b s t fs
-exchange kind b r s t fs e tree = record {
-  header = tree.header;
-  holds = record {
-    built = record {
-      root = tree.holds.built.root;
-      stands = tree.holds.built.stands;
-      deep = tree.holds.built.deep;
-      chain = tree.holds.built.chain;
-      once = λ x. omega (arith, tree.holds.built.once x, e x);
-    };
-    ascends = tree.holds.ascends;
-    linked = tree.holds.linked;
-  };
-}
-
 -- what stands where the tree's own pages stay
 pub stays : (kind : KeyKind) (b c r s : List ℕ) (t : Shape) (fs gs : List ℕ) → IsTree kind b r t fs → IsTreeHeader kind (length c) (header_in c)
     → (state_of kind c).root ≡ (state_of kind b).root → (state_of kind c).levels ≡ (state_of kind b).levels

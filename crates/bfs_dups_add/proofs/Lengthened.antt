@@ -10,14 +10,14 @@ use Rattle.bfs_pages.proofs.Splice.{self, times-append}
 use Rattle.bfs_values.specs.declared.link.Link.{Link}
 use Rattle.bfs_values.specs.declared.link.Link.TheVariants.{Number, Fragment, Chain}
 use Rattle.bfs_values.specs.Values.{IsFragment, fragment_count, fragment_numbers, IsDuplicates, page_count, page_numbers, next_of, EndsAfter, chain_of, numbers_of_pages, AreDuplicates, in_order, placed, is_ascending, HasNumbers, numbers_in}
-use Rattle.bfs_rows.specs.Reached.{times_named}
-use Rattle.bfs_dups_add.specs.Chained.{Chained}
-use Rattle.bfs_dups_add.specs.Stored.{SameNumbers}
+use Rattle.bfs_values.specs.Reached.{times_named}
+use Rattle.bfs_values.specs.Chained.{Chained}
+use Rattle.bfs_values.specs.Stored.{SameNumbers}
 use Rattle.bfs_dups_add.specs.Written.{IsPut, IsLast, IsWidened, IsExtended}
-use Rattle.bfs_dups_add.proofs.Chaining.{chain-is, chained-ends, numbers-kept, child-more}
+use Rattle.bfs_values.proofs.Chaining.{chain-is, chained-ends, numbers-kept, child-more}
 use Rattle.bfs_dups_add.proofs.Gained.{put-whole, put-pages, put-page}
-use Rattle.bfs_dups_add.proofs.Holding.{exchange, set, put, reached-child, reached-once}
-use Rattle.bfs_dups_add.proofs.Opened.{own, own_pages, pages_of, Open, Keeps, keep-all, rows-kept}
+use Rattle.bfs_dups_add.proofs.Holding.{set, put, reached-child, reached-once}
+use Rattle.bfs_values.proofs.Opened.{exchange, own, own_pages, pages_of, Open, Keeps, keep-all, rows-kept}
 use Rattle.bfs_dups_add.proofs.Ordered.{With, with-placed, with-front, with-back, with-order, with-once, order-up, up-once, up-of}
 use Rattle.bfs_dups_add.proofs.Scanning.{numbers-append}
 use Rattle.bfs_dups_add.proofs.Slotted.{decide, eq_no, some-bytes}

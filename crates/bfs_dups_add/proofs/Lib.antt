@@ -1,6 +1,5 @@
 pub mod Answered
 pub mod Causes
-pub mod Chaining
 pub mod Composed
 pub mod Crowding
 pub mod Forms
@@ -9,7 +8,6 @@ pub mod Holding
 pub mod Lengthened
 pub mod Linked
 pub mod Moved
-pub mod Opened
 pub mod Ordered
 pub mod Pages
 pub mod Scanning

@@ -42,6 +42,18 @@ pub right-some : (page : List ℕ) (q : ℕ) → unsigned_at 8 page 8 ≡ q → 
 unfolding signed64_at
 right-some page q e some small = ap (λ n. place_of (cast_signed w64 n)) e ∙ ap place_of (to_z_pos w64 (omega (arith, small))) ∙ place-pos q some
 
+pub left-none : (page : List ℕ) → unsigned_at 8 page 0 ≡ 18446744073709551615 → (neighbours_in page).0 ≡ 0
+unfolding signed64_at
+left-none page e = ap (λ n. place_of (cast_signed w64 n)) e
+
+pub left-some : (page : List ℕ) (q : ℕ) → unsigned_at 8 page 0 ≡ q → 1 ≤ q → q < 2 ^ 63 → (neighbours_in page).0 ≡ q
+unfolding signed64_at
+left-some page q e some small = ap (λ n. place_of (cast_signed w64 n)) e ∙ ap place_of (to_z_pos w64 small) ∙ place-pos q some
+
+pub left-same : (old new : List ℕ) → unsigned_at 8 new 0 ≡ unsigned_at 8 old 0 → (neighbours_in new).0 ≡ (neighbours_in old).0
+unfolding signed64_at
+left-same old new e = ap (λ n. place_of (cast_signed w64 n)) e
+
 pub same-links : (old new : List ℕ) → unsigned_at 8 new 0 ≡ unsigned_at 8 old 0 → unsigned_at 8 new 8 ≡ unsigned_at 8 old 8 → neighbours_in new ≡ neighbours_in old
 unfolding signed64_at
 same-links old new a b = λ i. (place_of (cast_signed w64 (a i)), place_of (cast_signed w64 (b i)))

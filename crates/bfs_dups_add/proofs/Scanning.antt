@@ -5,7 +5,8 @@ use Rattle.bfs_pages.specs.Answers.{IsChild, IsLink}
 use Rattle.bfs_pages.specs.Trees.{page_in}
 use Rattle.bfs_pages.proofs.Splice.{self, times-append}
 use Rattle.bfs_values.specs.Values.{page_count, page_numbers, next_of, AreDuplicates, numbers_of_pages}
-use Rattle.bfs_dups_add.specs.Chained.{Chained, IsRoom}
+use Rattle.bfs_values.specs.Chained.{Chained}
+use Rattle.bfs_dups_add.specs.Rooms.{IsRoom}
 
 -- the pages in front of this one haven't the number, and this one and those behind it are the rest of the chain
 pub record IsScanned (b xs : List ℕ) (number room at : ℕ) : Type 0 where

@@ -14,12 +14,12 @@ use Rattle.bfs_values.specs.declared.link.Link.{Link}
 use Rattle.bfs_values.specs.declared.link.Link.TheVariants.{Number, Fragment, Chain, Nothing}
 use Rattle.bfs_values.specs.Links.{link_in}
 use Rattle.bfs_values.specs.Values.{IsFragment, fragment_count, fragment_numbers, chain_of, HasNumbers, HasValues}
-use Rattle.bfs_rows.specs.Reached.{times_named, chain_in}
+use Rattle.bfs_values.specs.Reached.{times_named, chain_in}
 use Rattle.bfs_dups_add.specs.Slots.{SameBut}
-use Rattle.bfs_dups_add.specs.Stored.{SameNumbers}
+use Rattle.bfs_values.specs.Stored.{SameNumbers}
 use Rattle.bfs_dups_add.specs.Written.{IsFilled, IsCleared}
 use Rattle.bfs_dups_add.proofs.Holding.{set, reached-once}
-use Rattle.bfs_dups_add.proofs.Opened.{own, own_pages, pages_of, Open, Keeps, keep-all, rows-kept}
+use Rattle.bfs_values.proofs.Opened.{own, own_pages, pages_of, Open, Keeps, keep-all, rows-kept}
 use Rattle.bfs_dups_add.proofs.Pages.{other-count, other-numbers, other-fragment}
 
 eq_is : (a d : ℕ) → (a == d) ≡ true → a ≡ d

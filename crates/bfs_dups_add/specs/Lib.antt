@@ -1,6 +1,3 @@
-pub mod Chained
-pub mod Formed
-pub mod Named
+pub mod Rooms
 pub mod Slots
-pub mod Stored
 pub mod Written

@@ -11,9 +11,9 @@ ghost use Rattle.bfs_values.specs.Kinds.{IsValueOf, IsCut};
 ghost use Rattle.bfs_values.specs.Links.{link_in};
 ghost use Rattle.bfs_values.specs.Values.{HasValues, values_in, placed};
 ghost use Rattle.bfs_values.specs.declared.link.Link.TheVariants.{Number, Fragment, Chain};
-ghost use Rattle.bfs_dups_add.specs.Formed.{IsFormed};
-ghost use Rattle.bfs_dups_add.specs.Named.{IsNamedIn, IsCrowded};
-ghost use Rattle.bfs_dups_add.specs.Stored.{Stored, IsRevalued, IsScant, with_number};
+ghost use Rattle.bfs_values.specs.Formed.{IsFormed};
+ghost use Rattle.bfs_values.specs.Named.{IsNamedIn, IsCrowded};
+ghost use Rattle.bfs_values.specs.Stored.{Stored, IsRevalued, IsScant, with_number};
 
 use crate::links::{chain_value, fragment_value};
 use crate::lists::find_number;

@@ -75,6 +75,7 @@ pub fn page_of_fragment(old: &[u8], index: u64, i: usize, number: u64, page: &mu
     requires absent { times number (fragment_numbers old.now index) ≡ 0 }
     requires page { length page.old ≡ 1024 }
     ensures page { IsLast page.new (placed number (fragment_numbers old.now index)) }
+    ensures left { (neighbours_in page.new).0 ≡ 0 }
     ensures length { length page.new ≡ 1024 }
 {
     put_number(page, 0, u64::MAX);
@@ -86,6 +87,7 @@ pub fn page_of_fragment(old: &[u8], index: u64, i: usize, number: u64, page: &mu
 pub fn page_of_number(left: u64, number: u64, page: &mut [u8])
     requires page { length page.old ≡ 1024 }
     ensures page { IsLast page.new (number ∷ []) }
+    ensures left { 1 ≤ left → left < 2 ^ 63 → (neighbours_in page.new).0 ≡ left }
     ensures length { length page.new ≡ 1024 }
 {
     put_number(page, 0, left);
@@ -118,6 +120,7 @@ pub fn set_next(page: &mut [u8], next: u64)
     requires some { 1 ≤ next }
     requires next { next < 2 ^ 62 }
     ensures next { (neighbours_in page.new).1 ≡ next }
+    ensures left { (neighbours_in page.new).0 ≡ (neighbours_in page.old).0 }
     ensures count { page_count page.new ≡ page_count page.old }
     ensures numbers { page_numbers page.new ≡ page_numbers page.old }
     ensures length { length page.new ≡ 1024 }

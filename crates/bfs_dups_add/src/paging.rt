@@ -5,7 +5,7 @@ ghost use Rattle.bfs_pages.specs.Answers.{IsChild, IsRefused, IsOfPages, IsBlame
 ghost use Rattle.bfs_pages.specs.Shapes.{Shape};
 ghost use Rattle.bfs_pages.specs.Trees.{IsTree, page_in};
 ghost use Rattle.bfs_pages.specs.Writes.{Kept, IsFailed, IsGrown};
-ghost use Rattle.bfs_dups_add.specs.Stored.{IsScant};
+ghost use Rattle.bfs_values.specs.Stored.{IsScant};
 ghost use Rattle.bfs_dups_add.specs.Written.{IsPut, IsVacated};
 
 use crate::fragments::is_unused;

@@ -10,7 +10,7 @@ ghost use Rattle.bfs_values.specs.Values.{IsDuplicates, page_count, page_numbers
 ghost use Rattle.bfs_node.specs.Page.{Row};
 ghost use Rattle.bfs_values.specs.Links.{link_in};
 ghost use Rattle.bfs_values.specs.declared.link.Link.TheVariants.{Fragment};
-ghost use Rattle.bfs_dups_add.specs.Stored.{Stored, IsScant};
+ghost use Rattle.bfs_values.specs.Stored.{Stored, IsScant};
 ghost use Rattle.bfs_dups_add.specs.Written.{IsPut, IsVacated, IsWidened, IsExtended};
 
 use crate::lists::find_number;

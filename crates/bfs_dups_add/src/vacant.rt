@@ -9,7 +9,7 @@ ghost use Rattle.bfs_pages.specs.Writes.{Kept, IsFailed};
 ghost use Rattle.bfs_values.specs.Links.{link_in};
 ghost use Rattle.bfs_values.specs.Values.{fragment_count};
 ghost use Rattle.bfs_values.specs.declared.link.Link.TheVariants.{Fragment};
-ghost use Rattle.bfs_dups_add.specs.Named.{IsNamedIn, IsFull, IsCrowded};
+ghost use Rattle.bfs_values.specs.Named.{IsNamedIn, IsFull, IsCrowded};
 
 use crate::fragments::free_fragment;
 use crate::paging::read_page;

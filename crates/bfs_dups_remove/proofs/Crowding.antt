@@ -10,14 +10,14 @@ use Rattle.bfs_pages.specs.Shapes.{Shape, Shapes, leaf_shape, node_shape, last_s
 use Rattle.bfs_pages.specs.Trees.{page_in, state_of, IsTree}
 use Rattle.bfs_pages.proofs.OfKind.{leaf-fields}
 use Rattle.bfs_pages.proofs.Splice.{times-append}
-use Rattle.bfs_rows.specs.Reached.{times_named}
+use Rattle.bfs_values.specs.Reached.{times_named}
 use Rattle.bfs_values.specs.declared.link.Link.TheVariants.{Fragment, Chain}
 use Rattle.bfs_values.specs.Links.{link_in}
 use Rattle.bfs_values.specs.Values.{fragment_count, HasValues}
-use Rattle.bfs_dups_add.specs.Named.{IsNamedIn, IsCrowded}
-use Rattle.bfs_dups_add.specs.Stored.{Stored}
+use Rattle.bfs_values.specs.Named.{IsNamedIn, IsCrowded}
+use Rattle.bfs_values.specs.Stored.{Stored}
 use Rattle.bfs_dups_add.proofs.Answered.{named-rest}
-use Rattle.bfs_dups_add.proofs.Opened.{own, named-split}
+use Rattle.bfs_values.proofs.Opened.{own, named-split}
 use Rattle.bfs_dups_add.proofs.Slotted.{decide, unnamed}
 
 -- a leaf of a tree that stands in two streams has one list of rows

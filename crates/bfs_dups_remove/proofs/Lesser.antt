@@ -16,12 +16,12 @@ use Rattle.bfs_values.specs.declared.link.Link.{Link}
 use Rattle.bfs_values.specs.declared.link.Link.TheVariants.{Number, Fragment, Chain, Nothing}
 use Rattle.bfs_values.specs.Links.{link_in, link_by}
 use Rattle.bfs_values.specs.Values.{IsDuplicates, page_count, page_numbers, next_of, chain_of, numbers_of_pages, AreDuplicates, in_order, HasNumbers, numbers_in, HasValues, values_in, is_ascending, numbers_from, fragment_count}
-use Rattle.bfs_dups_add.specs.Chained.{Chained}
-use Rattle.bfs_dups_add.specs.Stored.{Stored, SameNumbers, IsRevalued}
+use Rattle.bfs_values.specs.Chained.{Chained}
+use Rattle.bfs_values.specs.Stored.{Stored, SameNumbers, IsRevalued}
 use Rattle.bfs_dups_add.proofs.Answered.{revalued, linked-open, chain-facts}
-use Rattle.bfs_dups_add.proofs.Chaining.{chain-is}
+use Rattle.bfs_values.proofs.Chaining.{chain-is}
 use Rattle.bfs_dups_add.proofs.Moved.{length-numbers}
-use Rattle.bfs_dups_add.proofs.Opened.{Open, closed, all-but}
+use Rattle.bfs_values.proofs.Opened.{Open, closed, all-but}
 use Rattle.bfs_dups_add.proofs.Ordered.{With, with-front, with-back}
 use Rattle.bfs_dups_add.proofs.Slotted.{decide, eq_no}
 use Rattle.bfs_dups_remove.specs.Lessened.{without_number, IsLessened}

@@ -9,12 +9,12 @@ use Rattle.bfs_pages.proofs.Splice.{self, times-append}
 use Rattle.bfs_remove.specs.Removed.{IsGiven}
 use Rattle.bfs_values.specs.declared.link.Link.TheVariants.{Number, Chain}
 use Rattle.bfs_values.specs.Values.{IsDuplicates, page_numbers, next_of, EndsAfter, chain_of, numbers_of_pages, AreDuplicates, in_order, HasNumbers, numbers_in}
-use Rattle.bfs_dups_add.specs.Chained.{Chained}
-use Rattle.bfs_dups_add.specs.Stored.{SameNumbers}
-use Rattle.bfs_dups_add.proofs.Chaining.{chain-is, chained-ends, numbers-kept, child-more}
-use Rattle.bfs_dups_add.proofs.Holding.{exchange, set, give, reached-once}
+use Rattle.bfs_values.specs.Chained.{Chained}
+use Rattle.bfs_values.specs.Stored.{SameNumbers}
+use Rattle.bfs_values.proofs.Chaining.{chain-is, chained-ends, numbers-kept, child-more}
+use Rattle.bfs_dups_add.proofs.Holding.{set, give, reached-once}
 use Rattle.bfs_dups_add.proofs.Lengthened.{relinked}
-use Rattle.bfs_dups_add.proofs.Opened.{pages_of, Open}
+use Rattle.bfs_values.proofs.Opened.{exchange, pages_of, Open}
 use Rattle.bfs_dups_add.proofs.Scanning.{numbers-append}
 use Rattle.bfs_dups_add.proofs.Slotted.{decide, eq_no}
 use Rattle.bfs_dups_remove.specs.Shortened.{IsRenumbered, IsPassed}

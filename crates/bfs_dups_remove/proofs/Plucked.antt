@@ -10,7 +10,7 @@ use Rattle.bfs_pages.specs.Trees.{page_in}
 use Rattle.bfs_values.specs.declared.link.Link.TheVariants.{Number, Fragment}
 use Rattle.bfs_values.specs.Links.{link_in}
 use Rattle.bfs_values.specs.Values.{fragment_numbers, numbers_in, values_in}
-use Rattle.bfs_dups_add.specs.Stored.{Stored, IsRevalued}
+use Rattle.bfs_values.specs.Stored.{Stored, IsRevalued}
 use Rattle.bfs_dups_add.specs.Written.{IsVacated, IsFilled}
 use Rattle.bfs_dups_add.proofs.Answered.{revalued, linked-open}
 use Rattle.bfs_dups_add.proofs.Composed.{vacated}

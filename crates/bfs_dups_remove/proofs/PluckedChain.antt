@@ -10,7 +10,7 @@ use Rattle.bfs_pages.proofs.Splice.{times-append}
 use Rattle.bfs_values.specs.declared.link.Link.TheVariants.{Chain}
 use Rattle.bfs_values.specs.Links.{link_in}
 use Rattle.bfs_values.specs.Values.{page_numbers, chain_of, numbers_of_pages, numbers_in, values_in}
-use Rattle.bfs_dups_add.specs.Stored.{IsRevalued}
+use Rattle.bfs_values.specs.Stored.{IsRevalued}
 use Rattle.bfs_dups_add.proofs.Answered.{ChainFacts}
 use Rattle.bfs_dups_add.proofs.Ordered.{order-times}
 use Rattle.bfs_dups_remove.specs.Lessened.{IsLessened}

@@ -4,7 +4,7 @@ use Rattle.bfs_base.specs.declared.kind.KeyKind.{KeyKind}
 use Rattle.bfs_node.specs.Page.{Row}
 use Rattle.bfs_pages.specs.Order.{Key}
 use Rattle.bfs_pages.specs.Shapes.{Shape}
-use Rattle.bfs_dups_add.specs.Stored.{Stored, SameNumbers, IsRevalued}
+use Rattle.bfs_values.specs.Stored.{Stored, SameNumbers, IsRevalued}
 
 -- numbers without one
 abbrev pub without_number : ℕ → List ℕ → List ℕ

@@ -49,6 +49,7 @@ pub fn link_past(page: &mut [u8], gone: &[u8])
     requires page { length page.old ≡ 1024 }
     requires gone { length gone.now ≡ 1024 }
     ensures next { (neighbours_in page.new).1 ≡ (neighbours_in gone.now).1 }
+    ensures left { (neighbours_in page.new).0 ≡ (neighbours_in page.old).0 }
     ensures count { page_count page.new ≡ page_count page.old }
     ensures numbers { page_numbers page.new ≡ page_numbers page.old }
     ensures length { length page.new ≡ 1024 }
@@ -60,6 +61,7 @@ pub fn link_past(page: &mut [u8], gone: &[u8])
 pub fn set_left(page: &mut [u8], left: u64)
     requires page { length page.old ≡ 1024 }
     ensures next { (neighbours_in page.new).1 ≡ (neighbours_in page.old).1 }
+    ensures left { 1 ≤ left → left < 2 ^ 63 → (neighbours_in page.new).0 ≡ left }
     ensures count { page_count page.new ≡ page_count page.old }
     ensures numbers { page_numbers page.new ≡ page_numbers page.old }
     ensures length { length page.new ≡ 1024 }

@@ -4,7 +4,7 @@ ghost use Rattle.bfs_base.specs.Keys.{IsTreeKind};
 ghost use Rattle.bfs_base.specs.Lists.{times};
 ghost use Rattle.bfs_pages.specs.Answers.{IsChild, IsUnread, IsOfPages, IsJustRead};
 ghost use Rattle.bfs_pages.specs.Shapes.{Shape};
-ghost use Rattle.bfs_pages.specs.Trees.{IsTree, page_in, header_in};
+ghost use Rattle.bfs_pages.specs.Trees.{IsTree, page_in, header_in, neighbours_in};
 ghost use Rattle.bfs_pages.specs.Writes.{Kept, IsFailed};
 ghost use Rattle.bfs_remove.specs.Removed.{IsGiven};
 ghost use Rattle.bfs_values.specs.Values.{IsDuplicates, page_numbers};
@@ -87,6 +87,7 @@ pub fn mend_left<P: Pages, L: Ledger>(
 ) -> Result<(), TreeFault<P::Fault>>
     requires at { IsChild (P.size pages.old) at }
     ensures mended { OnOk result ((b : List ℕ) → P.told pages.old ≡ Some b → IsDuplicates (page_in b at) → (c : List ℕ) × (P.told pages.new ≡ Some c) × IsRenumbered b c at (page_numbers (page_in b at))) }
+    ensures left { (b : List ℕ) → P.told pages.old ≡ Some b → 1 ≤ left → left < 2 ^ 63 → OnOk result (IfSome (P.told pages.new) (λ c. (neighbours_in (page_in c at)).0 ≡ left)) }
     ensures size { OnOk result (P.size pages.new ≡ P.size pages.old) }
     ensures failed { IfErr result (IsFailed (P.is_cause pages.old pages.new)) }
     ensures kept { Kept (P.counts pages.old) (P.counts pages.new) (P.frame pages.old) (P.frame pages.new) (P.goes_on pages.old pages.new) }

@@ -6,7 +6,7 @@ ghost use Rattle.bfs_pages.specs.Trees.{page_in, neighbours_in};
 ghost use Rattle.bfs_pages.specs.Writes.{Kept};
 ghost use Rattle.bfs_values.specs.Kinds.{IsCut};
 ghost use Rattle.bfs_values.specs.Values.{IsDuplicates, page_count, page_numbers, AreDuplicates, numbers_of_pages};
-ghost use Rattle.bfs_dups_add.specs.Chained.{Chained};
+ghost use Rattle.bfs_values.specs.Chained.{Chained};
 ghost use Rattle.bfs_dups_remove.specs.Shortened.{IsLocated};
 
 use bfs_dups_add::look_at;

@@ -11,9 +11,9 @@ ghost use Rattle.bfs_values.specs.Kinds.{IsValueOf, IsCut};
 ghost use Rattle.bfs_values.specs.Links.{link_in};
 ghost use Rattle.bfs_values.specs.Values.{HasValues, values_in};
 ghost use Rattle.bfs_values.specs.declared.link.Link.TheVariants.{Number, Fragment, Chain};
-ghost use Rattle.bfs_dups_add.specs.Formed.{IsFormed};
-ghost use Rattle.bfs_dups_add.specs.Named.{IsNamedIn, IsCrowded};
-ghost use Rattle.bfs_dups_add.specs.Stored.{Stored};
+ghost use Rattle.bfs_values.specs.Formed.{IsFormed};
+ghost use Rattle.bfs_values.specs.Named.{IsNamedIn, IsCrowded};
+ghost use Rattle.bfs_values.specs.Stored.{Stored};
 ghost use Rattle.bfs_dups_remove.specs.Lessened.{without_number, IsLessened};
 
 use crate::lessening::{lone_number, narrow_fragment};

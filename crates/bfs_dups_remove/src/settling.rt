@@ -12,9 +12,9 @@ ghost use Rattle.bfs_values.specs.Kinds.{IsCut};
 ghost use Rattle.bfs_values.specs.Links.{link_in};
 ghost use Rattle.bfs_values.specs.Values.{IsDuplicates, fragment_count, page_count, page_numbers, chain_of, HasValues, values_in};
 ghost use Rattle.bfs_values.specs.declared.link.Link.TheVariants.{Fragment, Chain};
-ghost use Rattle.bfs_dups_add.specs.Formed.{AreFew, IsFormed};
-ghost use Rattle.bfs_dups_add.specs.Named.{IsNamedIn, IsCrowded};
-ghost use Rattle.bfs_dups_add.specs.Stored.{Stored, IsRevalued};
+ghost use Rattle.bfs_values.specs.Formed.{AreFew, IsFormed};
+ghost use Rattle.bfs_values.specs.Named.{IsNamedIn, IsCrowded};
+ghost use Rattle.bfs_values.specs.Stored.{Stored, IsRevalued};
 ghost use Rattle.bfs_dups_remove.specs.Shortened.{IsFolded};
 
 use crate::freeing::free_page;

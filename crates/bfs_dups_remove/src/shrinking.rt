@@ -11,7 +11,7 @@ ghost use Rattle.bfs_values.specs.Kinds.{IsCut};
 ghost use Rattle.bfs_values.specs.Links.{link_in};
 ghost use Rattle.bfs_values.specs.Values.{page_count, HasNumbers, values_in};
 ghost use Rattle.bfs_values.specs.declared.link.Link.TheVariants.{Chain};
-ghost use Rattle.bfs_dups_add.specs.Stored.{Stored, IsRevalued};
+ghost use Rattle.bfs_values.specs.Stored.{Stored, IsRevalued};
 ghost use Rattle.bfs_dups_remove.specs.Shortened.{IsFolded};
 
 use crate::chains::absorb;

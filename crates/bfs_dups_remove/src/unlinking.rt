@@ -1,5 +1,5 @@
 // Takes a number out of a page of a chain, and the page with it where that was its only one.
-ghost use Rattle.std.specs.Prelude.{◌≡◌, ◌≢◌, ◌≤◌, ◌<◌, ◌++◌, ◌∷◌, [], ℕ, ℤ, List, Some, length, OnOk, IfOk, IfErr, IfSome, MatchResult};
+ghost use Rattle.std.specs.Prelude.{◌≡◌, ◌≢◌, ◌≤◌, ◌<◌, ◌^◌, ◌++◌, ◌∷◌, [], ℕ, ℤ, List, Some, length, OnOk, IfOk, IfErr, IfSome, MatchResult};
 ghost use Rattle.bfs_base.specs.Keys.{IsTreeKind};
 ghost use Rattle.bfs_base.specs.Lists.{times, IsOnce};
 ghost use Rattle.bfs_node.specs.Page.{Row};
@@ -12,7 +12,7 @@ ghost use Rattle.bfs_values.specs.Kinds.{IsCut};
 ghost use Rattle.bfs_values.specs.Links.{link_in};
 ghost use Rattle.bfs_values.specs.Values.{IsDuplicates, page_count, page_numbers, chain_of, numbers_of_pages, in_order, values_in};
 ghost use Rattle.bfs_values.specs.declared.link.Link.TheVariants.{Chain};
-ghost use Rattle.bfs_dups_add.specs.Stored.{Stored, IsRevalued};
+ghost use Rattle.bfs_values.specs.Stored.{Stored, IsRevalued};
 ghost use Rattle.bfs_dups_remove.specs.Lessened.{without_number, IsLessened};
 ghost use Rattle.bfs_dups_remove.specs.Shortened.{IsLocated};
 
@@ -52,6 +52,7 @@ pub fn pass_page<P: Pages, L: Ledger>(
     requires other { length other.now ≡ 1024 }
     requires behind { gone.next ≡ (neighbours_in other.now).1 }
     ensures passed { (b : List ℕ) (t : Shape) (front back : List Row) (key : Key) (value : ℤ) (first : ℕ) (us xs : List ℕ) → P.told pages.old ≡ Some b → Stored kind b t (front ++ ((key, value) ∷ back)) → link_in value ≡ Chain first → chain_of b first ≡ us ++ (at ∷ (gone.at ∷ xs)) → IsDuplicates page.old → other.now ≡ page_in b gone.at → IsOnce (numbers_of_pages b us ++ (page_numbers page.old ++ numbers_of_pages b xs)) → MatchResult result (λ done. (c : List ℕ) × (P.told pages.new ≡ Some c) × IsRevalued kind b c t front key back value (in_order (numbers_of_pages b us ++ (page_numbers page.old ++ numbers_of_pages b xs)))) IsOfPages }
+    ensures left { (b : List ℕ) → P.told pages.old ≡ Some b → IsDuplicates page.old → other.now ≡ page_in b gone.at → 1 ≤ gone.next → at < 2 ^ 63 → OnOk result (IfSome (P.told pages.new) (λ c. (neighbours_in (page_in c gone.next)).0 ≡ at)) }
     ensures size { OnOk result (P.size pages.new ≡ P.size pages.old) }
     ensures refused { IfErr result (IsCut kind (P.told pages.new) (P.is_cause pages.old pages.new)) }
     ensures just_read { IfErr result (IsJustRead (P.size pages.new) (P.last pages.new)) }

@@ -5,7 +5,7 @@ use Rattle.bfs_node.specs.Page.{rows_of, links_of}
 use Rattle.bfs_pages.specs.Order.{Key}
 use Rattle.bfs_pages.specs.Shapes.{Shape, place}
 use Rattle.bfs_pages.specs.Trees.{page_in, place_of, children_in, state_of, Holds}
-use Rattle.bfs_pages.specs.Ways.{under, pick_of, KeysAscend}
+use Rattle.bfs_pages.specs.Ways.{under, pick_of, KeysRise}
 use Rattle.bfs_insert.specs.Divided.{IsRoomy}
 use Rattle.bfs_insert.specs.Puts.{IsStep, IsDown}
 use Rattle.bfs_pages.proofs.OfKind.{inner-page}
@@ -21,14 +21,14 @@ step-stays kind b at c k room = record {
 
 -- the child that a page says is on the way
 pub way-on : (kind : KeyKind) (b page : List ℕ) (at c : ℕ) (k : Key) → page ≡ page_in b at
-    → (KeysAscend kind (rows_of page) → pick_of kind (children_in (rows_of page)) (place_of (links_of page).overflow) k ≡ c)
+    → (KeysRise kind (rows_of page) → pick_of kind (children_in (rows_of page)) (place_of (links_of page).overflow) k ≡ c)
     → (reached : List ℕ) (t : Shape) (fs : List ℕ) (d : ℕ) → Holds kind (state_of kind b) reached t fs → suc d ≤ (state_of kind b).levels → place (under kind d t k) ≡ at → place (under kind (suc d) t k) ≡ c
 way-on kind b page at c k r picks reached t fs d h l e =
     let p = inner-page kind b reached t fs d k at h l e in
-    p.2 c (subst (λ z. pick_of kind (children_in (rows_of z)) (place_of (links_of z).overflow) k ≡ c) r (picks (subst (λ z. KeysAscend kind (rows_of z)) (sym r) p.1)))
+    p.2 c (subst (λ z. pick_of kind (children_in (rows_of z)) (place_of (links_of z).overflow) k ≡ c) r (picks (subst (λ z. KeysRise kind (rows_of z)) (sym r) p.1)))
 
 pub goes-down : (kind : KeyKind) (b n page : List ℕ) (at c : ℕ) (k : Key) (next : ℕ) → page ≡ page_in b at
-    → (KeysAscend kind (rows_of page) → pick_of kind (children_in (rows_of page)) (place_of (links_of page).overflow) k ≡ c)
+    → (KeysRise kind (rows_of page) → pick_of kind (children_in (rows_of page)) (place_of (links_of page).overflow) k ≡ c)
     → IsStep kind b n at c k next → IsDown kind b n at k next
 goes-down kind b n page at c k next r picks s = record {
   down = s.down (way-on kind b page at c k r picks);

@@ -11,10 +11,10 @@ use Rattle.bfs_insert.specs.Growth.{key_total}
 use Rattle.bfs_insert.specs.Divided.{weight, bound_rows, bound_last, IsRoomy, IsLeafSplit, IsInteriorSplit, IsBetween}
 use Rattle.bfs_pages.specs.Order.{Key, at_most}
 use Rattle.bfs_pages.specs.Trees.{place_of, children_in}
-use Rattle.bfs_pages.specs.Ways.{KeysAscend, FirstAt, keys_split, last_split}
-use Rattle.bfs_pages.proofs.KeyOrder.{most_less, less_is_most}
+use Rattle.bfs_pages.specs.Ways.{KeysRise, FirstAt, keys_split, last_split}
+use Rattle.bfs_pages.proofs.KeyOrder.{most_most}
 use Rattle.bfs_pages.proofs.Says.{place-pos}
-use Rattle.bfs_pages.proofs.Sorted.{ascend-at}
+use Rattle.bfs_pages.proofs.Sorted.{rise-at}
 use Rattle.bfs_insert.proofs.Dividing.{weight-next}
 
 -- how much of a page its rows take
@@ -93,13 +93,13 @@ take-more (r ∷ rs) zero h = refl
 take-more (r ∷ rs) (suc i) h = ap (λ l. r ∷ l) (take-more rs i (omega (arith, h)))
 
 -- where the first row not less than a key is, tells of each row whether the key is at most its key
-pub first-most : (kind : KeyKind) (rows : List Row) (k : Key) (p i : ℕ) → KeysAscend kind rows → FirstAt kind rows k p → i < length rows → at_most kind k (key_at rows i) ≡ nat_le p i
+pub first-most : (kind : KeyKind) (rows : List Row) (k : Key) (p i : ℕ) → KeysRise kind rows → FirstAt kind rows k p → i < length rows → at_most kind k (key_at rows i) ≡ nat_le p i
 first-most kind [] k p i a f h = absurd (omega (arith, h))
 first-most kind (r ∷ rs) k zero zero a f h = f ∙ sym (le_true 0 0 (omega arith))
   where
     le_true : (m n : ℕ) → m ≤ n → nat_le m n ≡ true
     le_true m n h = grind (arith, h)
-first-most kind (r ∷ rs) k zero (suc i) a f h = less_is_most kind k (key_at rs i) (most_less kind k r.0 (key_at rs i) f (ascend-at kind (r ∷ rs) 0 (suc i) a (omega arith) h)) ∙ sym (le_true 0 (suc i) (omega arith))
+first-most kind (r ∷ rs) k zero (suc i) a f h = most_most kind k r.0 (key_at rs i) f (rise-at kind (r ∷ rs) 0 (suc i) a (omega arith) h) ∙ sym (le_true 0 (suc i) (omega arith))
   where
     le_true : (m n : ℕ) → m ≤ n → nat_le m n ≡ true
     le_true m n h = grind (arith, h)
@@ -169,7 +169,7 @@ leaf-split rows left right m sep h e l r = record {
     behind : drop (suc m) rows ≡ row_in rows (suc m) ∷ drop (suc (suc m)) rows
     behind = drop-cons rows (suc m) ([], pos 0) h
 
-pub between : (kind : KeyKind) (above new : List ℕ) (rows : List Row) (p f m right : ℕ) (k sep : Key) → FirstAt kind (rows_of above) k p → FirstAt kind rows k f → KeysAscend kind rows → m < length rows → sep ≡ key_of (row_in rows m) → 1 ≤ right
+pub between : (kind : KeyKind) (above new : List ℕ) (rows : List Row) (p f m right : ℕ) (k sep : Key) → FirstAt kind (rows_of above) k p → FirstAt kind rows k f → KeysRise kind rows → m < length rows → sep ≡ key_of (row_in rows m) → 1 ≤ right
     → rows_of new ≡ bound_rows (rows_of above) (links_of above).overflow p sep (pos right) → (links_of new).overflow ≡ bound_last (rows_of above) (links_of above).overflow p (pos right)
     → IsBetween kind above new right k sep (nat_le f m)
 between kind above new rows p f m right k sep fa fr up h e some is_rows is_last = record {

@@ -12,7 +12,7 @@ use Rattle.bfs_insert.specs.Divided.{IsRoomy, IsInteriorSplit, IsBetween}
 use Rattle.bfs_pages.specs.Order.{Key, at_most}
 use Rattle.bfs_pages.specs.Shapes.{leaf_body, inner_body, Shape, Shapes, node_shape, place, met_by, met_by_all, Stands}
 use Rattle.bfs_pages.specs.Trees.{state_of, Holds, page_in, place_of, body_in, neighbours_in, free_in, children_in}
-use Rattle.bfs_pages.specs.Ways.{under, child_for, keys_split, last_split, KeysAscend}
+use Rattle.bfs_pages.specs.Ways.{under, child_for, keys_split, last_split, KeysRise}
 use Rattle.bfs_insert.specs.Puts.{HalvesSet}
 use Rattle.bfs_pages.specs.Writes.{IsTaken}
 use Rattle.bfs_pages.proofs.Exchange.{met-once}
@@ -61,7 +61,7 @@ last-of_two P kind (c ∷ cs) last k q l r = by_test (at_most kind k c.0) (last-
 child-two_or_more : (n x : ℕ) → IsChild n x → 2 ≤ x
 child-two_or_more n x h = grind (arith, h.0, h.1)
 
-module _ (kind : KeyKind) (b c0 c : List ℕ) (at child right : ℕ) (A A2 B B2 H N2 : List ℕ) (k : Key) (left : Bool) (h : Header) (taken : IsTaken kind b c0 right h) (set : HalvesSet c0 c at child right 0 A2 B2 H N2) (hA : A ≡ page_in b at) (hB : B ≡ page_in b child) (innerB : IsInteriorPage kind (length b) B) (pA2 : IsPage kind A2) (pB2 : IsPage kind B2) (pH : IsPage kind H) (roomB : IsRoomy B2) (roomH : IsRoomy H) (linksA : neighbours_in A2 ≡ neighbours_in A) (leftB : (links_of B2).left ≡ (links_of B).left) (rightB : (links_of B2).right ≡ (links_of B).right) (lastH : (links_of H).overflow ≡ (links_of B).overflow) (placed : IsChild (length c0) right) (halves : KeysAscend kind (rows_of A) → KeysAscend kind (rows_of B) → (sep : Key) × IsInteriorSplit (rows_of B) (rows_of B2) (rows_of H) sep (links_of B2).overflow × IsBetween kind A A2 right k sep left) (reached : List ℕ) (t : Shape) (fs : List ℕ) (d : ℕ) (tree : Holds kind (state_of kind c0) (right ∷ reached) t fs) (level : suc d ≤ (state_of kind c0).levels) (on_way : place (under kind d t k) ≡ at) (way_on : place (under kind (suc d) t k) ≡ child) where
+module _ (kind : KeyKind) (b c0 c : List ℕ) (at child right : ℕ) (A A2 B B2 H N2 : List ℕ) (k : Key) (left : Bool) (h : Header) (taken : IsTaken kind b c0 right h) (set : HalvesSet c0 c at child right 0 A2 B2 H N2) (hA : A ≡ page_in b at) (hB : B ≡ page_in b child) (innerB : IsInteriorPage kind (length b) B) (pA2 : IsPage kind A2) (pB2 : IsPage kind B2) (pH : IsPage kind H) (roomB : IsRoomy B2) (roomH : IsRoomy H) (linksA : neighbours_in A2 ≡ neighbours_in A) (leftB : (links_of B2).left ≡ (links_of B).left) (rightB : (links_of B2).right ≡ (links_of B).right) (lastH : (links_of H).overflow ≡ (links_of B).overflow) (placed : IsChild (length c0) right) (halves : KeysRise kind (rows_of A) → KeysRise kind (rows_of B) → (sep : Key) × IsInteriorSplit (rows_of B) (rows_of B2) (rows_of H) sep (links_of B2).overflow × IsBetween kind A A2 right k sep left) (reached : List ℕ) (t : Shape) (fs : List ℕ) (d : ℕ) (tree : Holds kind (state_of kind c0) (right ∷ reached) t fs) (level : suc d ≤ (state_of kind c0).levels) (on_way : place (under kind d t k) ≡ at) (way_on : place (under kind (suc d) t k) ≡ child) where
   once : (x : ℕ) → times x (met_by t) + times x (right ∷ reached) + times x fs ≤ 1
   once x = met-once (state_of kind c0) (right ∷ reached) t fs tree.built x
 
@@ -136,8 +136,8 @@ module _ (kind : KeyKind) (b c0 c : List ℕ) (at child right : ℕ) (A A2 B B2 
       no : 1 ≤ 0 → ⊥
       no e = omega (arith, e)
 
-  up_A : KeysAscend kind (rows_of A)
-  up_A = subst (λ (z : List ℕ). KeysAscend kind (rows_of z)) page_at_is (inner-page kind c0 (right ∷ reached) t fs d k at tree level on_way).1
+  up_A : KeysRise kind (rows_of A)
+  up_A = subst (λ (z : List ℕ). KeysRise kind (rows_of z)) page_at_is (inner-page kind c0 (right ∷ reached) t fs d k at tree level on_way).1
 
   -- the child is an interior page, so the way goes on below it
   below_is : suc (suc d) ≤ (state_of kind c0).levels
@@ -153,8 +153,8 @@ module _ (kind : KeyKind) (b c0 c : List ℕ) (at child right : ℕ) (A A2 B B2 
           differ : (rows : List Row) → Some (leaf_body rows) ≡ Some (inner_body (children_in (rows_of B)) (place_of (links_of B).overflow)) → ⊥
           differ rows e = cc
 
-  up_B : KeysAscend kind (rows_of B)
-  up_B = subst (λ (z : List ℕ). KeysAscend kind (rows_of z)) page_child_is (inner-page kind c0 (right ∷ reached) t fs (suc d) k child tree below_is way_on).1
+  up_B : KeysRise kind (rows_of B)
+  up_B = subst (λ (z : List ℕ). KeysRise kind (rows_of z)) page_child_is (inner-page kind c0 (right ∷ reached) t fs (suc d) k child tree below_is way_on).1
 
   -- links since
   links_below : (state_of kind c).links child ≡ (state_of kind c0).links child

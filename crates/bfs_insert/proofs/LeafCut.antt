@@ -12,13 +12,14 @@ use Rattle.bfs_insert.specs.Divided.{IsRoomy, IsLeafSplit, IsBetween}
 use Rattle.bfs_pages.specs.Order.{Key, at_most}
 use Rattle.bfs_pages.specs.Shapes.{Body, leaf_body, inner_body, Shape, Shapes, leaf_shape, node_shape, place, met_by, met_by_all, leaves_of, entries_of, children_of, last_child, Stands, AscendAll}
 use Rattle.bfs_pages.specs.Trees.{state_of, Holds, Linked, page_in, place_of, body_of, body_in, neighbours_in, free_in, next_if, children_in}
-use Rattle.bfs_pages.specs.Ways.{under, child_for, leaves_before, leaves_behind, leaves_before_way, leaves_behind_way, keys_split, last_split, KeysAscend}
+use Rattle.bfs_pages.specs.Ways.{under, child_for, leaves_before, leaves_behind, leaves_before_way, leaves_behind_way, keys_split, last_split, KeysRise}
 use Rattle.bfs_insert.specs.Puts.{HalvesSet}
 use Rattle.bfs_pages.specs.Writes.{IsTaken}
 use Rattle.bfs_pages.proofs.Exchange.{met-once}
 use Rattle.bfs_pages.proofs.Laws.{one}
 use Rattle.bfs_pages.proofs.Says.{place-pos, says-leaf, says-inner}
 use Rattle.bfs_pages.proofs.OfKind.{inner-fields, inner-page, met-child, under-met, rows-ascend, under-ascends}
+use Rattle.bfs_pages.proofs.Sorted.{ascend-rise}
 use Rattle.bfs_pages.proofs.Splice.{self, times-append}
 use Rattle.bfs_pages.proofs.Leaves.{leaf-form, times-leaves, node-leaves, next-leaf}
 use Rattle.bfs_pages.proofs.Descent.{node-at}
@@ -58,7 +59,7 @@ child-two_or_more n x h = grind (arith, h.0, h.1)
 no-free : (page : List ℕ) → (links_of page).overflow ≡ negsuc 0 → free_in page ≡ None
 no-free page o = ap (λ z. next_if z (links_of page).left) o
 
-module _ (kind : KeyKind) (b c0 c : List ℕ) (at child right next : ℕ) (A A2 B B2 H N N2 : List ℕ) (k : Key) (left : Bool) (h : Header) (taken : IsTaken kind b c0 right h) (set : HalvesSet c0 c at child right next A2 B2 H N2) (hA : A ≡ page_in b at) (hB : B ≡ page_in b child) (leafB : IsLeafPage kind (length b) B) (pA2 : IsPage kind A2) (pB2 : IsPage kind B2) (pH : IsPage kind H) (roomB : IsRoomy B2) (roomH : IsRoomy H) (linksA : neighbours_in A2 ≡ neighbours_in A) (linksB : links_of B2 ≡ record (links_of B) { right = pos right }) (linksH : links_of H ≡ record { left = pos child; right = (links_of B).right; overflow = (links_of B).overflow }) (is_next : next ≡ (neighbours_in B).1) (beside : next ≢ 0 → (N ≡ page_in b next) × IsLeafPage kind (length b) N × IsPage kind N2 × (rows_of N2 ≡ rows_of N) × (links_of N2 ≡ record (links_of N) { left = pos right })) (placed : IsChild (length c0) right) (halves : KeysAscend kind (rows_of A) → KeysAscend kind (rows_of B) → (sep : Key) × IsLeafSplit (rows_of B) (rows_of B2) (rows_of H) sep × IsBetween kind A A2 right k sep left) (reached : List ℕ) (t : Shape) (fs : List ℕ) (d : ℕ) (tree : Holds kind (state_of kind c0) (right ∷ reached) t fs) (level : suc d ≤ (state_of kind c0).levels) (on_way : place (under kind d t k) ≡ at) (way_on : place (under kind (suc d) t k) ≡ child) where
+module _ (kind : KeyKind) (b c0 c : List ℕ) (at child right next : ℕ) (A A2 B B2 H N N2 : List ℕ) (k : Key) (left : Bool) (h : Header) (taken : IsTaken kind b c0 right h) (set : HalvesSet c0 c at child right next A2 B2 H N2) (hA : A ≡ page_in b at) (hB : B ≡ page_in b child) (leafB : IsLeafPage kind (length b) B) (pA2 : IsPage kind A2) (pB2 : IsPage kind B2) (pH : IsPage kind H) (roomB : IsRoomy B2) (roomH : IsRoomy H) (linksA : neighbours_in A2 ≡ neighbours_in A) (linksB : links_of B2 ≡ record (links_of B) { right = pos right }) (linksH : links_of H ≡ record { left = pos child; right = (links_of B).right; overflow = (links_of B).overflow }) (is_next : next ≡ (neighbours_in B).1) (beside : next ≢ 0 → (N ≡ page_in b next) × IsLeafPage kind (length b) N × IsPage kind N2 × (rows_of N2 ≡ rows_of N) × (links_of N2 ≡ record (links_of N) { left = pos right })) (placed : IsChild (length c0) right) (halves : KeysRise kind (rows_of A) → KeysRise kind (rows_of B) → (sep : Key) × IsLeafSplit (rows_of B) (rows_of B2) (rows_of H) sep × IsBetween kind A A2 right k sep left) (reached : List ℕ) (t : Shape) (fs : List ℕ) (d : ℕ) (tree : Holds kind (state_of kind c0) (right ∷ reached) t fs) (level : suc d ≤ (state_of kind c0).levels) (on_way : place (under kind d t k) ≡ at) (way_on : place (under kind (suc d) t k) ≡ child) where
   once : (x : ℕ) → times x (met_by t) + times x (right ∷ reached) + times x fs ≤ 1
   once x = met-once (state_of kind c0) (right ∷ reached) t fs tree.built x
 
@@ -183,11 +184,11 @@ module _ (kind : KeyKind) (b c0 c : List ℕ) (at child right next : ℕ) (A A2 
       differ : Some (leaf_body (rows_of N)) ≡ Some (inner_body (children_of ts) (last_child ts)) → ⊥
       differ e = cc
 
-  up_A : KeysAscend kind (rows_of A)
-  up_A = subst (λ (z : List ℕ). KeysAscend kind (rows_of z)) page_at_is (inner-page kind c0 (right ∷ reached) t fs d k at tree level on_way).1
+  up_A : KeysRise kind (rows_of A)
+  up_A = subst (λ (z : List ℕ). KeysRise kind (rows_of z)) page_at_is (inner-page kind c0 (right ∷ reached) t fs d k at tree level on_way).1
 
-  up_B : KeysAscend kind (rows_of B)
-  up_B = rows-ascend kind (rows_of B) (subst (λ u. AscendAll kind (entries_of u)) (under_is ∙ child_is) (under-ascends kind (suc d) t k tree.ascends))
+  up_B : KeysRise kind (rows_of B)
+  up_B = ascend-rise kind (rows_of B) (rows-ascend kind (rows_of B) (subst (λ u. AscendAll kind (entries_of u)) (under_is ∙ child_is) (under-ascends kind (suc d) t k tree.ascends)))
 
   -- links since
   links_below : (state_of kind c).links child ≡ (((state_of kind c0).links child).0, right)

@@ -11,12 +11,12 @@ use Rattle.bfs_node.proofs.AllRows.{all-insert, key-length}
 use Rattle.bfs_pages.specs.Order.{Key}
 use Rattle.bfs_pages.specs.Shapes.{leaf_body}
 use Rattle.bfs_pages.specs.Trees.{page_in, place_of, body_in, neighbours_in, free_in}
-use Rattle.bfs_pages.specs.Ways.{KeysAscend, FirstAt}
+use Rattle.bfs_pages.specs.Ways.{KeysRise, FirstAt}
 use Rattle.bfs_pages.specs.Writes.{PageSet}
 use Rattle.bfs_insert.specs.Puts.{IsPut}
 use Rattle.bfs_pages.proofs.Says.{says-leaf}
 use Rattle.bfs_pages.proofs.OfKind.{leaf-fields}
-use Rattle.bfs_pages.proofs.Sorted.{put-first}
+use Rattle.bfs_pages.proofs.Sorted.{ascend-rise, put-first}
 
 eq_yes : (a b : ℕ) → (a == b) ≡ true → a ≡ b
 eq_yes a b e = grind (arith, e)
@@ -44,7 +44,7 @@ more-page kind page new i k v p key l rows = record {
 }
 
 pub row-put : (kind : KeyKind) (b c page new : List ℕ) (at i : ℕ) (k : Key) (v : ℤ) → PageSet b c at new → page ≡ page_in b at → IsPage kind new → rows_of new ≡ insert (rows_of page) i (k, v) → links_of new ≡ links_of page
-    → (KeysAscend kind (rows_of page) → FirstAt kind (rows_of page) k i) → IsPut kind b c at k v
+    → (KeysRise kind (rows_of page) → FirstAt kind (rows_of page) k i) → IsPut kind b c at k v
 row-put kind b c page new at i k v set r p rows links first = record {
   row = record {
     bodies = λ x n. ap (body_in kind) (off x n);
@@ -60,7 +60,7 @@ row-put kind b c page new at i k v set r p rows links first = record {
         ap (body_in kind) here
         ∙ says-leaf kind new p (ap (λ (z : Links). z.overflow) links ∙ f.2)
         ∙ ap (λ (z : List Row). Some (leaf_body z)) (rows ∙ ap (λ (z : List Row). insert z i (k, v)) f.1
-        ∙ sym (put-first kind own k v i (subst (λ (z : List Row). FirstAt kind z k i) f.1 (first (subst (λ (z : List Row). KeysAscend kind z) (sym f.1) up)))));
+        ∙ sym (put-first kind own k v i (subst (λ (z : List Row). FirstAt kind z k i) f.1 (first (subst (λ (z : List Row). KeysRise kind z) (sym f.1) (ascend-rise kind own up))))));
   };
   header = set.header;
   size = set.size;

@@ -3,7 +3,7 @@ ghost use Rattle.std.specs.Prelude.{◌≡◌, ◌≤◌, ◌<◌, ◌+◌, ◌*
 ghost use Rattle.bfs_node.specs.Page.{HasLayout, HasRoom, rows_of, row_in, key_of, value_of, keys_of, links_of};
 ghost use Rattle.bfs_insert.specs.Divided.{weight, bound_rows, bound_last, IsBetween, IsLeafSplit, IsInteriorSplit, IsRoomy, IsFullPage};
 ghost use Rattle.bfs_pages.specs.Order.{Key};
-ghost use Rattle.bfs_pages.specs.Ways.{KeysAscend};
+ghost use Rattle.bfs_pages.specs.Ways.{KeysRise};
 ghost use Rattle.bfs_node.specs.Search.{IsSought};
 ghost use Rattle.bfs_node.specs.Page.{IsPage};
 
@@ -122,7 +122,7 @@ pub fn halve_leaf(
     ensures above_right { (links_of above.new).right ≡ (links_of above.old).right }
     ensures below_links { links_of below.new ≡ record (links_of below.old) { right = pos places.1 } }
     ensures half_links { links_of half.new ≡ record { left = pos places.0; right = (links_of below.old).right; overflow = (links_of below.old).overflow } }
-    ensures split { KeysAscend kind (rows_of above.old) → KeysAscend kind (rows_of below.old) → (sep : Key) × IsLeafSplit (rows_of below.old) (rows_of below.new) (rows_of half.new) sep × IsBetween kind above.old above.new places.1 key.now sep result }
+    ensures split { KeysRise kind (rows_of above.old) → KeysRise kind (rows_of below.old) → (sep : Key) × IsLeafSplit (rows_of below.old) (rows_of below.new) (rows_of half.new) sep × IsBetween kind above.old above.new places.1 key.now sep result }
 {
     let middle = middle_of(below);
     let first = place_for(below, kind, key);
@@ -160,7 +160,7 @@ pub fn halve_interior(
     ensures below_left { (links_of below.new).left ≡ (links_of below.old).left }
     ensures below_right { (links_of below.new).right ≡ (links_of below.old).right }
     ensures half_last { (links_of half.new).overflow ≡ (links_of below.old).overflow }
-    ensures split { KeysAscend kind (rows_of above.old) → KeysAscend kind (rows_of below.old) → (sep : Key) × IsInteriorSplit (rows_of below.old) (rows_of below.new) (rows_of half.new) sep (links_of below.new).overflow × IsBetween kind above.old above.new right key.now sep result }
+    ensures split { KeysRise kind (rows_of above.old) → KeysRise kind (rows_of below.old) → (sep : Key) × IsInteriorSplit (rows_of below.old) (rows_of below.new) (rows_of half.new) sep (links_of below.new).overflow × IsBetween kind above.old above.new right key.now sep result }
 {
     let middle = middle_of(below);
     let first = place_for(below, kind, key);

@@ -31,6 +31,9 @@ not_most kind a b e = by (comes_before kind b a) e
     by true e = refl
     by false e = sym e
 
+pub not_before : (kind : KeyKind) (a b : Key) → comes_before kind b a ≡ false → at_most kind a b ≡ true
+not_before kind a b e = ap (λ c. cond c false true) e
+
 pub most_not : (kind : KeyKind) (a b : Key) → comes_before kind b a ≡ true → at_most kind a b ≡ false
 most_not kind a b h = ap (λ c. cond c false true) h
 
@@ -78,6 +81,16 @@ less_most kind a b c h g = by (comes_before kind a c) refl
                 let s : key_cmp kind b a ≡ key_cmp kind c a = (key_cmp_total kind).congr b c a i in
                 ap is_lt (r ∙ ap ordering_reverse (sym s) ∙ sym ((key_cmp_total kind).antisymm a b)) ∙ h
         turned Greater i = most-is kind b c Greater i g
+
+pub most_most : (kind : KeyKind) (a b c : Key) → at_most kind a b ≡ true → at_most kind b c ≡ true → at_most kind a c ≡ true
+most_most kind a b c h g = by (comes_before kind c a) refl
+  where
+    by : (t : Bool) → comes_before kind c a ≡ t → cond t false true ≡ true
+    by true e = absurd (no (sym (most_not kind b c (less_most kind c a b e h)) ∙ g))
+      where
+        no : false ≡ true → ⊥
+        no e = cc
+    by false e = refl
 
 itself : (o : Ordering) → o ≡ ordering_reverse o → o ≡ Equal
 itself Less e = absurd (no e)
@@ -141,11 +154,11 @@ IsBelow kind k e = comes_before kind (key_in e) k ≡ true
 
 pub below_bound : (kind : KeyKind) (key k : Key) → comes_before kind key k ≡ true → (e : Entry) → Precedes kind e (a_bound key) → IsBelow kind k e
 below_bound kind key k l (a_row a v) h = most_less kind a key k h l
-below_bound kind key k l (a_bound b) h = less_less kind b key k h l
+below_bound kind key k l (a_bound b) h = most_less kind b key k h l
 
 pub above_bound : (kind : KeyKind) (key k : Key) → at_most kind k key ≡ true → (e : Entry) → Precedes kind (a_bound key) e → IsAbove kind k e
 above_bound kind key k l (a_row a v) h = most_less kind k key a l h
-above_bound kind key k l (a_bound b) h = less_is_most kind k b (most_less kind k key b l h)
+above_bound kind key k l (a_bound b) h = most_most kind k key b l h
 
 pub above_more : (kind : KeyKind) (x k : Key) → comes_before kind k x ≡ true → (e : Entry) → IsAbove kind x e → IsAbove kind k e
 above_more kind x k l (a_row a v) h = less_less kind k x a l h
@@ -153,11 +166,11 @@ above_more kind x k l (a_bound b) h = less_is_most kind k b (less_most kind k x 
 
 pub beyond_row : (kind : KeyKind) (sep b : Key) → comes_before kind sep b ≡ true → (e : Entry) → IsAbove kind b e → Precedes kind (a_bound sep) e
 beyond_row kind sep b l (a_row a v) h = less_less kind sep b a l h
-beyond_row kind sep b l (a_bound c) h = less_most kind sep b c l h
+beyond_row kind sep b l (a_bound c) h = less_is_most kind sep c (less_most kind sep b c l h)
 
 pub bound_after : (kind : KeyKind) (sep : Key) (v : ℤ) (e : Entry) → Precedes kind e (a_row sep v) → Precedes kind e (a_bound sep)
 bound_after kind sep v (a_row a w) h = less_is_most kind a sep h
-bound_after kind sep v (a_bound b) h = h
+bound_after kind sep v (a_bound b) h = less_is_most kind b sep h
 
 pub row_above : (kind : KeyKind) (k : Key) (v : ℤ) (e : Entry) → IsBelow kind k e → Precedes kind e (a_row k v)
 row_above kind k v (a_row a w) h = h

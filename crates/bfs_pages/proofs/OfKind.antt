@@ -4,11 +4,11 @@ use Rattle.std.specs.List.{AllByRecursion}
 use Rattle.bfs_base.specs.Lists.{times}
 use Rattle.bfs_base.specs.declared.kind.KeyKind.{KeyKind}
 use Rattle.bfs_node.specs.Page.{Row, row_in, value_of, rows_of, links_of}
-use Rattle.bfs_pages.specs.Order.{Key, comes_before}
+use Rattle.bfs_pages.specs.Order.{Key, comes_before, at_most}
 use Rattle.bfs_pages.specs.Maps.{assoc}
 use Rattle.bfs_pages.specs.Shapes.{Body, leaf_body, inner_body, Shape, Shapes, leaf_shape, node_shape, last_shape, more_shapes, place, tree_rows, met_by, met_by_all, leaves_of, children_of, last_child, IsDeep, Stands, a_row, a_bound, entries_in, entries_of, entries_all, Precedes, AscendAll, StandAll, leaves_all}
 use Rattle.bfs_pages.specs.Trees.{State, head_or, Linked, held, Built, Holds, page_in, place_of, is_page, body_in, body_of, children_in, state_of}
-use Rattle.bfs_pages.specs.Ways.{pick_of, under, before_way, behind_way, leaves_before_way, leaves_behind_way, KeysAscend}
+use Rattle.bfs_pages.specs.Ways.{pick_of, under, before_way, behind_way, leaves_before_way, leaves_behind_way, KeysAscend, KeysRise}
 use Rattle.bfs_pages.specs.Answers.{IsChild, IsLink, IsLeafPage, IsInteriorPage, IsLeafFor}
 use Rattle.bfs_pages.proofs.Placed.{held_most, held_place}
 use Rattle.bfs_pages.proofs.Splice.{all-right, ascends-left, ascends-right, times-append, self}
@@ -99,17 +99,17 @@ children-at size (r ∷ rs) a zero h = a.0
 children-at size (r ∷ rs) a (suc i) h = children-at size rs a.1 i (omega (arith, h))
 
 -- the keys of a page ascend
-bounds-beyond : (kind : KeyKind) (b : Key) (ts : Shapes) → AllByRecursion (λ e. Precedes kind (a_bound b) e) (entries_all ts) → AllByRecursion (λ c. comes_before kind b c.0 ≡ true) (children_of ts)
+bounds-beyond : (kind : KeyKind) (b : Key) (ts : Shapes) → AllByRecursion (λ e. Precedes kind (a_bound b) e) (entries_all ts) → AllByRecursion (λ c. at_most kind b c.0 ≡ true) (children_of ts)
 bounds-beyond kind b (last_shape t) a = tt
 bounds-beyond kind b (more_shapes t key ts) a =
     let r = all-right (λ e. Precedes kind (a_bound b) e) (entries_of t) (a_bound key ∷ entries_all ts) a in
     (r.0, bounds-beyond kind b ts r.1)
 
-pub bounds-ascend : (kind : KeyKind) (ts : Shapes) → AscendAll kind (entries_all ts) → KeysAscend kind (children_of ts)
-bounds-ascend kind (last_shape t) a = tt
-bounds-ascend kind (more_shapes t key ts) a =
+pub bounds-rise : (kind : KeyKind) (ts : Shapes) → AscendAll kind (entries_all ts) → KeysRise kind (children_of ts)
+bounds-rise kind (last_shape t) a = tt
+bounds-rise kind (more_shapes t key ts) a =
     let r = ascends-right kind (entries_of t) (a_bound key ∷ entries_all ts) a in
-    (bounds-beyond kind key ts r.0, bounds-ascend kind ts r.1)
+    (bounds-beyond kind key ts r.0, bounds-rise kind ts r.1)
 
 rows-beyond : (kind : KeyKind) (k : Key) (v : ℤ) (rows : List Row) → AllByRecursion (λ e. Precedes kind (a_row k v) e) (entries_in rows) → AllByRecursion (λ s. comes_before kind k s.0 ≡ true) rows
 rows-beyond kind k v [] a = tt
@@ -119,13 +119,13 @@ pub rows-ascend : (kind : KeyKind) (rows : List Row) → AscendAll kind (entries
 rows-ascend kind [] a = tt
 rows-ascend kind (r ∷ rs) a = (rows-beyond kind r.0 r.1 rs a.0, rows-ascend kind rs a.1)
 
-children-beyond : (kind : KeyKind) (k : Key) (rows : List Row) → AllByRecursion (λ s. comes_before kind k s.0 ≡ true) (children_in rows) → AllByRecursion (λ s. comes_before kind k s.0 ≡ true) rows
+children-beyond : (kind : KeyKind) (k : Key) (rows : List Row) → AllByRecursion (λ s. at_most kind k s.0 ≡ true) (children_in rows) → AllByRecursion (λ s. at_most kind k s.0 ≡ true) rows
 children-beyond kind k [] a = tt
 children-beyond kind k (r ∷ rs) a = (a.0, children-beyond kind k rs a.1)
 
-pub children-ascend : (kind : KeyKind) (rows : List Row) → KeysAscend kind (children_in rows) → KeysAscend kind rows
-children-ascend kind [] a = tt
-children-ascend kind (r ∷ rs) a = (children-beyond kind r.0 rs a.0, children-ascend kind rs a.1)
+pub children-rise : (kind : KeyKind) (rows : List Row) → KeysRise kind (children_in rows) → KeysRise kind rows
+children-rise kind [] a = tt
+children-rise kind (r ∷ rs) a = (children-beyond kind r.0 rs a.0, children-rise kind rs a.1)
 
 pub under-ascends : (kind : KeyKind) (d : ℕ) (t : Shape) (k : Key) → AscendAll kind (entries_of t) → AscendAll kind (entries_of (under kind d t k))
 under-ascends kind d t k a =
@@ -167,7 +167,7 @@ under-met kind d t k x e =
 
 -- the page on a key's way is an interior page, whose keys ascend, and from which the way goes on
 pub inner-page : (kind : KeyKind) (b reached : List ℕ) (t : Shape) (fs : List ℕ) (d : ℕ) (k : Key) (at : ℕ) → Holds kind (state_of kind b) reached t fs → suc d ≤ (state_of kind b).levels → place (under kind d t k) ≡ at
-    → IsInteriorPage kind (length b) (page_in b at) × KeysAscend kind (rows_of (page_in b at))
+    → IsInteriorPage kind (length b) (page_in b at) × KeysRise kind (rows_of (page_in b at))
     × ((c : ℕ) → pick_of kind (children_in (rows_of (page_in b at))) (place_of (links_of (page_in b at)).overflow) k ≡ c → place (under kind (suc d) t k) ≡ c)
 inner-page kind b reached t fs d k at h l e =
     let n = node-at kind (state_of kind b) reached t fs d k at h l e in
@@ -178,7 +178,7 @@ inner-page kind b reached t fs d k at h l e =
         last = subst (λ z. IsChild (length b) z) (sym f.2) m.1;
         children = children-at (length b) (rows_of (page_in b at)) (subst (λ z. AllByRecursion (λ c. IsChild (length b) c.1) z) (sym f.1) m.0);
       },
-      children-ascend kind (rows_of (page_in b at)) (subst (λ z. KeysAscend kind z) (sym f.1) (bounds-ascend kind n.0 (subst (λ u. AscendAll kind (entries_of u)) n.1 (under-ascends kind d t k h.ascends)))),
+      children-rise kind (rows_of (page_in b at)) (subst (λ z. KeysRise kind z) (sym f.1) (bounds-rise kind n.0 (subst (λ u. AscendAll kind (entries_of u)) n.1 (under-ascends kind d t k h.ascends)))),
       λ c p. ap place n.3 ∙ pick-child kind n.0 k ∙ ap₂ (λ x y. pick_of kind x y k) (sym f.1) (sym f.2) ∙ p,
     )
   where

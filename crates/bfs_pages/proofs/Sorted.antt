@@ -10,7 +10,7 @@ use Rattle.bfs_node.specs.Search.{key_at, IsPlace, Ascends as IndexAscends}
 use Rattle.bfs_pages.specs.Order.{Key, comes_before, at_most, same_keys}
 use Rattle.bfs_pages.specs.Maps.{assoc, put}
 use Rattle.bfs_pages.specs.Trees.{place_of, children_in}
-use Rattle.bfs_pages.specs.Ways.{KeysAscend, FirstAt, pick_of, link_at}
+use Rattle.bfs_pages.specs.Ways.{KeysAscend, KeysRise, FirstAt, pick_of, link_at}
 use Rattle.bfs_pages.proofs.KeyOrder.{less-is, less_is_most, most_not, most_itself, same_itself, greater_not_same, less_not_same}
 
 none-before : (i : ℕ) → i < 0 → ⊥
@@ -37,21 +37,28 @@ is_less kind a b e = less-of e
 pub by-index : (kind : KeyKind) (rows : List Row) → KeysAscend kind rows → IndexAscends kind rows
 by-index kind rows a i h = is_less kind (key_at rows i) (key_at rows (i + 1)) (ascend-at kind rows i (i + 1) a (omega arith) h)
 
+-- keys that ascend rise
+pub ascend-rise : (kind : KeyKind) (rows : List Row) → KeysAscend kind rows → KeysRise kind rows
+ascend-rise kind [] a = tt
+ascend-rise kind (r ∷ rs) a = (each rs a.0, ascend-rise kind rs a.1)
+  where
+    each : (xs : List Row) → AllByRecursion (λ s. comes_before kind r.0 s.0 ≡ true) xs → AllByRecursion (λ s. at_most kind r.0 s.0 ≡ true) xs
+    each [] b = tt
+    each (x ∷ xs) b = (less_is_most kind r.0 x.0 b.0, each xs b.1)
+
+pub rise-at : (kind : KeyKind) (rows : List Row) (i j : ℕ) → KeysRise kind rows → i ≤ j → j < length rows → at_most kind (key_at rows i) (key_at rows j) ≡ true
+rise-at kind [] i j a l h = absurd (omega (arith, h))
+rise-at kind (r ∷ rs) zero zero a l h = most_itself kind r.0
+rise-at kind (r ∷ rs) (suc i) zero a l h = absurd (omega (arith, l))
+rise-at kind (r ∷ rs) zero (suc j) a l h = all-at (λ k. at_most kind r.0 k ≡ true) rs j a.0 (omega (arith, h))
+rise-at kind (r ∷ rs) (suc i) (suc j) a l h = rise-at kind rs i j a.1 (omega (arith, l)) (omega (arith, h))
+
 -- the place is the first, by the tests of the keys
-first-from : (kind : KeyKind) (rows : List Row) (k : Key) (i : ℕ) → i ≤ length rows → ((j : ℕ) → j < i → comes_before kind (key_at rows j) k ≡ true) → (i < length rows → at_most kind k (key_at rows i) ≡ true) → FirstAt kind rows k i
+pub first-from : (kind : KeyKind) (rows : List Row) (k : Key) (i : ℕ) → i ≤ length rows → ((j : ℕ) → j < i → comes_before kind (key_at rows j) k ≡ true) → (i < length rows → at_most kind k (key_at rows i) ≡ true) → FirstAt kind rows k i
 first-from kind [] k i l b m = omega (arith, l)
 first-from kind (r ∷ rs) k zero l b m = m (omega arith)
 first-from kind (r ∷ rs) k (suc i) l b m =
     (most_not kind k r.0 (b zero (omega arith)), first-from kind rs k i (omega (arith, l)) (λ j h. b (suc j) (omega (arith, h))) (λ h. m (omega (arith, h))))
-
-pub first-found : (kind : KeyKind) (rows : List Row) (k : Key) (i : ℕ) → KeysAscend kind rows → IsPlace kind rows k (Ok i) → FirstAt kind rows k i
-first-found kind rows k i a p =
-    first-from kind rows k i (omega (arith, p.0)) (λ j h. subst (λ z. comes_before kind (key_at rows j) z ≡ true) p.1 (ascend-at kind rows j i a h p.0))
-    (λ h. subst (λ z. at_most kind k z ≡ true) (sym p.1) (most_itself kind k))
-
-pub first-missed : (kind : KeyKind) (rows : List Row) (k : Key) (i : ℕ) → IsPlace kind rows k (Err i) → FirstAt kind rows k i
-first-missed kind rows k i p =
-    first-from kind rows k i p.0 (λ j h. ap is_lt (p.1 j h)) (λ h. less_is_most kind k (key_at rows i) (ap is_lt (p.2 i (omega arith) h)))
 
 -- what is picked
 pub pick-first : (kind : KeyKind) (rows : List Row) (last : ℤ) (k : Key) (i : ℕ) → FirstAt kind rows k i → pick_of kind (children_in rows) (place_of last) k ≡ place_of (link_at rows last i)

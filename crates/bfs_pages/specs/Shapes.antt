@@ -108,15 +108,15 @@ abbrev mutual
   entries_all (last_shape t) = entries_of t
   entries_all (more_shapes t key ts) = entries_of t ++ (a_bound key ∷ entries_all ts)
 
--- The keys ascend, where the key of an interior page may be that of the row before it: the keys under a child are at most
--- the key behind it and greater than the key before it.
+-- A row's key is above all keys before it, and the key of an interior page is at least each key before it. So the keys
+-- under a child are above the key before it and at most the key behind it, and two keys of interior pages are the same
+-- only where no row stands between them.
 abbrev pub IsAbove : KeyKind → Key → Entry → Type 0
 IsAbove kind k (a_row l v) = comes_before kind k l ≡ true
 IsAbove kind k (a_bound b) = at_most kind k b ≡ true
 
 abbrev pub Precedes : KeyKind → Entry → Entry → Type 0
-Precedes kind (a_row k v) e = IsAbove kind k e
-Precedes kind (a_bound b) e = comes_before kind b (key_in e) ≡ true
+Precedes kind e f = IsAbove kind (key_in e) f
 
 abbrev pub AscendAll : KeyKind → List Entry → Type 0
 AscendAll kind [] = Unit {0}

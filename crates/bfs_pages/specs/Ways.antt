@@ -95,6 +95,11 @@ abbrev pub KeysAscend : {A : Type 0} → KeyKind → List (Key × A) → Type 0
 KeysAscend kind [] = Unit {0}
 KeysAscend kind (r ∷ rs) = AllByRecursion (λ s. comes_before kind r.0 s.0 ≡ true) rs × KeysAscend kind rs
 
+-- each key is at most those behind it
+abbrev pub KeysRise : {A : Type 0} → KeyKind → List (Key × A) → Type 0
+KeysRise kind [] = Unit {0}
+KeysRise kind (r ∷ rs) = AllByRecursion (λ s. at_most kind r.0 s.0 ≡ true) rs × KeysRise kind rs
+
 -- the first row whose key is not less than this one is at this place, or there is none and it is the end
 abbrev pub FirstAt : KeyKind → List Row → Key → ℕ → Type 0
 FirstAt kind [] k i = i ≡ 0

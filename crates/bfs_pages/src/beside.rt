@@ -36,6 +36,7 @@ pub fn read_beside<P: Pages, L: Ledger>(
     ensures told { P.told pages.new ≡ P.told pages.old }
     ensures size { P.size pages.new ≡ P.size pages.old }
     ensures kept { Kept (P.counts pages.old) (P.counts pages.new) (P.frame pages.old) (P.frame pages.new) (P.goes_on pages.old pages.new) }
+    ensures is_read { P.is_read pages.old pages.new }
 {
     if at == 0 {
         Ok(())

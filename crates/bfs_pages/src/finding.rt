@@ -48,6 +48,7 @@ pub fn leaf_for<P: Pages, L: Ledger>(
     ensures counts { AreLater (P.counts pages.old) (P.counts pages.new) }
     ensures frame { P.frame pages.new ≡ P.frame pages.old }
     ensures goes_on { P.goes_on pages.old pages.new }
+    ensures is_read { P.is_read pages.old pages.new }
 {
     let header = match read_header(pages, kind, steps) {
         Ok(header) => header,
@@ -79,6 +80,7 @@ pub fn find<P: Pages, L: Ledger>(
     requires kind { IsTreeKind kind }
     requires key { IsSought kind key.now }
     ensures found { (b reached : List ℕ) (t : Shape) (fs : List ℕ) → P.told pages.old ≡ Some b → IsTree kind b reached t fs → MatchResult result (IsFound kind b t key.now) IsOfPages }
+    ensures last { IfOk result (λ o. IfSome o (λ f. P.last pages.new ≡ f.leaf)) }
     ensures refused { IfErr result (IsUnread kind (P.told pages.new) (P.is_cause pages.old pages.new)) }
     ensures just_read { IfErr result (IsJustRead (P.size pages.new) (P.last pages.new)) }
     ensures steps { (b : List ℕ) → P.told pages.old ≡ Some b → steps.new ≤ steps.old + (header_in b).levels + 1 }
@@ -87,6 +89,7 @@ pub fn find<P: Pages, L: Ledger>(
     ensures counts { AreLater (P.counts pages.old) (P.counts pages.new) }
     ensures frame { P.frame pages.new ≡ P.frame pages.old }
     ensures goes_on { P.goes_on pages.old pages.new }
+    ensures is_read { P.is_read pages.old pages.new }
 {
     let mut page = [0u8; PAGE];
     match leaf_for(pages, kind, key, &mut page, steps) {

@@ -35,7 +35,8 @@ impl MemPages {
 }
 
 impl Pages for MemPages {
-    ghost use Rattle.std.specs.Prelude.{Some, None, [], refl};
+    ghost use Rattle.std.specs.Prelude.{◌≡◌, Some, None, [], refl};
+    ghost use Rattle.std.proofs.Common.{◌∙◌};
 
     type Fault = AllocError;
 
@@ -51,11 +52,19 @@ impl Pages for MemPages {
 
     ghost goes_on = { λ p q. Unit {0} };
 
+    ghost is_read = { λ p q. q.bytes.items ≡ p.bytes.items };
+
     ghost is_cause = { λ p q fault. Unit {0} };
 
     ghost goes_on_same = { λ p. tt };
 
     ghost goes_on_twice = { λ p q r a b. tt };
+
+    ghost is_read_same = { λ p. refl };
+
+    ghost is_read_twice = { λ p q r a b. b ∙ a };
+
+    ghost is_read_on = { λ p q a. tt };
 
     ghost is_cause_before = { λ p q r fault a b. tt };
 

@@ -63,6 +63,7 @@ pub fn read_header<P: Pages, L: Ledger>(
     ensures counts { AreLater (P.counts pages.old) (P.counts pages.new) }
     ensures frame { P.frame pages.new ≡ P.frame pages.old }
     ensures goes_on { P.goes_on pages.old pages.new }
+    ensures is_read { P.is_read pages.old pages.new }
 {
     let damaged = TreeFault::Damaged {
         page: 0,
@@ -178,6 +179,7 @@ pub fn read_leaf<P: Pages, L: Ledger>(
     ensures counts { AreLater (P.counts pages.old) (P.counts pages.new) }
     ensures frame { P.frame pages.new ≡ P.frame pages.old }
     ensures goes_on { P.goes_on pages.old pages.new }
+    ensures is_read { P.is_read pages.old pages.new }
 {
     let size = pages.length();
     match pages.get(at, page, steps) {
@@ -218,6 +220,7 @@ pub fn read_interior<P: Pages, L: Ledger>(
     ensures counts { AreLater (P.counts pages.old) (P.counts pages.new) }
     ensures frame { P.frame pages.new ≡ P.frame pages.old }
     ensures goes_on { P.goes_on pages.old pages.new }
+    ensures is_read { P.is_read pages.old pages.new }
 {
     let size = pages.length();
     match pages.get(at, page, steps) {

@@ -1,6 +1,5 @@
 -- Rows of an answer, one after the other, and values that lead to pages.
 use Rattle.std.proofs.Common.{◌≡◌, ◌≤◌, ◌<◌, ◌+◌, ◌-◌, ◌==◌, ℕ, ℤ, zero, suc, List, [], ◌∷◌, ◌++◌, length, take, drop, Option, Some, IfSome, Bool, true, false, refl, ap, sym, ◌∙◌, subst, arith}
-use Rattle.std.specs.List.{AllByRecursion}
 use Rattle.bfs_base.specs.declared.kind.KeyKind.{KeyKind}
 use Rattle.bfs_node.specs.Page.{Row, rows_of, row_in, value_of, key_of}
 use Rattle.bfs_txn.specs.Pages.{HasLength}
@@ -13,8 +12,9 @@ use Rattle.bfs_values.specs.Kinds.{IsValueOf, IsNamed}
 use Rattle.bfs_values.specs.Links.{link_in}
 use Rattle.bfs_values.specs.Values.{HasNumbers, IsReadable, values_in}
 use Rattle.bfs_range.specs.declared.ranged.RangedRow.{RangedRow}
-use Rattle.bfs_range.specs.Answers.{answer_row, IsRead, IsRowOf, IsAnswerOf, AreAnswers}
-use Rattle.bfs_range.specs.Meant.{AllMean, AreNamed}
+use Rattle.bfs_range.specs.Answers.{IsRead, IsAnswerOf, AreAnswers}
+use Rattle.bfs_values.specs.Reached.{AllMean}
+use Rattle.bfs_range.specs.Meant.{AreNamed}
 use Rattle.bfs_range.proofs.Rest.{rest-first, mean-first}
 
 -- a row of the leaf that was read, with the numbers of its value

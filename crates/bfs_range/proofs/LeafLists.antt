@@ -5,7 +5,7 @@ use Rattle.bfs_base.specs.Lists.{times}
 use Rattle.bfs_base.specs.declared.kind.KeyKind.{KeyKind}
 use Rattle.bfs_node.specs.Page.{Row, rows_of}
 use Rattle.bfs_pages.specs.Order.{Key, comes_before, at_most}
-use Rattle.bfs_pages.specs.Shapes.{Body, leaf_body, Shape, Shapes, leaf_shape, node_shape, last_shape, more_shapes, tree_rows, trees_rows, leaves_of, leaves_all, Entry, a_row, a_bound, entries_of, IsAbove, AscendAll, Stands, StandAll}
+use Rattle.bfs_pages.specs.Shapes.{Body, leaf_body, Shape, Shapes, leaf_shape, node_shape, last_shape, more_shapes, tree_rows, trees_rows, leaves_of, leaves_all, Entry, a_row, a_bound, entries_of, AscendAll, Stands, StandAll}
 use Rattle.bfs_pages.specs.Trees.{State, Holds, held, state_of, page_in, head_or, Linked}
 use Rattle.bfs_pages.specs.Ways.{child_for, before, under, before_way, rows_in, KeysAscend}
 use Rattle.bfs_pages.specs.Answers.{IsChild, IsLeafPage}
@@ -15,6 +15,7 @@ use Rattle.bfs_pages.proofs.Leaves.{times-leaves, linked-at}
 use Rattle.bfs_pages.proofs.OfKind.{met-child, leaf-fields, leaf-any}
 use Rattle.bfs_pages.proofs.Splice.{times-append, self}
 use Rattle.bfs_pages.proofs.Way.{before-way-below}
+use Rattle.bfs_values.proofs.RowLists.{entries-ascend}
 use Rattle.bfs_range.specs.Leaves.{LeafAt, leaf_list, leaf_lists, right_of}
 
 -- the rows of leaves, and their places
@@ -121,16 +122,6 @@ pub front-below : (kind : KeyKind) → (d : ℕ) (t : Shape) (k : Key) → Ascen
 front-below kind d t k a = subst (λ l. AllByRecursion (λ s. comes_before kind s.0 k ≡ true) l) (sym (flat-way kind d t k)) (rows-below kind k (before_way kind d t k) (before-way-below kind d t k a))
 
 -- all rows ascend
-rows-above : (kind : KeyKind) (k : Key) (es : List Entry) → AllByRecursion (λ e. IsAbove kind k e) es → AllByRecursion (λ s. comes_before kind k s.0 ≡ true) (rows_in es)
-rows-above kind k [] a = tt
-rows-above kind k (a_row l v ∷ es) a = (a.0, rows-above kind k es a.1)
-rows-above kind k (a_bound l ∷ es) a = rows-above kind k es a.1
-
-entries-ascend : (kind : KeyKind) (es : List Entry) → AscendAll kind es → KeysAscend kind (rows_in es)
-entries-ascend kind [] a = tt
-entries-ascend kind (a_row k v ∷ es) a = (rows-above kind k es a.0, entries-ascend kind es a.1)
-entries-ascend kind (a_bound k ∷ es) a = entries-ascend kind es a.1
-
 pub list-ascends : (kind : KeyKind) (t : Shape) → AscendAll kind (entries_of t) → KeysAscend kind (flat (leaf_list t))
 list-ascends kind t a = subst (λ l. KeysAscend kind l) (sym (rows-shape t) ∙ rows-list t) (entries-ascend kind (entries_of t) a)
 

@@ -11,7 +11,8 @@ use Rattle.bfs_range.specs.declared.ranged.RangedRow.{RangedRow}
 use Rattle.bfs_range.specs.Answers.{answer_row, answer_of}
 use Rattle.bfs_values.specs.Kinds.{IsWanted, IsCut}
 use Rattle.bfs_values.specs.Values.{HasValues, pages_for}
-use Rattle.bfs_range.specs.Meant.{AllMean, pages_of}
+use Rattle.bfs_values.specs.Reached.{AllMean}
+use Rattle.bfs_range.specs.Meant.{pages_of}
 
 wanted-kind : (kind : KeyKind) (bytes : List ℕ) (at : ℕ) (sort : PageKind) → IsWanted kind bytes at sort → IsOfKind kind bytes at sort
 wanted-kind kind bytes at Header w = w

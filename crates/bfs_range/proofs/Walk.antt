@@ -14,7 +14,8 @@ use Rattle.bfs_pages.proofs.Placed.{held_most}
 use Rattle.bfs_range.specs.Answers.{answer_of}
 use Rattle.bfs_values.specs.Values.{next_of, EndsAfter}
 use Rattle.bfs_range.specs.Leaves.{LeafAt, leaf_list, first_leaf, right_of, leaves_upto}
-use Rattle.bfs_range.specs.Meant.{AllMean, pages_of}
+use Rattle.bfs_values.specs.Reached.{AllMean}
+use Rattle.bfs_range.specs.Meant.{pages_of}
 use Rattle.bfs_range.specs.Ranges.{is_from, is_upto, rows_between, has_above}
 use Rattle.bfs_range.proofs.Between.{none-below, none-past, past-on}
 use Rattle.bfs_range.proofs.LeafLists.{flat, flat-append, rows-list, list_before, list_behind, list-under, front-below, list-ascends, leaf-ascends, here-ascends, leaf-there, leaf-place, right-there}

@@ -1,14 +1,9 @@
 -- The numbers that rows mean.
 use Rattle.std.specs.Prelude.{ℕ, ◌+◌, ◌≤◌, ◌<◌, List, [], ◌∷◌}
-use Rattle.std.specs.List.{AllByRecursion}
 use Rattle.bfs_node.specs.Page.{Row, row_in, value_of}
 use Rattle.bfs_values.specs.Kinds.{IsNamed}
 use Rattle.bfs_values.specs.Links.{link_in}
-use Rattle.bfs_values.specs.Values.{HasValues, pages_for}
-
--- each row has a value that means numbers
-abbrev pub AllMean : List ℕ → List Row → Type 0
-AllMean bytes rows = AllByRecursion (λ r. HasValues bytes r.1) rows
+use Rattle.bfs_values.specs.Values.{pages_for}
 
 -- the values of the rows between two places are plain numbers, or lead to pages of a stream with so many bytes
 abbrev pub AreNamed : ℕ → List Row → ℕ → ℕ → Type 0

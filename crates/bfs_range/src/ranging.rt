@@ -10,7 +10,8 @@ ghost use Rattle.bfs_pages.specs.Trees.{header_in, IsTree, state_of};
 ghost use Rattle.bfs_range.specs.Answers.{answer_of, AreAnswers};
 ghost use Rattle.bfs_values.specs.Kinds.{IsCut, IsLacking, Stays};
 ghost use Rattle.bfs_range.specs.Leaves.{leaf_list, first_leaf, right_of, leaves_upto};
-ghost use Rattle.bfs_range.specs.Meant.{AllMean, pages_of};
+ghost use Rattle.bfs_values.specs.Reached.{AllMean};
+ghost use Rattle.bfs_range.specs.Meant.{pages_of};
 ghost use Rattle.bfs_range.specs.Ranges.{rows_between};
 
 use crate::ends::low_or_least;
@@ -38,7 +39,7 @@ pub fn range_from<P: Pages, L: Ledger>(
     ensures refused { IfErr result (IsCut kind (P.told pages.new) (P.is_cause pages.old pages.new)) }
     ensures sure { (b : List ℕ) → P.told pages.old ≡ Some b → IfOk result (λ rows. AreAnswers kind b rows.items) }
     ensures just_read { IfErr result (IsJustRead (P.size pages.new) (P.last pages.new)) }
-    ensures stays { Stays (P.told pages.old) (P.told pages.new) (P.size pages.old) (P.size pages.new) (P.counts pages.old) (P.counts pages.new) (P.frame pages.old) (P.frame pages.new) (P.goes_on pages.old pages.new) }
+    ensures stays { Stays (P.told pages.old) (P.told pages.new) (P.size pages.old) (P.size pages.new) (P.counts pages.old) (P.counts pages.new) (P.frame pages.old) (P.frame pages.new) (P.goes_on pages.old pages.new) (P.is_read pages.old pages.new) }
 {
     let mut page = [0u8; PAGE];
     let mut rows = Vec::new(alloc);
@@ -93,6 +94,7 @@ pub fn range<P: Pages, L: Ledger>(
     ensures counts { AreLater (P.counts pages.old) (P.counts pages.new) }
     ensures frame { P.frame pages.new ≡ P.frame pages.old }
     ensures goes_on { P.goes_on pages.old pages.new }
+    ensures is_read { P.is_read pages.old pages.new }
 {
     let from = low_or_least(kind, low);
     match range_from(alloc, pages, kind, (from, high), steps) {

@@ -11,7 +11,8 @@ ghost use Rattle.bfs_range.specs.Answers.{answer_row, answer_of, IsRead, IsAnswe
 ghost use Rattle.bfs_values.specs.Kinds.{IsNamed, IsCut, IsLacking, Stays};
 ghost use Rattle.bfs_values.specs.Links.{link_in};
 ghost use Rattle.bfs_values.specs.Values.{HasValues, pages_for};
-ghost use Rattle.bfs_range.specs.Meant.{AllMean, AreNamed, pages_of};
+ghost use Rattle.bfs_values.specs.Reached.{AllMean};
+ghost use Rattle.bfs_range.specs.Meant.{AreNamed, pages_of};
 ghost use Rattle.bfs_range.specs.Ranges.{rows_between, has_above};
 
 use crate::ends::end_for;
@@ -41,7 +42,7 @@ fn take_row<P: Pages, L: Ledger>(
     ensures refused { IfSome (P.told pages.old) (λ b. IsRead kind b leaf page.now) → IfErr result (IsCut kind (P.told pages.new) (P.is_cause pages.old pages.new)) }
     ensures sure { (b : List ℕ) → P.told pages.old ≡ Some b → IsRead kind b leaf page.now → OnOk result ((x : RangedRow) × (rows.new.items ≡ rows.old.items ++ x ∷ []) × IsAnswerOf kind b x) }
     ensures just_read { IsNamed (P.size pages.old) (link_in (value_of (row_in (rows_of page.now) i))) → IfErr result (IsJustRead (P.size pages.new) (P.last pages.new)) }
-    ensures stays { Stays (P.told pages.old) (P.told pages.new) (P.size pages.old) (P.size pages.new) (P.counts pages.old) (P.counts pages.new) (P.frame pages.old) (P.frame pages.new) (P.goes_on pages.old pages.new) }
+    ensures stays { Stays (P.told pages.old) (P.told pages.new) (P.size pages.old) (P.size pages.new) (P.counts pages.old) (P.counts pages.new) (P.frame pages.old) (P.frame pages.new) (P.goes_on pages.old pages.new) (P.is_read pages.old pages.new) }
 {
     let numbers = match numbers_of(alloc, pages, kind, leaf, row_value(page, i), steps) {
         Ok(numbers) => numbers,
@@ -76,7 +77,7 @@ pub fn take_rows<P: Pages, L: Ledger>(
     ensures refused { IfSome (P.told pages.old) (λ b. IsRead kind b leaf page.now) → IfErr result (IsCut kind (P.told pages.new) (P.is_cause pages.old pages.new)) }
     ensures sure { (b : List ℕ) → P.told pages.old ≡ Some b → IsRead kind b leaf page.now → AreAnswers kind b rows.old.items → OnOk result (AreAnswers kind b rows.new.items) }
     ensures just_read { AreNamed (P.size pages.old) (rows_of page.now) places.0 places.1 → IfErr result (IsJustRead (P.size pages.new) (P.last pages.new)) }
-    ensures stays { Stays (P.told pages.old) (P.told pages.new) (P.size pages.old) (P.size pages.new) (P.counts pages.old) (P.counts pages.new) (P.frame pages.old) (P.frame pages.new) (P.goes_on pages.old pages.new) }
+    ensures stays { Stays (P.told pages.old) (P.told pages.new) (P.size pages.old) (P.size pages.new) (P.counts pages.old) (P.counts pages.new) (P.frame pages.old) (P.frame pages.new) (P.goes_on pages.old pages.new) (P.is_read pages.old pages.new) }
 {
     for i in places.0..places.1 {
         match take_row(alloc, pages, kind, leaf, page, i, rows, steps) {
@@ -122,7 +123,7 @@ pub fn take_leaf<P: Pages, L: Ledger>(
     ensures refused { IfSome (P.told pages.old) (λ b. IsRead kind b leaf page.now) → IfErr result (IsCut kind (P.told pages.new) (P.is_cause pages.old pages.new)) }
     ensures sure { (b : List ℕ) → P.told pages.old ≡ Some b → IsRead kind b leaf page.now → AreAnswers kind b rows.old.items → OnOk result (AreAnswers kind b rows.new.items) }
     ensures just_read { P.last pages.old ≡ leaf → IfErr result (IsJustRead (P.size pages.new) (P.last pages.new)) }
-    ensures stays { Stays (P.told pages.old) (P.told pages.new) (P.size pages.old) (P.size pages.new) (P.counts pages.old) (P.counts pages.new) (P.frame pages.old) (P.frame pages.new) (P.goes_on pages.old pages.new) }
+    ensures stays { Stays (P.told pages.old) (P.told pages.new) (P.size pages.old) (P.size pages.new) (P.counts pages.old) (P.counts pages.new) (P.frame pages.old) (P.frame pages.new) (P.goes_on pages.old pages.new) (P.is_read pages.old pages.new) }
 {
     let from = place_for(page, kind, ends.0);
     let to = end_for(page, kind, ends.1);

@@ -19,7 +19,7 @@ use Rattle.bfs_pages.proofs.Placed.{held_most}
 use Rattle.bfs_pages.proofs.Says.{says-leaf}
 use Rattle.bfs_pages.proofs.Good.{page-true}
 use Rattle.bfs_pages.proofs.Descent.{deep-under}
-use Rattle.bfs_pages.proofs.OfKind.{inner-page, leaf-any, bounds-ascend, under-ascends}
+use Rattle.bfs_pages.proofs.OfKind.{inner-page, leaf-any, bounds-rise, under-ascends}
 use Rattle.bfs_remove.specs.Cuts.{dropped, DropLinks, HasMore, InHand, IsLine, Marked, IsFilled}
 use Rattle.bfs_pages.specs.Writes.{SamePages}
 use Rattle.bfs_remove.specs.Removed.{IsDropped, IsMended}
@@ -208,7 +208,7 @@ module _ (kind : KeyKind) (b reached : List ℕ) (t : Shape) (fs : List ℕ) (k 
         branch_body =
             let d = keys-dropped kind below k more in
             mended-bodies kind c2 c3 right (left, (neighbours_in (page_in c2 right)).1) mend2 branch.page ∙ mended-bodies kind c1 c2 left ((neighbours_in (page_in c1 left)).0, right) mend1 branch.page
-            ∙ drop.body (children_of below) (last_child below) branch_stands.0 (bounds-ascend kind below (subst (λ u. AscendAll kind (entries_of u)) node_is (under-ascends kind depth t k tree.holds.ascends))) (some_keys below more)
+            ∙ drop.body (children_of below) (last_child below) branch_stands.0 (bounds-rise kind below (subst (λ u. AscendAll kind (entries_of u)) node_is (under-ascends kind depth t k tree.holds.ascends))) (some_keys below more)
             ∙ ap₂ (λ x y. Some (inner_body x y)) (sym d.0) (sym d.1)
           where
             some_keys : (ts : Shapes) → HasMore ts → 1 ≤ length (children_of ts)

@@ -7,13 +7,13 @@ use Rattle.bfs_pages.specs.Answers.{IsChild, IsInteriorPage}
 use Rattle.bfs_pages.specs.Order.{Key}
 use Rattle.bfs_pages.specs.Shapes.{inner_body, leaf_body}
 use Rattle.bfs_pages.specs.Trees.{page_in, place_of, body_in, free_in, neighbours_in, children_in, next_if}
-use Rattle.bfs_pages.specs.Ways.{KeysAscend, FirstAt}
+use Rattle.bfs_pages.specs.Ways.{KeysRise, FirstAt}
 use Rattle.bfs_pages.specs.Writes.{PageSet, HeaderSet, BesideSet}
 use Rattle.bfs_remove.specs.Cuts.{keys_without, last_without}
 use Rattle.bfs_remove.specs.Removed.{IsGiven, IsMended, IsDropped, rows_less, last_less}
 use Rattle.bfs_pages.proofs.Good.{linked-page}
 use Rattle.bfs_pages.proofs.Says.{says-leaf, says-inner}
-use Rattle.bfs_pages.proofs.OfKind.{inner-fields, children-ascend}
+use Rattle.bfs_pages.proofs.OfKind.{inner-fields, children-rise}
 use Rattle.bfs_remove.proofs.Less.{less-keys, less-all, less-last}
 
 eq_no : (a b : ℕ) → a ≢ b → (a == b) ≡ false
@@ -96,7 +96,7 @@ small-child size q z f e h =
 
 -- an interior page has lost a child
 pub child-dropped : (kind : KeyKind) (b c page new : List ℕ) (at i : ℕ) (k : Key) → PageSet b c at new → page ≡ page_in b at → IsInteriorPage kind (length b) page → IsPage kind page → HasLayout new → rows_of new ≡ rows_less (rows_of page) i
-    → (links_of new).overflow ≡ last_less (rows_of page) (links_of page).overflow i → (links_of new).left ≡ (links_of page).left → (links_of new).right ≡ (links_of page).right → (KeysAscend kind (rows_of page) → FirstAt kind (rows_of page) k i)
+    → (links_of new).overflow ≡ last_less (rows_of page) (links_of page).overflow i → (links_of new).left ≡ (links_of page).left → (links_of new).right ≡ (links_of page).right → (KeysRise kind (rows_of page) → FirstAt kind (rows_of page) k i)
     → IsDropped kind b c at k
 child-dropped kind b c page new at i k s r inner p layout rows over left right first = record {
   size = s.size;
@@ -105,7 +105,7 @@ child-dropped kind b c page new at i k s r inner p layout rows over left right f
   ends = ap neighbours_in (set-here b c new at s) ∙ ap₂ (λ x y. (place_of x, place_of y)) left right ∙ ap neighbours_in r;
   body = λ keys last says up some.
       let f = inner-fields kind page keys last (ap (body_in kind) r ∙ says) in
-      let l = less-keys kind (rows_of page) (links_of page).overflow k i (first (children-ascend kind (rows_of page) (subst (λ z. KeysAscend kind z) (sym f.1) up))) in
+      let l = less-keys kind (rows_of page) (links_of page).overflow k i (first (children-rise kind (rows_of page) (subst (λ z. KeysRise kind z) (sym f.1) up))) in
       ap (body_in kind) (set-here b c new at s) ∙ says-inner kind new good big
       ∙ ap₂ (λ x y. Some (inner_body x y)) (ap children_in rows ∙ l.0 ∙ ap (λ z. keys_without kind z k) f.1) (ap place_of over ∙ l.1 ∙ ap₂ (λ x y. last_without kind x y k) f.1 f.2);
 }

@@ -11,7 +11,7 @@ use Rattle.bfs_pages.specs.Order.{Key}
 use Rattle.bfs_pages.specs.Shapes.{Shape, leaf_shape, inner_body, tree_rows}
 use Rattle.bfs_pages.specs.Trees.{page_in, header_in, state_of, Holds, place_of, body_in, free_in, neighbours_in}
 use Rattle.bfs_pages.specs.Writes.{SamePages}
-use Rattle.bfs_pages.specs.Ways.{under, KeysAscend}
+use Rattle.bfs_pages.specs.Ways.{under, KeysRise}
 use Rattle.bfs_remove.specs.Cuts.{Marked, keys_without, last_without}
 use Rattle.bfs_remove.specs.declared.way.Branch.{Branch}
 use Rattle.bfs_remove.specs.declared.way.Way.{Way}
@@ -70,7 +70,7 @@ pub record IsDropped (kind : KeyKind) (b c : List ℕ) (at : ℕ) (k : Key) : Ty
   pub header : header_in c ≡ header_in b
   pub pages : (x : ℕ) → x ≢ at → page_in c x ≡ page_in b x
   pub ends : neighbours_in (page_in c at) ≡ neighbours_in (page_in b at)
-  pub body : (keys : List (Key × ℕ)) (last : ℕ) → body_in kind (page_in b at) ≡ Some (inner_body keys last) → KeysAscend kind keys → 1 ≤ length keys
+  pub body : (keys : List (Key × ℕ)) (last : ℕ) → body_in kind (page_in b at) ≡ Some (inner_body keys last) → KeysRise kind keys → 1 ≤ length keys
       → body_in kind (page_in c at) ≡ Some (inner_body (keys_without kind keys k) (last_without kind keys last k))
 
 -- the root is a leaf, or has a key

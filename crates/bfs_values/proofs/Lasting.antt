@@ -13,16 +13,17 @@ use Rattle.bfs_pages.proofs.Later.{later-twice}
 use Rattle.bfs_values.specs.Values.{next_of}
 use Rattle.bfs_values.specs.Kinds.{IsCut, IsLacking, Stays}
 
-pub stays-none : {t : Option (List ℕ)} {s : ℕ} {c : Counts} {f : List ℕ} {on : Type 0} → on → Stays t t s s c c f f on
-stays-none on = record { told_is = refl; size_is = refl; counts = record { faults = omega arith; stops = refl; stop = refl }; frame_is = refl; goes_on = on }
+pub stays-none : {t : Option (List ℕ)} {s : ℕ} {c : Counts} {f : List ℕ} {on read : Type 0} → on → read → Stays t t s s c c f f on read
+stays-none on read = record { told_is = refl; size_is = refl; counts = record { faults = omega arith; stops = refl; stop = refl }; frame_is = refl; goes_on = on; is_read = read }
 
-pub stays-twice : {t u v : Option (List ℕ)} {a b c : ℕ} {x y z : Counts} {f g h : List ℕ} {on more all : Type 0} → Stays t u a b x y f g on → Stays u v b c y z g h more → (on → more → all) → Stays t v a c x z f h all
-stays-twice s r both = record {
+pub stays-twice : {t u v : Option (List ℕ)} {a b c : ℕ} {x y z : Counts} {f g h : List ℕ} {on more all read next reads : Type 0} → Stays t u a b x y f g on read → Stays u v b c y z g h more next → (on → more → all) → (read → next → reads) → Stays t v a c x z f h all reads
+stays-twice s r both reads = record {
   told_is = r.told_is ∙ s.told_is;
   size_is = r.size_is ∙ s.size_is;
   counts = later-twice s.counts r.counts;
   frame_is = r.frame_is ∙ s.frame_is;
   goes_on = both s.goes_on r.goes_on;
+  is_read = reads s.is_read r.is_read;
 }
 
 -- the fault of a later call has a cause since the first

@@ -52,9 +52,10 @@ IsLacking (Pages fault) = Unit {0}
 IsLacking NoMemory = Unit {0}
 
 -- what calls that only read keep
-pub record Stays (told now : Option (List ℕ)) (size size_now : ℕ) (old new : Counts) (frame frame_now : List ℕ) (on : Type 0) : Type 0 where
+pub record Stays (told now : Option (List ℕ)) (size size_now : ℕ) (old new : Counts) (frame frame_now : List ℕ) (on read : Type 0) : Type 0 where
   pub told_is : now ≡ told
   pub size_is : size_now ≡ size
   pub counts : AreLater old new
   pub frame_is : frame_now ≡ frame
   pub goes_on : on
+  pub is_read : read

@@ -1,3 +1,11 @@
 pub mod Kinds
 pub mod Links
 pub mod Values
+pub mod Rows
+pub mod Reached
+pub mod Laws
+pub mod Stored
+pub mod Formed
+pub mod Named
+pub mod Chained
+pub mod Sets

@@ -29,7 +29,7 @@ fn add_page<P: Pages, L: Ledger>(
     ensures last { OnOk result (P.last pages.new ≡ at) }
     ensures just_read { IfErr result (IsJustRead (P.size pages.new) (P.last pages.new)) }
     ensures steps { steps.new ≤ steps.old + 1 }
-    ensures stays { Stays (P.told pages.old) (P.told pages.new) (P.size pages.old) (P.size pages.new) (P.counts pages.old) (P.counts pages.new) (P.frame pages.old) (P.frame pages.new) (P.goes_on pages.old pages.new) }
+    ensures stays { Stays (P.told pages.old) (P.told pages.new) (P.size pages.old) (P.size pages.new) (P.counts pages.old) (P.counts pages.new) (P.frame pages.old) (P.frame pages.new) (P.goes_on pages.old pages.new) (P.is_read pages.old pages.new) }
 {
     let size = pages.length();
     let damaged = TreeFault::Damaged {
@@ -68,7 +68,7 @@ pub fn add_chain<P: Pages, L: Ledger>(
     ensures refused { IfErr result (IsCut kind (P.told pages.new) (P.is_cause pages.old pages.new)) }
     ensures sure { (b : List ℕ) → P.told pages.old ≡ Some b → OnOk result (((n : ℕ) × EndsAfter b n first) × AreDuplicates b (chain_of b first)) }
     ensures just_read { IfErr result (IsJustRead (P.size pages.new) (P.last pages.new)) }
-    ensures stays { Stays (P.told pages.old) (P.told pages.new) (P.size pages.old) (P.size pages.new) (P.counts pages.old) (P.counts pages.new) (P.frame pages.old) (P.frame pages.new) (P.goes_on pages.old pages.new) }
+    ensures stays { Stays (P.told pages.old) (P.told pages.new) (P.size pages.old) (P.size pages.new) (P.counts pages.old) (P.counts pages.new) (P.frame pages.old) (P.frame pages.new) (P.goes_on pages.old pages.new) (P.is_read pages.old pages.new) }
 {
     let mut at = first;
     let mut left = pages.length() / 1024;

@@ -76,7 +76,7 @@ fn read_fragment<P: Pages, L: Ledger>(
     ensures sure { (b : List ℕ) → P.told pages.old ≡ Some b → OnOk result (IsFragment (page_in b at.0) at.1) }
     ensures just_read { IfErr result (IsJustRead (P.size pages.new) (P.last pages.new)) }
     ensures steps { steps.new ≤ steps.old + 1 }
-    ensures stays { Stays (P.told pages.old) (P.told pages.new) (P.size pages.old) (P.size pages.new) (P.counts pages.old) (P.counts pages.new) (P.frame pages.old) (P.frame pages.new) (P.goes_on pages.old pages.new) }
+    ensures stays { Stays (P.told pages.old) (P.told pages.new) (P.size pages.old) (P.size pages.new) (P.counts pages.old) (P.counts pages.new) (P.frame pages.old) (P.frame pages.new) (P.goes_on pages.old pages.new) (P.is_read pages.old pages.new) }
 {
     let mut page = [0u8; PAGE];
     match pages.get(at.0, &mut page, steps) {
@@ -110,7 +110,7 @@ fn read_chain<P: Pages, L: Ledger>(
     ensures refused { IfErr result (IsCut kind (P.told pages.new) (P.is_cause pages.old pages.new)) }
     ensures sure { (b : List ℕ) → P.told pages.old ≡ Some b → OnOk result (((n : ℕ) × EndsAfter b n first) × AreDuplicates b (chain_of b first)) }
     ensures just_read { IfErr result (IsJustRead (P.size pages.new) (P.last pages.new)) }
-    ensures stays { Stays (P.told pages.old) (P.told pages.new) (P.size pages.old) (P.size pages.new) (P.counts pages.old) (P.counts pages.new) (P.frame pages.old) (P.frame pages.new) (P.goes_on pages.old pages.new) }
+    ensures stays { Stays (P.told pages.old) (P.told pages.new) (P.size pages.old) (P.size pages.new) (P.counts pages.old) (P.counts pages.new) (P.frame pages.old) (P.frame pages.new) (P.goes_on pages.old pages.new) (P.is_read pages.old pages.new) }
 {
     let mut items = Vec::new(alloc);
     match add_chain(pages, kind, first, &mut items, steps) {
@@ -137,7 +137,7 @@ pub fn numbers_of<P: Pages, L: Ledger>(
     ensures refused { IfSome (P.told pages.old) (λ b. IsValueOf kind b leaf value) → IfErr result (IsCut kind (P.told pages.new) (P.is_cause pages.old pages.new)) }
     ensures sure { (b : List ℕ) → P.told pages.old ≡ Some b → IfOk result (λ n. IsReadable b (link_in value) × (n ≡ values_in b value)) }
     ensures just_read { (P.last pages.old ≡ leaf) ⊎ IsNamed (P.size pages.old) (link_in value) → IfErr result (IsJustRead (P.size pages.new) (P.last pages.new)) }
-    ensures stays { Stays (P.told pages.old) (P.told pages.new) (P.size pages.old) (P.size pages.new) (P.counts pages.old) (P.counts pages.new) (P.frame pages.old) (P.frame pages.new) (P.goes_on pages.old pages.new) }
+    ensures stays { Stays (P.told pages.old) (P.told pages.new) (P.size pages.old) (P.size pages.new) (P.counts pages.old) (P.counts pages.new) (P.frame pages.old) (P.frame pages.new) (P.goes_on pages.old pages.new) (P.is_read pages.old pages.new) }
 {
     let damaged = TreeFault::Damaged {
         page: leaf,

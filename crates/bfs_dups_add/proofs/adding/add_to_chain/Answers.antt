@@ -6,8 +6,8 @@ use Rattle.bfs_pages.proofs.OfKind.{if_some}
 use Rattle.bfs_values.specs.declared.link.Link.TheVariants.{Chain}
 use Rattle.bfs_values.specs.Links.{link_in}
 use Rattle.bfs_values.specs.Values.{IsDuplicates, page_count, page_numbers, numbers_of_pages, numbers_in, placed, values_in}
-use Rattle.bfs_dups_add.specs.Chained.{IsRoom}
-use Rattle.bfs_dups_add.specs.Stored.{with_number}
+use Rattle.bfs_dups_add.specs.Rooms.{IsRoom}
+use Rattle.bfs_values.specs.Stored.{with_number}
 use Rattle.bfs_dups_add.specs.declared.scan.Room.{Room}
 use Rattle.bfs_dups_add.proofs.Answered.{match-none, match-some, with-new, unchanged, revalued, linked-open, chain-facts, chain-times, linked-numbers, room-there}
 use Rattle.bfs_dups_add.proofs.Causes.{pages-scant}

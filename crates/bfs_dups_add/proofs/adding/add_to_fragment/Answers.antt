@@ -7,7 +7,7 @@ use Rattle.bfs_values.specs.declared.link.Link.TheVariants.{Fragment}
 use Rattle.bfs_values.specs.Links.{link_in}
 use Rattle.bfs_values.specs.Values.{IsFragment, fragment_count, fragment_numbers, numbers_from, is_ascending, numbers_in, placed, values_in}
 use Rattle.bfs_dups_add.specs.Slots.{SameBut}
-use Rattle.bfs_dups_add.specs.Stored.{with_number}
+use Rattle.bfs_values.specs.Stored.{with_number}
 use Rattle.bfs_dups_add.specs.Written.{IsFilled, IsLast}
 use Rattle.bfs_dups_add.proofs.Answered.{with-new, unchanged, revalued, linked-open, fragment-cut, eighth, vacated-whole}
 use Rattle.bfs_dups_add.proofs.Composed.{told-whole}

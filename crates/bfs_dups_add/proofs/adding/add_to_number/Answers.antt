@@ -8,9 +8,9 @@ use Rattle.bfs_remove.proofs.Giving.{told-size}
 use Rattle.bfs_values.specs.declared.link.Link.TheVariants.{Number, Fragment}
 use Rattle.bfs_values.specs.Links.{link_in}
 use Rattle.bfs_values.specs.Values.{fragment_count, numbers_in, values_in}
-use Rattle.bfs_dups_add.specs.Named.{IsNamedIn, IsCrowded}
+use Rattle.bfs_values.specs.Named.{IsNamedIn, IsCrowded}
 use Rattle.bfs_dups_add.specs.Slots.{SameBut}
-use Rattle.bfs_dups_add.specs.Stored.{with_number}
+use Rattle.bfs_values.specs.Stored.{with_number}
 use Rattle.bfs_dups_add.specs.Written.{IsFilled}
 use Rattle.bfs_dups_add.specs.declared.vacant.Slot.{Slot}
 use Rattle.bfs_dups_add.proofs.Answered.{with-new, unchanged, revalued, linked-open, named-other, pair-new}

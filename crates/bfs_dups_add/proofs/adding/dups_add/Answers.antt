@@ -7,7 +7,7 @@ use Rattle.bfs_values.specs.Kinds.{IsValueOf}
 use Rattle.bfs_values.specs.declared.link.Link.TheVariants.{Fragment, Chain, Nothing}
 use Rattle.bfs_values.specs.Links.{link_in}
 use Rattle.bfs_values.specs.Values.{values_in}
-use Rattle.bfs_dups_add.specs.Stored.{Stored, IsRevalued, with_number}
+use Rattle.bfs_values.specs.Stored.{Stored, IsRevalued, with_number}
 use Rattle.bfs_dups_add.proofs.Answered.{linked-open, leaf-cut}
 use Rattle.bfs_dups_add.proofs.Crowding.{same-number}
 use Rattle.bfs_dups_add.proofs.adding.dups_add.Goals as goal

@@ -4,7 +4,7 @@ use Rattle.bfs_pages.specs.Answers.{IsChild}
 use Rattle.bfs_pages.specs.Trees.{page_in}
 use Rattle.bfs_pages.specs.Writes.{Kept}
 use Rattle.bfs_values.specs.Values.{IsDuplicates, page_count, page_numbers, AreDuplicates, EndsAfter}
-use Rattle.bfs_dups_add.specs.Chained.{Chained}
+use Rattle.bfs_values.specs.Chained.{Chained}
 use Rattle.bfs_dups_add.proofs.Scanning.{IsScanned}
 use Rattle.bfs_dups_add.proofs.scan.scan_chain.Given as goal
 

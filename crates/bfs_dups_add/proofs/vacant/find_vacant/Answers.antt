@@ -11,7 +11,7 @@ use Rattle.bfs_remove.proofs.Giving.{told-size}
 use Rattle.bfs_values.proofs.Lasting.{none-cut}
 use Rattle.bfs_values.specs.Links.{link_in}
 use Rattle.bfs_values.specs.declared.link.Link.TheVariants.{Fragment}
-use Rattle.bfs_dups_add.specs.Named.{IsNamedIn}
+use Rattle.bfs_values.specs.Named.{IsNamedIn}
 use Rattle.bfs_dups_add.specs.declared.vacant.Slot.{Slot}
 use Rattle.bfs_dups_add.proofs.Composed.{leaf-child}
 use Rattle.bfs_dups_add.proofs.Crowding.{NamesFull, full-more, full-all}

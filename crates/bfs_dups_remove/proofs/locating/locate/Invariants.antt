@@ -2,7 +2,7 @@ use Rattle.std.proofs.Common.{◌≡◌, ◌≤◌, ◌<◌, ℕ, List, Some, le
 use Rattle.bfs_pages.specs.Answers.{IsChild, IsLink}
 use Rattle.bfs_pages.specs.Writes.{Kept}
 use Rattle.bfs_values.specs.Values.{AreDuplicates, EndsAfter}
-use Rattle.bfs_dups_add.specs.Chained.{Chained}
+use Rattle.bfs_values.specs.Chained.{Chained}
 use Rattle.bfs_dups_remove.proofs.Walking.{IsWalked}
 use Rattle.bfs_dups_remove.proofs.locating.locate.Given as goal
 

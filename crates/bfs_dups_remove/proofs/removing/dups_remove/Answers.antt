@@ -8,9 +8,9 @@ use Rattle.bfs_values.specs.Kinds.{IsValueOf}
 use Rattle.bfs_values.specs.declared.link.Link.TheVariants.{Number, Fragment, Chain, Nothing}
 use Rattle.bfs_values.specs.Links.{link_in}
 use Rattle.bfs_values.specs.Values.{numbers_in, values_in}
-use Rattle.bfs_dups_add.specs.Formed.{IsFormed}
-use Rattle.bfs_dups_add.specs.Named.{IsNamedIn, IsCrowded}
-use Rattle.bfs_dups_add.specs.Stored.{Stored}
+use Rattle.bfs_values.specs.Formed.{IsFormed}
+use Rattle.bfs_values.specs.Named.{IsNamedIn, IsCrowded}
+use Rattle.bfs_values.specs.Stored.{Stored}
 use Rattle.bfs_dups_add.proofs.Answered.{linked-open, leaf-cut, pair-new}
 use Rattle.bfs_dups_add.proofs.Composed.{told-whole, link-small, page-of}
 use Rattle.bfs_dups_remove.specs.Lessened.{without_number, IsLessened}

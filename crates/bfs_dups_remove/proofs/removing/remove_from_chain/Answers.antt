@@ -8,8 +8,8 @@ use Rattle.bfs_values.proofs.Lasting.{cut-before}
 use Rattle.bfs_values.specs.declared.link.Link.TheVariants.{Chain}
 use Rattle.bfs_values.specs.Links.{link_in}
 use Rattle.bfs_values.specs.Values.{IsDuplicates, page_count, page_numbers, numbers_of_pages, HasValues, values_in}
-use Rattle.bfs_dups_add.specs.Formed.{IsFormed}
-use Rattle.bfs_dups_add.specs.Stored.{Stored, IsRevalued}
+use Rattle.bfs_values.specs.Formed.{IsFormed}
+use Rattle.bfs_values.specs.Stored.{Stored, IsRevalued}
 use Rattle.bfs_dups_add.proofs.Answered.{match-none, match-some, linked-numbers, chain-facts, chain-times}
 use Rattle.bfs_dups_add.proofs.Composed.{told-whole}
 use Rattle.bfs_dups_remove.specs.Lessened.{without_number, IsLessened}

@@ -6,7 +6,7 @@ use Rattle.bfs_values.specs.Kinds.{IsValueOf}
 use Rattle.bfs_values.specs.declared.link.Link.TheVariants.{Fragment}
 use Rattle.bfs_values.specs.Links.{link_in}
 use Rattle.bfs_values.specs.Values.{IsFragment, fragment_count, fragment_numbers, numbers_from, is_ascending, numbers_in, values_in}
-use Rattle.bfs_dups_add.specs.Formed.{AreFew}
+use Rattle.bfs_values.specs.Formed.{AreFew}
 use Rattle.bfs_dups_add.specs.Slots.{SameBut}
 use Rattle.bfs_dups_add.specs.Written.{IsFilled}
 use Rattle.bfs_dups_add.proofs.Answered.{linked-open, fragment-cut, vacated-whole}

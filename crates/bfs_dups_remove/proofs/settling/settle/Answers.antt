@@ -4,9 +4,9 @@ use Rattle.bfs_pages.proofs.OfKind.{if_some}
 use Rattle.bfs_values.specs.declared.link.Link.TheVariants.{Chain}
 use Rattle.bfs_values.specs.Links.{link_in}
 use Rattle.bfs_values.specs.Values.{page_count, page_numbers, next_of, values_in}
-use Rattle.bfs_dups_add.specs.Formed.{IsFormed}
-use Rattle.bfs_dups_add.specs.Named.{IsNamedIn, IsCrowded}
-use Rattle.bfs_dups_add.specs.Stored.{IsRevalued}
+use Rattle.bfs_values.specs.Formed.{IsFormed}
+use Rattle.bfs_values.specs.Named.{IsNamedIn, IsCrowded}
+use Rattle.bfs_values.specs.Stored.{IsRevalued}
 use Rattle.bfs_dups_add.proofs.Answered.{linked-numbers}
 use Rattle.bfs_dups_add.proofs.Composed.{told-whole, page-of}
 use Rattle.bfs_dups_remove.proofs.Folded.{the-first, unchanged-row}

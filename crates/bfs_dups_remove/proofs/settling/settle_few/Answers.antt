@@ -4,8 +4,8 @@ use Rattle.bfs_pages.specs.Trees.{page_in}
 use Rattle.bfs_pages.proofs.OfKind.{if_some}
 use Rattle.bfs_values.specs.Links.{link_in}
 use Rattle.bfs_values.specs.Values.{fragment_count, page_numbers, values_in}
-use Rattle.bfs_dups_add.specs.Named.{IsNamedIn, IsCrowded}
-use Rattle.bfs_dups_add.specs.Stored.{IsRevalued}
+use Rattle.bfs_values.specs.Named.{IsNamedIn, IsCrowded}
+use Rattle.bfs_values.specs.Stored.{IsRevalued}
 use Rattle.bfs_dups_add.specs.Written.{IsLone}
 use Rattle.bfs_dups_add.specs.declared.vacant.Slot.{Slot}
 use Rattle.bfs_dups_add.proofs.Composed.{told-whole}

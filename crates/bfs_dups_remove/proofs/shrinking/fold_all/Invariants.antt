@@ -7,7 +7,7 @@ use Rattle.bfs_pages.specs.Writes.{Kept}
 use Rattle.bfs_values.specs.Links.{link_in}
 use Rattle.bfs_values.specs.Values.{page_count, values_in}
 use Rattle.bfs_values.specs.declared.link.Link.TheVariants.{Chain}
-use Rattle.bfs_dups_add.specs.Stored.{Stored, IsRevalued}
+use Rattle.bfs_values.specs.Stored.{Stored, IsRevalued}
 use Rattle.bfs_dups_remove.proofs.shrinking.fold_all.Given as goal
 
 abbrev pub invariant-loop-left : goal.invariant-loop-left

@@ -1,7 +1,7 @@
 use Rattle.std.proofs.Common.{◌≡◌, ◌++◌, ◌∷◌, ℤ, ap, sym, ◌∙◌, subst, rules, w64, to_z, of_z}
 use Rattle.bfs_values.specs.Links.{link_in}
 use Rattle.bfs_values.specs.Values.{values_in}
-use Rattle.bfs_dups_add.specs.Stored.{Stored}
+use Rattle.bfs_values.specs.Stored.{Stored}
 use Rattle.bfs_dups_remove.specs.Lessened.{without_number, IsLessened}
 use Rattle.bfs_dups_remove.proofs.unlinking.lessen.Goals as goal
 

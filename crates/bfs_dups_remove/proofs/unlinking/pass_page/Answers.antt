@@ -5,7 +5,7 @@ use Rattle.bfs_pages.proofs.Splice.{times-append}
 use Rattle.bfs_values.specs.Values.{page_numbers, chain_of, numbers_of_pages, in_order}
 use Rattle.bfs_dups_add.proofs.Composed.{told-whole}
 use Rattle.bfs_dups_add.proofs.Answered.{linked-open}
-use Rattle.bfs_dups_add.proofs.Opened.{own_pages, pages_of}
+use Rattle.bfs_values.proofs.Opened.{own_pages, pages_of}
 use Rattle.bfs_values.specs.declared.link.Link.TheVariants.{Chain}
 use Rattle.bfs_dups_remove.proofs.Passed.{here-in}
 use Rattle.bfs_dups_remove.proofs.Lesser.{passed-row, passed-whole, passed-next, mended-row, revalued-twice}
@@ -49,3 +49,11 @@ returns-in-Ok-mend_left-clause-written g c b t front back key value first us xs 
     let y = c.in-Ok-mend_left.ensures.mended x.0 x.1 i.1 in
     told-some (λ (d : List ℕ). page_numbers (page_in d c.args.at) ≡ page_numbers c.args.page.now) (g.P.Pages.told c.mend_left.new.pages) y.0 y.1
     (mended-page x.0 y.0 c.args.gone.next c.args.at y.2 ∙ passed-page c.args.kind b x.0 t front key back value first c.args.at c.args.gone.at us xs (page_numbers c.args.page.now) s link is x.2)
+
+pub returns-then-gone-eq0-clause-left : goal.returns-then-gone-eq0-clause-left
+returns-then-gone-eq0-clause-left g c b e good r some small = absurd (omega (arith, some, c.if-gone-eq0.true))
+
+pub returns-in-Ok-mend_left-clause-left : goal.returns-in-Ok-mend_left-clause-left
+returns-in-Ok-mend_left-clause-left g c b e good r some small =
+    let x = c.in-Ok.ensures.passed b e good r in
+    c.in-Ok-mend_left.ensures.left x.0 x.1 c.requires.at.0 small

@@ -4,7 +4,7 @@ use Rattle.bfs_node.specs.declared.fault.PageKind.TheVariants.{Header as HeaderK
 use Rattle.bfs_pages.specs.Answers.{IsChild, IsInteriorPage, IsLeafPage}
 use Rattle.bfs_pages.specs.Shapes.{place, leaf_shape}
 use Rattle.bfs_pages.specs.Trees.{header_in, page_in, place_of, state_of, children_in}
-use Rattle.bfs_pages.specs.Ways.{under, pick_of, KeysAscend}
+use Rattle.bfs_pages.specs.Ways.{under, pick_of, KeysRise}
 use Rattle.bfs_pages.proofs.Faulted.{of-pages, unread-before, tree-header}
 use Rattle.bfs_pages.proofs.Later.{later-twice}
 use Rattle.bfs_pages.proofs.OfKind.{if_some, inner-page, leaf-page}
@@ -27,6 +27,7 @@ loop-left-init g c =
       counts = c.in-Ok.ensures.counts;
       frame = c.in-Ok.ensures.frame;
       goes_on = c.in-Ok.ensures.goes_on;
+      is_read = c.in-Ok.ensures.is_read;
       steps = λ b e.
           let h : c.in-Ok.header.levels ≡ (header_in b).levels = ap (λ z. z.levels) (if_some (λ b. c.in-Ok.header ≡ header_in b) (g.P.Pages.told c.args.pages.now) b c.in-Ok.ensures.header e) in
           omega (arith, h, c.in-Ok.ensures.steps);
@@ -69,6 +70,10 @@ pub returns-in-Err-read_interior-clause-goes_on : goal.returns-in-Err-read_inter
 returns-in-Err-read_interior-clause-goes_on g c =
     g.met.P.Pages.goes_on_twice c.args.pages.now c.loop-left.pages c.read_interior.new.pages c.loop-left.invariant.goes_on c.in-Err-read_interior.ensures.goes_on
 
+pub returns-in-Err-read_interior-clause-is_read : goal.returns-in-Err-read_interior-clause-is_read
+returns-in-Err-read_interior-clause-is_read g c =
+    g.met.P.Pages.is_read_twice c.args.pages.now c.loop-left.pages c.read_interior.new.pages c.loop-left.invariant.is_read c.in-Err-read_interior.ensures.is_read
+
 pub loop-left-preserved : goal.loop-left-preserved
 loop-left-preserved g c = record {
   page = c.in-Ok-read_interior.ensures.length;
@@ -79,13 +84,14 @@ loop-left-preserved g c = record {
   counts = later-twice c.loop-left.invariant.counts c.in-Ok-read_interior.ensures.counts;
   frame = c.in-Ok-read_interior.ensures.frame ∙ c.loop-left.invariant.frame;
   goes_on = g.met.P.Pages.goes_on_twice c.args.pages.now c.loop-left.pages c.read_interior.new.pages c.loop-left.invariant.goes_on c.in-Ok-read_interior.ensures.goes_on;
+  is_read = g.met.P.Pages.is_read_twice c.args.pages.now c.loop-left.pages c.read_interior.new.pages c.loop-left.invariant.is_read c.in-Ok-read_interior.ensures.is_read;
   steps = λ b e. omega (arith, c.in-Ok-read_interior.ensures.steps, c.loop-left.invariant.steps b e, c.loop-left-test.true);
   way = λ b reached t fs e tree.
       let w = c.loop-left.invariant.way b reached t fs e tree in
       let r : c.read_interior.new.page ≡ page_in b c.loop-left.at =
       if_some (λ b. c.read_interior.new.page ≡ page_in b c.loop-left.at) (g.P.Pages.told c.loop-left.pages) b c.in-Ok-read_interior.ensures.read (c.loop-left.invariant.told ∙ e) in
       let p = inner-page c.args.kind b reached t fs w.0 c.args.key.now c.loop-left.at tree.holds (omega (arith, w.1, c.loop-left-test.true)) w.2 in
-      let up : KeysAscend c.args.kind (rows_of c.read_interior.new.page) = subst (λ (z : List ℕ). KeysAscend c.args.kind (rows_of z)) (sym r) p.1 in
+      let up : KeysRise c.args.kind (rows_of c.read_interior.new.page) = subst (λ (z : List ℕ). KeysRise c.args.kind (rows_of z)) (sym r) p.1 in
       let next : suc w.0 ≡ w.0 + 1 = omega (arith) in (
         w.0 + 1,
         omega (arith, w.1, c.loop-left-test.true),
@@ -125,6 +131,10 @@ pub returns-in-Ok-read_leaf-clause-goes_on : goal.returns-in-Ok-read_leaf-clause
 returns-in-Ok-read_leaf-clause-goes_on g c =
     g.met.P.Pages.goes_on_twice c.args.pages.now c.loop-left.pages c.read_leaf.new.pages c.loop-left.invariant.goes_on c.in-Ok-read_leaf.ensures.goes_on
 
+pub returns-in-Ok-read_leaf-clause-is_read : goal.returns-in-Ok-read_leaf-clause-is_read
+returns-in-Ok-read_leaf-clause-is_read g c =
+    g.met.P.Pages.is_read_twice c.args.pages.now c.loop-left.pages c.read_leaf.new.pages c.loop-left.invariant.is_read c.in-Ok-read_leaf.ensures.is_read
+
 pub returns-in-Err-read_leaf-clause-leaf : goal.returns-in-Err-read_leaf-clause-leaf
 returns-in-Err-read_leaf-clause-leaf g c b reached t fs e tree =
     let w = c.loop-left.invariant.way b reached t fs e tree in
@@ -155,6 +165,10 @@ returns-in-Err-read_leaf-clause-counts g c = later-twice c.loop-left.invariant.c
 pub returns-in-Err-read_leaf-clause-goes_on : goal.returns-in-Err-read_leaf-clause-goes_on
 returns-in-Err-read_leaf-clause-goes_on g c =
     g.met.P.Pages.goes_on_twice c.args.pages.now c.loop-left.pages c.read_leaf.new.pages c.loop-left.invariant.goes_on c.in-Err-read_leaf.ensures.goes_on
+
+pub returns-in-Err-read_leaf-clause-is_read : goal.returns-in-Err-read_leaf-clause-is_read
+returns-in-Err-read_leaf-clause-is_read g c =
+    g.met.P.Pages.is_read_twice c.args.pages.now c.loop-left.pages c.read_leaf.new.pages c.loop-left.invariant.is_read c.in-Err-read_leaf.ensures.is_read
 
 pub returns-in-Ok-read_leaf-clause-place : goal.returns-in-Ok-read_leaf-clause-place
 returns-in-Ok-read_leaf-clause-place g c = subst (λ (n : ℕ). IsChild n c.loop-left.at) c.loop-left.invariant.size c.loop-left.invariant.at

@@ -16,6 +16,7 @@ invariant-loop-left g l = record {
   counts : AreLater (g.P.Pages.counts l.fn.pages) (g.P.Pages.counts l.pages);
   frame : g.P.Pages.frame l.pages ≡ g.P.Pages.frame l.fn.pages;
   goes_on : g.P.Pages.goes_on l.fn.pages l.pages;
+  is_read : g.P.Pages.is_read l.fn.pages l.pages;
   steps : (b : List ℕ) → g.P.Pages.told l.fn.pages ≡ Some b → l.steps + l.left ≤ l.fn.steps + (header_in b).levels + 1;
   way : (b reached : List ℕ) (t : Shape) (fs : List ℕ) → g.P.Pages.told l.fn.pages ≡ Some b → IsTree l.kind b reached t fs
       → (d : ℕ) × (d + l.left ≡ (header_in b).levels) × (place (under l.kind d t l.key) ≡ l.at);

@@ -6,7 +6,8 @@ use Rattle.bfs_pages.specs.Shapes.{tree_rows}
 use Rattle.bfs_pages.specs.Trees.{header_in, state_of}
 use Rattle.bfs_range.specs.Answers.{answer_of}
 use Rattle.bfs_range.specs.Leaves.{leaf_list, first_leaf, right_of, leaves_upto}
-use Rattle.bfs_range.specs.Meant.{AllMean, pages_of}
+use Rattle.bfs_values.specs.Reached.{AllMean}
+use Rattle.bfs_range.specs.Meant.{pages_of}
 use Rattle.bfs_range.specs.Ranges.{rows_between}
 use Rattle.bfs_range.proofs.Least.{between-least, first-least}
 use Rattle.bfs_range.proofs.ranging.range.Goals as goal

@@ -26,7 +26,7 @@ returns-in-Err-clause-ranged g c b reached t fs e tree a = pages-lacking c.in-Er
 
 pub loop-left-init : goal.loop-left-init
 loop-left-init g c = record {
-  stays = record { told_is = c.in-Ok.ensures.told; size_is = c.in-Ok.ensures.size; counts = c.in-Ok.ensures.counts; frame_is = c.in-Ok.ensures.frame; goes_on = c.in-Ok.ensures.goes_on };
+  stays = record { told_is = c.in-Ok.ensures.told; size_is = c.in-Ok.ensures.size; counts = c.in-Ok.ensures.counts; frame_is = c.in-Ok.ensures.frame; goes_on = c.in-Ok.ensures.goes_on; is_read = c.in-Ok.ensures.is_read };
   page = c.in-Ok.ensures.page;
   at = c.in-Ok.ensures.place;
   last = c.in-Ok.ensures.last;
@@ -177,7 +177,7 @@ pub loop-left-preserved : goal.loop-left-preserved
 loop-left-preserved g c =
     let signed : to_z w64 (of_z w64 c.right_link.result) ≡ c.right_link.result = search rules in
     let link : c.place-next.result ≡ (neighbours_in c.loop-left.page).1 = c.place-next.ensures ∙ ap place_of (signed ∙ c.right_link.ensures) in
-    let both = stays-twice c.loop-left.invariant.stays c.in-Ok-false.ensures.stays (g.met.P.Pages.goes_on_twice c.args.pages.now c.loop-left.pages c.take_leaf.new.pages) in
+    let both = stays-twice c.loop-left.invariant.stays c.in-Ok-false.ensures.stays (g.met.P.Pages.goes_on_twice c.args.pages.now c.loop-left.pages c.take_leaf.new.pages) (g.met.P.Pages.is_read_twice c.args.pages.now c.loop-left.pages c.take_leaf.new.pages) in
     let child : IsChild (g.P.Pages.size c.args.pages.now) c.place-next.result =
     subst (λ z. IsChild (g.P.Pages.size c.args.pages.now) z) (sym link) (the_child (g.P.Pages.size c.args.pages.now) (neighbours_in c.loop-left.page).1 c.loop-left.invariant.fields.right (λ z. c.if-next-eq0.false (link ∙ z))) in
     let told : g.P.Pages.told c.take_leaf.new.pages ≡ g.P.Pages.told c.args.pages.now = both.told_is in
@@ -191,7 +191,8 @@ loop-left-preserved g c =
         counts = c.in-Ok-read_leaf.ensures.counts;
         frame_is = c.in-Ok-read_leaf.ensures.frame;
         goes_on = c.in-Ok-read_leaf.ensures.goes_on;
-      }) (g.met.P.Pages.goes_on_twice c.args.pages.now c.take_leaf.new.pages c.read_leaf.new.pages);
+        is_read = c.in-Ok-read_leaf.ensures.is_read;
+      }) (g.met.P.Pages.goes_on_twice c.args.pages.now c.take_leaf.new.pages c.read_leaf.new.pages) (g.met.P.Pages.is_read_twice c.args.pages.now c.take_leaf.new.pages c.read_leaf.new.pages);
       page = c.in-Ok-read_leaf.ensures.page;
       at = child;
       last = c.in-Ok-read_leaf.ensures.last;

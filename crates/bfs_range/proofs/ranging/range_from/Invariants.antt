@@ -8,7 +8,8 @@ use Rattle.bfs_range.specs.Answers.{answer_of, AreAnswers}
 use Rattle.bfs_values.specs.Kinds.{Stays}
 use Rattle.bfs_values.specs.Values.{EndsAfter}
 use Rattle.bfs_range.specs.Leaves.{LeafAt, leaf_list, first_leaf, right_of, leaves_upto}
-use Rattle.bfs_range.specs.Meant.{AllMean, pages_of}
+use Rattle.bfs_values.specs.Reached.{AllMean}
+use Rattle.bfs_range.specs.Meant.{pages_of}
 use Rattle.bfs_range.specs.Ranges.{rows_between}
 use Rattle.bfs_range.proofs.LeafLists.{flat}
 use Rattle.bfs_range.proofs.Walk.{leaves_left}
@@ -21,7 +22,7 @@ invariant-loop-left g l =
     let high = option_copied l.fn.ends.1 in
     record {
       stays : Stays (told l.fn.pages) (told l.pages) (g.P.Pages.size l.fn.pages) (g.P.Pages.size l.pages) (g.P.Pages.counts l.fn.pages) (g.P.Pages.counts l.pages)
-          (g.P.Pages.frame l.fn.pages) (g.P.Pages.frame l.pages) (g.P.Pages.goes_on l.fn.pages l.pages);
+          (g.P.Pages.frame l.fn.pages) (g.P.Pages.frame l.pages) (g.P.Pages.goes_on l.fn.pages l.pages) (g.P.Pages.is_read l.fn.pages l.pages);
       page : IsPage l.kind l.page;
       at : IsChild (g.P.Pages.size l.fn.pages) l.at;
       fields : IsLeafPage l.kind (g.P.Pages.size l.fn.pages) l.page;

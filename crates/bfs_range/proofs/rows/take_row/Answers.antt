@@ -1,4 +1,4 @@
-use Rattle.std.proofs.Common.{◌≡◌, ap, sym, ◌∙◌, refl, rules, w64, to_z, of_z}
+use Rattle.std.proofs.Common.{◌≡◌, ◌∙◌, rules, w64, to_z, of_z}
 use Rattle.bfs_range.proofs.Answering.{answer-here}
 use Rattle.bfs_range.proofs.rows.take_row.Goals as goal
 

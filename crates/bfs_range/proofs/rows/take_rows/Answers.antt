@@ -27,7 +27,7 @@ loop-i-preserved g c =
     let f = rest-first (rows_of c.args.page.now) c.loop-i.i c.args.places.1 (omega (arith, c.loop-i-test.true)) c.requires.inside in
     record {
       from = omega (arith, c.loop-i.invariant.from);
-      stays = stays-twice c.loop-i.invariant.stays c.in-Ok.ensures.stays (g.met.P.Pages.goes_on_twice c.args.pages.now c.loop-i.pages c.take_row.new.pages);
+      stays = stays-twice c.loop-i.invariant.stays c.in-Ok.ensures.stays (g.met.P.Pages.goes_on_twice c.args.pages.now c.loop-i.pages c.take_row.new.pages) (g.met.P.Pages.is_read_twice c.args.pages.now c.loop-i.pages c.take_row.new.pages);
       sure = λ b e read a.
           let more = c.in-Ok.ensures.sure b (c.loop-i.invariant.stays.told_is ∙ e) read in
           subst (λ (z : List RangedRow). AreAnswers c.args.kind b z) (sym more.1) (answers-more c.args.kind b c.loop-i.rows.items more.0 (c.loop-i.invariant.sure b e read a) more.2);

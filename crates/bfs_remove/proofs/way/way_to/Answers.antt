@@ -5,7 +5,7 @@ use Rattle.bfs_node.specs.declared.fault.PageKind.TheVariants.{Header as HeaderK
 use Rattle.bfs_pages.specs.Answers.{IsChild, IsInteriorPage}
 use Rattle.bfs_pages.specs.Shapes.{place, leaf_shape}
 use Rattle.bfs_pages.specs.Trees.{header_in, page_in, place_of, state_of, children_in}
-use Rattle.bfs_pages.specs.Ways.{under, pick_of, KeysAscend}
+use Rattle.bfs_pages.specs.Ways.{under, pick_of, KeysRise}
 use Rattle.bfs_pages.proofs.Faulted.{of-pages, tree-header}
 use Rattle.bfs_pages.proofs.Later.{later-twice}
 use Rattle.bfs_pages.proofs.OfKind.{if_some, inner-page, leaf-page}
@@ -69,7 +69,7 @@ loop-left-preserved g c = record {
       if_some (λ b. c.read_interior.new.page ≡ page_in b c.loop-left.at) (g.P.Pages.told c.loop-left.pages) b c.in-Ok-read_interior.ensures.read (c.loop-left.invariant.told ∙ e) in
       let l : suc w.0 ≤ (state_of c.args.kind b).levels = omega (arith, w.1, c.loop-left-test.true) in
       let p = inner-page c.args.kind b reached t fs w.0 c.args.key.now c.loop-left.at tree.holds l w.2 in
-      let up : KeysAscend c.args.kind (rows_of c.read_interior.new.page) = subst (λ (z : List ℕ). KeysAscend c.args.kind (rows_of z)) (sym r) p.1 in
+      let up : KeysRise c.args.kind (rows_of c.read_interior.new.page) = subst (λ (z : List ℕ). KeysRise c.args.kind (rows_of z)) (sym r) p.1 in
       let next : place (under c.args.kind (suc w.0) t c.args.key.now) ≡ c.child_for-child.result =
       p.2 c.child_for-child.result (subst (λ (z : List ℕ). pick_of c.args.kind (children_in (rows_of z)) (place_of (links_of z).overflow) c.args.key.now ≡ c.child_for-child.result) r (c.child_for-child.ensures.way up)) in (
         suc w.0,

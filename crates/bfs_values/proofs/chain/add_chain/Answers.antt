@@ -10,7 +10,7 @@ use Rattle.bfs_values.proofs.chain.add_chain.Goals as goal
 
 pub loop-next-init : goal.loop-next-init
 loop-next-init g c = record {
-  stays = stays-none (g.met.P.Pages.goes_on_same c.args.pages.now);
+  stays = stays-none (g.met.P.Pages.goes_on_same c.args.pages.now) (g.met.P.Pages.is_read_same c.args.pages.now);
   some = first-page (g.P.Pages.size c.args.pages.now) c.args.first c.length-left.result c.length-left.ensures (g.met.P.Pages.whole c.args.pages.now) c.requires.at;
   at = c.requires.at;
   sure = λ b e.
@@ -79,7 +79,7 @@ returns-then-left-eq1-clause-refused g c =
 
 pub loop-next-preserved : goal.loop-next-preserved
 loop-next-preserved g c = record {
-  stays = stays-twice c.loop-next.invariant.stays c.in-Ok.ensures.stays (g.met.P.Pages.goes_on_twice c.args.pages.now c.loop-next.pages c.add_page.new.pages);
+  stays = stays-twice c.loop-next.invariant.stays c.in-Ok.ensures.stays (g.met.P.Pages.goes_on_twice c.args.pages.now c.loop-next.pages c.add_page.new.pages) (g.met.P.Pages.is_read_twice c.args.pages.now c.loop-next.pages c.add_page.new.pages);
   some = omega (arith, c.loop-next.invariant.some, c.if-left-eq1.false);
   at = the-child (g.P.Pages.size c.args.pages.now) c.in-Ok.next (subst (λ (n : ℕ). IsLink n c.in-Ok.next) c.loop-next.invariant.stays.size_is c.in-Ok.ensures.next) c.if-next-eq0.false;
   sure = λ b e.

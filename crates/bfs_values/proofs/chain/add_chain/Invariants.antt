@@ -9,7 +9,7 @@ invariant-loop-next g l =
     let told = g.P.Pages.told in
     record {
       stays : Stays (told l.fn.pages) (told l.pages) (g.P.Pages.size l.fn.pages) (g.P.Pages.size l.pages) (g.P.Pages.counts l.fn.pages) (g.P.Pages.counts l.pages)
-          (g.P.Pages.frame l.fn.pages) (g.P.Pages.frame l.pages) (g.P.Pages.goes_on l.fn.pages l.pages);
+          (g.P.Pages.frame l.fn.pages) (g.P.Pages.frame l.pages) (g.P.Pages.goes_on l.fn.pages l.pages) (g.P.Pages.is_read l.fn.pages l.pages);
       some : 1 ≤ l.left;
       at : IsChild (g.P.Pages.size l.fn.pages) l.at;
       spare : (b : List ℕ) → told l.fn.pages ≡ Some b → (n : ℕ) → EndsAfter b n l.at → n < l.left;

@@ -1,5 +1,0 @@
-use Rattle.bfs_rows.proofs.Rows.{rows_those}
-use Rattle.bfs_rows.proofs.laws.rows_are_those.Goals as goal
-
-pub returns : goal.returns
-returns c = rows_those

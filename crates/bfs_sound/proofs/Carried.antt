@@ -1,5 +1,5 @@
 -- The law across equal metadata.
-use Rattle.std.proofs.Common.{◌≡◌, ◌<◌, ◌≤◌, ◌+◌, ◌-◌, ◌*◌, ◌/◌, ◌%◌, ◌^◌, ◌↔◌, ℕ, ℤ, zero, suc, List, [], ◌∷◌, ◌++◌, Some, refl, sym, ap, ap₂, ◌∙◌, subst, arith, map, length, drop, inl, inr, ◌⊎◌, length-drop, length-take-le}
+use Rattle.std.proofs.Common.{◌≡◌, ◌<◌, ◌≤◌, ◌+◌, ◌-◌, ◌*◌, ◌/◌, ◌%◌, ◌^◌, ◌↔◌, ℕ, ℤ, zero, suc, List, [], ◌∷◌, ◌++◌, Option, Some, None, refl, sym, ap, ap₂, ◌∙◌, subst, arith, map, length, drop, inl, inr, ◌⊎◌, length-drop, length-take-le}
 use Rattle.std.proofs.Math.Nat.{mul-le-mul_right}
 use Rattle.std.proofs.Math.Pow.{pow_mono}
 use Rattle.bfs_base.specs.Images.{block}
@@ -22,21 +22,21 @@ use Rattle.bfs_tree.specs.Listings.{listed}
 use Rattle.bfs_tree.specs.declared.call.Kind.{Kind}
 use Rattle.bfs_tree.specs.declared.call.Kind.TheVariants.{Dir}
 use Rattle.bfs_tree.specs.Trees.{Node, Tree, IsNode}
-use Rattle.bfs_rows.specs.Rows.{rows_in}
-use Rattle.bfs_rows.specs.Reached.{IsWholeTree, AreWritten}
+use Rattle.bfs_values.specs.Rows.{rows_in}
+use Rattle.bfs_values.specs.Reached.{IsWholeTree, AreWritten}
 use Rattle.bfs_sound.specs.Volumes.{Volume, bitmap_blocks, IsMarked}
-use Rattle.bfs_sound.specs.Inodes.{is_short, inode_blocks, proper_rows, id_of}
-use Rattle.bfs_sound.specs.Listings.{IsRow, Lists, IsIndex, IsIndexRow, IsIndexOf, Stands}
-use Rattle.bfs_sound.specs.Owners.{node_blocks, index_blocks, fixed_blocks, reach, IsMetadata}
-use Rattle.bfs_sound.specs.Whole.{HasIndices, IsSound, volume_of, IsVolume, Whole, IsWhole}
-use Rattle.bfs_sound.specs.Laws.{with_blocks, SameMetadata, StaysNode}
-use Rattle.bfs_sound.proofs.Counts.{In, agree_member, in_map}
-use Rattle.bfs_sound.proofs.Streams.{frame_of_whole, block_stays, owner_stays, content_stays, rows_stay, proper_stay}
-use Rattle.bfs_sound.proofs.Rows.{mode_stays, inodes_stay}
-use Rattle.bfs_sound.proofs.Nodes.{node_metadata, own_metadata, node_stays, node_blocks_stay}
+use Rattle.bfs_sound.specs.Inodes.{is_short, inode_blocks, proper_rows, id_of, rows_of, inodes_of, index_directory}
+use Rattle.bfs_sound.specs.Listings.{IsRow, Lists, IsIndex, HasIndexDirectory, index_rows, IsIndexRow, IsIndexOf, Stands}
+use Rattle.bfs_sound.specs.Owners.{node_blocks, index_blocks, fixed_blocks, reach, data_blocks, file_data, IsMetadata, Marks, In}
+use Rattle.bfs_sound.specs.Whole.{HasIndices, HasSoundNodes, IsSound, volume_of, IsVolume, Whole, IsWhole}
+use Rattle.bfs_sound.specs.Laws.{with_blocks, changed, IsCarried, SameMetadata, StaysNode}
+use Rattle.bfs_sound.proofs.Counts.{agree_member, in_map}
+use Rattle.bfs_sound.proofs.Streams.{frame_of_whole, block_stays, owner_stays, content_stays, rows_stay}
+use Rattle.bfs_sound.proofs.Rows.{mode_stays, inodes_stay, rows_of_stay, attribute_inodes_stay}
+use Rattle.bfs_sound.proofs.Nodes.{node_metadata, own_metadata, node_stays, node_blocks_stay, data_blocks_stay}
 use Rattle.bfs_sound.proofs.Parts.{in_rows, bitmap_agrees, index_agrees, node_agrees, metadata_agrees, other_agrees}
 
-has_counted : (k first n : ℕ) → first ≤ k → k < first + n → Has (counted_from first n) k
+pub has_counted : (k first n : ℕ) → first ≤ k → k < first + n → Has (counted_from first n) k
 has_counted k first zero low high = absurd (omega (arith, low, high))
 has_counted k first (suc n) low high = by_place (here_or_later k first low) (λ later. has_counted k (suc first) n later (omega (arith, high)))
   where
@@ -56,23 +56,23 @@ unfolding node_metadata
 whole_of_directory v new id n dir agree =
     subst (λ (k : Kind). Agree v.blocks new (own_metadata v id k (is_short v id))) dir (agree_left v.blocks new (own_metadata v id n.kind (is_short v id)) _ agree)
 
-module _ (v : Volume) (new : ℕ → List ℕ) (tree : Tree) (sound : IsSound v tree) (some : 0 < v.geometry.block_size)
+module _ (v : Volume) (new : ℕ → List ℕ) (used : ℕ) (tree : Tree) (nodes : HasSoundNodes v tree) (some : 0 < v.geometry.block_size)
     (same : (k : ℕ) → IsMetadata v tree k → times k (fixed_blocks v) ≡ 0 → new k ≡ v.blocks k) where
   abbrev w : Volume
-  w = with_blocks v new
+  w = changed v new used
 
   at_node : (id : ℕ) (n : Node) → IsNode tree id n → Agree v.blocks new (node_metadata v (id, n))
-  at_node = node_agrees v tree sound.accounts.once new same
+  at_node = node_agrees v tree nodes.once new same
 
   at_indices : Agree v.blocks new (index_blocks v)
-  at_indices = index_agrees v tree sound.accounts.once new same
+  at_indices = index_agrees v tree nodes.once new same
 
-  at_directory : Agree v.blocks new (inode_blocks v v.geometry.indices)
+  at_inodes : Agree v.blocks new (flat_map (inode_blocks v) (inodes_of v (index_directory v)))
   unfolding index_blocks
-  at_directory = agree_left v.blocks new (inode_blocks v v.geometry.indices) (flat_map (inode_blocks v) (map id_of (proper_rows v v.geometry.indices))) at_indices
+  at_inodes = at_indices
 
-  rows_same : proper_rows w v.geometry.indices ≡ proper_rows v v.geometry.indices
-  rows_same = proper_stay v new v.geometry.indices at_directory
+  rows_same : index_rows w ≡ index_rows v
+  rows_same = rows_of_stay v new used (index_directory v) at_inodes
 
   row_before : (name : List ℕ) (value : ℤ) → IsIndexRow w name value → IsIndexRow v name value
   row_before name value row = subst (λ rows. assoc Text rows name ≡ Some value) rows_same row
@@ -80,23 +80,30 @@ module _ (v : Volume) (new : ℕ → List ℕ) (tree : Tree) (sound : IsSound v 
   row_now : (name : List ℕ) (value : ℤ) → IsIndexRow v name value → IsIndexRow w name value
   row_now name value row = subst (λ rows. assoc Text rows name ≡ Some value) (sym rows_same) row
 
+  at_row : (o : Option ℕ) → Agree v.blocks new (flat_map (inode_blocks v) (inodes_of v o)) → (row : Row) → In row (rows_of v o) → Agree v.blocks new (inode_blocks v (id_of row))
+  at_row None agree row i = absurd i
+  at_row (Some d) agree row i =
+      agree_member v.blocks new (inode_blocks v) (map id_of (proper_rows v d)) (id_of row) (in_map id_of (proper_rows v d) row i)
+      (agree_right v.blocks new (inode_blocks v d) (flat_map (inode_blocks v) (map id_of (proper_rows v d))) agree)
+
   at_index : (name : List ℕ) (value : ℤ) → IsIndexRow v name value → Agree v.blocks new (inode_blocks v (natural value))
-  unfolding index_blocks
   at_index name value row =
-      let found : (row : Row) × In row (proper_rows v v.geometry.indices) × (row.1 ≡ value) = in_rows Text (proper_rows v v.geometry.indices) name value row in
-      subst (λ z. Agree v.blocks new (inode_blocks v (natural z))) found.2
-      (agree_member v.blocks new (inode_blocks v) (map id_of (proper_rows v v.geometry.indices)) (id_of found.0) (in_map id_of (proper_rows v v.geometry.indices) found.0 found.1)
-      (agree_right v.blocks new (inode_blocks v v.geometry.indices) (flat_map (inode_blocks v) (map id_of (proper_rows v v.geometry.indices))) at_indices))
+      let found : (row : Row) × In row (index_rows v) × (row.1 ≡ value) = in_rows Text (index_rows v) name value row in
+      subst (λ z. Agree v.blocks new (inode_blocks v (natural z))) found.2 (at_row (index_directory v) at_inodes found.0 found.1)
 
   index_stays : (id : ℕ) (kind : KeyKind) → Agree v.blocks new (inode_blocks v id) → IsIndex v id kind → IsIndex w id kind
   index_stays id kind agree i =
-      let frame = frame_of_whole v new id agree in
+      let frame = frame_of_whole v new used id agree in
       record {
-        owner = owner_stays v new id frame i.owner;
-        mode = mode_stays v new id 29 (block_stays v new id frame) i.mode;
+        owner = owner_stays v new used id frame i.owner;
+        mode = mode_stays v new used id 29 (block_stays v new used id frame) i.mode;
         kind_is = i.kind_is;
-        tree = subst (IsWholeTree kind) (sym (content_stays v new id agree)) i.tree;
+        tree = subst (IsWholeTree kind) (sym (content_stays v new used id agree)) i.tree;
       }
+
+  directory_stays : (o : Option ℕ) → Agree v.blocks new (flat_map (inode_blocks v) (inodes_of v o)) → HasIndexDirectory v o → HasIndexDirectory w o
+  directory_stays None agree h = tt
+  directory_stays (Some d) agree h = index_stays d Text (agree_left v.blocks new (inode_blocks v d) (flat_map (inode_blocks v) (map id_of (proper_rows v d))) agree) h
 
   index_of_stays : (name : List ℕ) (value : ℤ) → IsIndexRow v name value → IsIndexOf v tree name value → IsIndexOf w tree name value
   index_of_stays name value row i =
@@ -105,47 +112,66 @@ module _ (v : Volume) (new : ℕ → List ℕ) (tree : Tree) (sound : IsSound v 
   listing_stays : (id : ℕ) (n : Node) → IsNode tree id n → n.kind ≡ Dir → Lists w tree id n
   listing_stays id n is dir name value =
       subst (λ rows. (assoc Text rows name ≡ Some value) ↔ IsRow tree id n name value)
-      (sym (rows_stay v new id (whole_of_directory v new id n dir (at_node id n is)) Text)) (sound.stands.listings id n is dir name value)
+      (sym (rows_stay v new used id (whole_of_directory v new id n dir (at_node id n is)) Text)) (nodes.stands.listings id n is dir name value)
 
   stands_stays : Stands w tree
   stands_stays = record {
-    root = sound.stands.root;
-    nodes = λ id n is. node_stays v new id n (at_node id n is) (sound.stands.nodes id n is);
+    root = nodes.stands.root;
+    nodes = λ id n is. node_stays v new used id n (at_node id n is) (nodes.stands.nodes id n is);
     listings = listing_stays;
-    directory = index_stays v.geometry.indices Text at_directory sound.stands.directory;
-    indices = λ name value row. index_of_stays name value (row_before name value row) (sound.stands.indices name value (row_before name value row));
-    no_more = λ name kind there. let r = sound.stands.no_more name kind there in (r.0, row_now name r.0 r.1);
+    directory = directory_stays (index_directory v) at_inodes nodes.stands.directory;
+    none = nodes.stands.none;
+    indices = λ name value row. index_of_stays name value (row_before name value row) (nodes.stands.indices name value (row_before name value row));
+    no_more = λ name kind there. let r = nodes.stands.no_more name kind there in (r.0, row_now name r.0 r.1);
   }
 
-  indices_stay : HasIndices w tree
-  indices_stay name value kind row there =
+  indices_stay : HasIndices v tree → HasIndices w tree
+  indices_stay listed_before name value kind row there =
       let before = row_before name value row in
-      subst (λ bytes. AreWritten bytes (rows_in kind bytes) (listed tree name kind)) (sym (content_stays v new (natural value) (at_index name value before)))
-      (sound.indices name value kind before there)
+      subst (λ bytes. AreWritten bytes (rows_in kind bytes) (listed tree name kind)) (sym (content_stays v new used (natural value) (at_index name value before)))
+      (listed_before name value kind before there)
 
   nodes_same : flat_map (node_blocks w) (entries tree.nodes) ≡ flat_map (node_blocks v) (entries tree.nodes)
-  nodes_same = all_same (entries tree.nodes) (metadata_agrees v tree sound.accounts.once new same)
+  nodes_same = all_same (entries tree.nodes) (metadata_agrees v tree nodes.once new same)
     where
       all_same : (es : List (ℕ × Node)) → Agree v.blocks new (flat_map (node_metadata v) es) → flat_map (node_blocks w) es ≡ flat_map (node_blocks v) es
       all_same [] agree = refl
       all_same (e ∷ es) agree =
-          ap₂ (λ a b. a ++ b) (node_blocks_stay v new e.0 e.1 (agree_left v.blocks new (node_metadata v e) (flat_map (node_metadata v) es) agree))
+          ap₂ (λ a b. a ++ b) (node_blocks_stay v new used e.0 e.1 (agree_left v.blocks new (node_metadata v e) (flat_map (node_metadata v) es) agree))
           (all_same es (agree_right v.blocks new (node_metadata v e) (flat_map (node_metadata v) es) agree))
 
   index_blocks_same : index_blocks w ≡ index_blocks v
   unfolding index_blocks
   index_blocks_same =
-      ap (λ rows. flat_map (inode_blocks w) (v.geometry.indices ∷ map id_of rows)) rows_same
-      ∙ inodes_stay v new (v.geometry.indices ∷ map id_of (proper_rows v v.geometry.indices)) at_indices
+      ap (flat_map (inode_blocks w)) (attribute_inodes_stay v new used (index_directory v) at_inodes) ∙ inodes_stay v new used (inodes_of v (index_directory v)) at_inodes
 
   reach_same : reach w tree ≡ reach v tree
   reach_same = ap₂ (λ a b. fixed_blocks v ++ (bitmap_blocks v.geometry ++ (a ++ b))) nodes_same index_blocks_same
+
+  data_same : (e : ℕ × Node) → Agree v.blocks new (node_metadata v e) → data_blocks w e ≡ data_blocks v e
+  data_same e agree = data_blocks_stay v new used e.0 e.1 agree
+
+  files_same : file_data w tree ≡ file_data v tree
+  files_same = all_same (entries tree.nodes) (metadata_agrees v tree nodes.once new same)
+    where
+      all_same : (es : List (ℕ × Node)) → Agree v.blocks new (flat_map (node_metadata v) es) → flat_map (data_blocks w) es ≡ flat_map (data_blocks v) es
+      all_same [] agree = refl
+      all_same (e ∷ es) agree =
+          ap₂ (λ a b. a ++ b) (data_same e (agree_left v.blocks new (node_metadata v e) (flat_map (node_metadata v) es) agree))
+          (all_same es (agree_right v.blocks new (node_metadata v e) (flat_map (node_metadata v) es) agree))
+
+  -- and the same blocks are metadata
+  metadata_same : (k : ℕ) → IsMetadata w tree k ↔ IsMetadata v tree k
+  metadata_same k = (
+    λ h. (subst (λ l. Has l k) reach_same h.0, subst (λ l. times k l ≡ 0) files_same h.1),
+    λ h. (subst (λ l. Has l k) (sym reach_same) h.0, subst (λ l. times k l ≡ 0) (sym files_same) h.1),
+  )
 
   bits : ℕ
   bits = 8 * v.geometry.block_size
 
   marked_same : (k : ℕ) → k < v.geometry.blocks → marked (8 * v.geometry.block_size) (λ b. Some (new b)) k ≡ marked (8 * v.geometry.block_size) (λ b. Some (v.blocks b)) k
-  marked_same k inside = ap (λ bytes. bit_of bytes (k % (8 * v.geometry.block_size))) (bitmap_agrees v tree sound.accounts.once new same (1 + k / (8 * v.geometry.block_size)) in_bitmap)
+  marked_same k inside = ap (λ bytes. bit_of bytes (k % (8 * v.geometry.block_size))) (bitmap_agrees v tree nodes.once new same (1 + k / (8 * v.geometry.block_size)) in_bitmap)
     where
       below : k / (8 * v.geometry.block_size) < bitmap_length v.geometry.blocks v.geometry.block_size
       below =
@@ -155,24 +181,37 @@ module _ (v : Volume) (new : ℕ → List ℕ) (tree : Tree) (sound : IsSound v 
       in_bitmap : Has (counted_from 1 (bitmap_length v.geometry.blocks v.geometry.block_size)) (1 + k / (8 * v.geometry.block_size))
       in_bitmap = has_counted (1 + k / (8 * v.geometry.block_size)) 1 (bitmap_length v.geometry.blocks v.geometry.block_size) (omega arith) (let b = below in omega (arith, b))
 
-  marks_stay : (k : ℕ) → IsMarked w k ↔ Has (reach w tree) k
-  marks_stay k =
-      let old : IsMarked v k ↔ Has (reach v tree) k = sound.accounts.marks k in (
-        λ m. subst (λ l. Has l k) (sym reach_same) (old.0 (m.0, sym (marked_same k m.0) ∙ m.1)),
-        λ h. let m : IsMarked v k = old.1 (subst (λ l. Has l k) reach_same h) in (m.0, marked_same k m.0 ∙ m.1),
-      )
+  bits_same : (k : ℕ) → IsMarked w k ↔ IsMarked v k
+  bits_same k = ((λ m. (m.0, sym (marked_same k m.0) ∙ m.1)), (λ m. (m.0, marked_same k m.0 ∙ m.1)))
+
+  pub parts_carried : IsCarried v w tree
+  parts_carried = record {
+    nodes = record { plain = nodes.plain; stands = stands_stays; once = subst IsOnce (sym reach_same) nodes.once };
+    indices = λ i. record { plain = i.plain; listed = indices_stay i.listed };
+    reached = reach_same;
+    metadata = metadata_same;
+    bits = bits_same;
+  }
+
+module _ (v : Volume) (new : ℕ → List ℕ) (tree : Tree) (sound : IsSound v tree) (some : 0 < v.geometry.block_size)
+    (same : (k : ℕ) → IsMetadata v tree k → times k (fixed_blocks v) ≡ 0 → new k ≡ v.blocks k) where
+  carried : IsCarried v (with_blocks v new) tree
+  carried = parts_carried v new v.geometry.used tree sound.nodes some same
+
+  pub metadata_stays : (k : ℕ) → IsMetadata (with_blocks v new) tree k ↔ IsMetadata v tree k
+  metadata_stays = carried.metadata
+
+  pub bits_stay : (k : ℕ) → IsMarked (with_blocks v new) k ↔ IsMarked v k
+  bits_stay = carried.bits
+
+  marks_stay : Marks (with_blocks v new) (reach (with_blocks v new) tree)
+  marks_stay k = (
+    λ m. subst (λ l. Has l k) (sym carried.reached) ((sound.bits k).0 ((bits_stay k).0 m)),
+    λ h. (bits_stay k).1 ((sound.bits k).1 (subst (λ l. Has l k) carried.reached h)),
+  )
 
   pub sound_stays : IsSound (with_blocks v new) tree
-  sound_stays = record {
-    plain = sound.plain;
-    stands = stands_stays;
-    indices = indices_stay;
-    accounts = record {
-      once = subst IsOnce (sym reach_same) sound.accounts.once;
-      marks = marks_stay;
-      used = sound.accounts.used ∙ ap length (sym reach_same);
-    };
-  }
+  sound_stays = record { nodes = carried.nodes; indices = carried.indices sound.indices; bits = marks_stay; used = sound.used ∙ ap length (sym carried.reached) }
 
 some_bytes : (n shift : ℕ) → 10 ≤ shift → n ≡ 2 ^ shift → 0 < n
 some_bytes n shift low e = let p : 2 ^ 10 ≤ 2 ^ shift = pow_mono low in omega (arith, e, p)
@@ -224,5 +263,5 @@ image_carried old new tree whole valid emptied same =
 pub other_stays : (v : Volume) (tree : Tree) (new : ℕ → List ℕ) (a b : ℕ) (m n : Node) → IsSound v tree → IsNode tree a m → IsNode tree b n → (a ≡ b → ⊥)
     → ((k : ℕ) → times k (node_blocks v (a, m)) ≡ 0 → new k ≡ v.blocks k) → StaysNode v new b n
 other_stays v tree new a b m n sound is too other changes =
-    let agree = other_agrees v tree sound.accounts.once new a b m n is too other changes in
-    record { node = node_stays v new b n agree (sound.stands.nodes b n too); blocks = node_blocks_stay v new b n agree }
+    let agree = other_agrees v tree sound.nodes.once new a b m n is too other changes in
+    record { node = node_stays v new v.geometry.used b n agree (sound.nodes.stands.nodes b n too); blocks = node_blocks_stay v new v.geometry.used b n agree }

@@ -1,14 +1,10 @@
 -- How often a number stands in joined lists, and blocks that agree there.
-use Rattle.std.proofs.Common.{◌≡◌, ◌≤◌, ◌+◌, ◌⊎◌, inl, inr, ℕ, List, [], ◌∷◌, ◌++◌, refl, sym, ap, ap₂, ◌∙◌, subst, arith, map}
+use Rattle.std.proofs.Common.{◌≡◌, ◌≤◌, ◌+◌, inl, inr, ℕ, List, [], ◌∷◌, ◌++◌, refl, sym, ap, ap₂, ◌∙◌, subst, arith, map}
 use Rattle.std.specs.List.{flat_map}
 use Rattle.bfs_base.specs.Lists.{times, Has, Agree}
+pub use Rattle.bfs_sound.specs.Owners.{In}
 use Rattle.bfs_stream.proofs.Doubles.{times-append}
 use Rattle.bfs_stream.proofs.Frames.{has_left, has_right, agree_left, agree_right}
-
--- x is a member of the list
-abbrev pub In : {X : Type 0} → X → List X → Type 0
-In x [] = ⊥
-In x (y ∷ ys) = (x ≡ y) ⊎ In x ys
 
 pub has_member : {X : Type 0} (f : X → List ℕ) (xs : List X) (x : X) (k : ℕ) → In x xs → Has (f x) k → Has (flat_map f xs) k
 has_member f [] x k i h = absurd i
@@ -55,3 +51,18 @@ pub in_map : {X Y : Type 0} (f : X → Y) (xs : List X) (x : X) → In x xs → 
 in_map f [] x i = absurd i
 in_map f (y ∷ xs) x (inl e) = inl (ap f e)
 in_map f (y ∷ xs) x (inr i) = inr (in_map f xs x i)
+
+pub in_left : {X : Type 0} (xs ys : List X) (x : X) → In x xs → In x (xs ++ ys)
+in_left [] ys x i = absurd i
+in_left (y ∷ xs) ys x (inl e) = inl e
+in_left (y ∷ xs) ys x (inr i) = inr (in_left xs ys x i)
+
+pub in_right : {X : Type 0} (xs ys : List X) (x : X) → In x ys → In x (xs ++ ys)
+in_right [] ys x i = i
+in_right (y ∷ xs) ys x i = inr (in_right xs ys x i)
+
+-- what one of the parts has, all of them have
+pub in_flat : {X Y : Type 0} (f : X → List Y) (xs : List X) (x : X) → In x xs → (y : Y) → In y (f x) → In y (flat_map f xs)
+in_flat f [] x i y h = absurd i
+in_flat f (z ∷ xs) x (inl e) y h = in_left (f z) (flat_map f xs) y (subst (λ u. In y (f u)) e h)
+in_flat f (z ∷ xs) x (inr i) y h = in_right (f z) (flat_map f xs) y (in_flat f xs x i y h)

@@ -4,3 +4,4 @@ pub mod Rows
 pub mod Nodes
 pub mod Parts
 pub mod Carried
+pub mod Owning

@@ -1,5 +1,5 @@
 -- The parts of what is reached: which blocks are metadata, and that no two nodes share one.
-use Rattle.std.proofs.Common.{◌≡◌, ◌≢◌, ◌<◌, ◌≤◌, ◌+◌, inl, inr, ℕ, ℤ, List, [], ◌∷◌, ◌++◌, Some, None, true, false, cond, refl, sym, ap, ◌∙◌, arith}
+use Rattle.std.proofs.Common.{◌≡◌, ◌≢◌, ◌<◌, ◌≤◌, ◌+◌, ⊎_elim, inl, inr, ℕ, ℤ, List, [], ◌∷◌, ◌++◌, Some, None, true, false, cond, refl, sym, ap, ◌∙◌, arith}
 use Rattle.std.specs.List.{flat_map}
 use Rattle.std.specs.Ordering.{nat_cmp, eq_by_cmp}
 use Rattle.std.specs.FinMap.{FinMap, find, get, entries, get-entries}
@@ -10,10 +10,12 @@ use Rattle.bfs_node.specs.Page.{Row}
 use Rattle.bfs_pages.specs.Maps.{assoc}
 use Rattle.bfs_pages.specs.Order.{same_keys}
 use Rattle.bfs_stream.proofs.Doubles.{times-append}
-use Rattle.bfs_tree.specs.Trees.{Node, Tree, IsNode}
+use Rattle.bfs_tree.specs.Trees.{Node, Tree, IsNode, HasBuiltIn, IsPlain}
 use Rattle.bfs_sound.specs.Volumes.{Volume, bitmap_blocks}
-use Rattle.bfs_sound.specs.Owners.{node_blocks, index_blocks, fixed_blocks, reach, data_blocks, file_data, IsMetadata}
-use Rattle.bfs_sound.proofs.Counts.{In, times_two, times_split, agree_member}
+use Rattle.bfs_sound.specs.Listings.{Stands}
+use Rattle.bfs_sound.specs.Owners.{node_blocks, index_blocks, fixed_blocks, reach, data_blocks, file_data, IsMetadata, Accounts, In}
+use Rattle.bfs_sound.specs.Whole.{HasIndices, IsSound}
+use Rattle.bfs_sound.proofs.Counts.{times_two, times_split, agree_member}
 use Rattle.bfs_sound.proofs.Nodes.{node_metadata, node_split}
 
 -- a node of a tree stands among its entries
@@ -95,3 +97,22 @@ module _ (v : Volume) (tree : Tree) where
       let split = node_split v k (b, n) in
       let apart = nodes_apart once a b m n is too other k in
       changes k (omega (arith, some, split, apart))
+
+-- a sound volume with an index directory has the built-in indices
+pub built_in_there : (v : Volume) (tree : Tree) → IsSound v tree → v.geometry.indices ≢ 0 → HasBuiltIn tree.indices
+built_in_there v tree sound some = ⊎_elim (λ none. absurd (some (sound.nodes.stands.none.1 none))) (λ there. there) sound.indices.plain
+
+-- what is sound by a plain tree, what stands, what is listed and accounts, and back
+pub sound_from : (v : Volume) (tree : Tree) → IsPlain tree → Stands v tree → HasIndices v tree → Accounts v (reach v tree) → IsSound v tree
+sound_from v tree plain stands listed accounts = record {
+  nodes = record { plain = plain.nodes; stands = stands; once = accounts.once };
+  indices = record { plain = plain.indices; listed = listed };
+  bits = accounts.marks;
+  used = accounts.used;
+}
+
+pub plain_in : (v : Volume) (tree : Tree) → IsSound v tree → IsPlain tree
+plain_in v tree sound = record { nodes = sound.nodes.plain; indices = sound.indices.plain }
+
+pub accounts_in : (v : Volume) (tree : Tree) → IsSound v tree → Accounts v (reach v tree)
+accounts_in v tree sound = record { once = sound.nodes.once; marks = sound.bits; used = sound.used }

@@ -10,9 +10,9 @@ use Rattle.bfs_node.specs.Page.{Row}
 use Rattle.bfs_smalldata.specs.Items.{Item}
 use Rattle.bfs_stream.specs.Sizes.{first_block}
 use Rattle.bfs_tree.specs.Trees.{Attribute}
-use Rattle.bfs_rows.specs.Reached.{IsWholeTree}
+use Rattle.bfs_values.specs.Reached.{IsWholeTree}
 use Rattle.bfs_sound.specs.Volumes.{Volume, sizes}
-use Rattle.bfs_sound.specs.Inodes.{HasBit, mode_bits, content, IsOwner, proper_rows, id_of}
+use Rattle.bfs_sound.specs.Inodes.{HasBit, mode_bits, content, IsOwner, proper_rows, id_of, rows_of, inodes_of}
 
 -- the one byte that names the item with a node's own name
 abbrev pub own_name : List ℕ
@@ -65,10 +65,8 @@ abbrev pub attribute_at : Volume → ℕ → Attribute
 attribute_at v id = record { code = unsigned_at 4 (v.blocks id) 60; bytes = content v id }
 
 abbrev pub attributes_of : Volume → Option ℕ → List Named
-attributes_of v None = []
-attributes_of v (Some d) = map (λ row. (row.0, attribute_at v (id_of row))) (proper_rows v d)
+attributes_of v o = map (λ row. (row.0, attribute_at v (id_of row))) (rows_of v o)
 
 -- the inodes of the attribute directory and of its attributes
 abbrev pub attribute_inodes : Volume → Option ℕ → List ℕ
-attribute_inodes v None = []
-attribute_inodes v (Some d) = d ∷ map id_of (proper_rows v d)
+attribute_inodes v o = inodes_of v o

@@ -1,5 +1,5 @@
 -- An inode of a volume: mode and flags, its blocks and its bytes, and the rows of its tree.
-use Rattle.std.specs.Prelude.{◌≡◌, ℕ, ◌/◌, ◌%◌, ◌^◌, List, Bool, not, ◌||◌, ◌==◌, codes}
+use Rattle.std.specs.Prelude.{◌≡◌, ℕ, ◌/◌, ◌%◌, ◌^◌, List, [], ◌∷◌, Option, Some, None, Bool, not, ◌||◌, ◌==◌, if◌then◌else◌, map, codes}
 use Rattle.std.specs.List.{filter}
 use Rattle.std.specs.Str.{bytes_eq}
 use Rattle.bfs_base.specs.declared.kind.KeyKind.TheVariants.{Text}
@@ -10,7 +10,7 @@ use Rattle.bfs_node.specs.Page.{Row}
 use Rattle.bfs_stream.specs.Places.{places_at, frame_at, whole_at, bytes_at, HasStream}
 use Rattle.bfs_tree.specs.declared.call.Kind.{Kind}
 use Rattle.bfs_tree.specs.declared.call.Kind.TheVariants.{File, Dir, Link}
-use Rattle.bfs_rows.specs.Rows.{rows_in}
+use Rattle.bfs_values.specs.Rows.{rows_in}
 use Rattle.bfs_sound.specs.Volumes.{Volume, sizes}
 
 -- the bit with this number is set
@@ -64,3 +64,16 @@ proper_rows v id = filter (λ row. is_proper row.0) (rows_in Text (content v id)
 -- the number of the inode that a row names
 abbrev pub id_of : Row → ℕ
 id_of row = natural row.1
+
+-- A directory of inodes may be missing. Its rows, and its own inode with those that its rows name; none where it is missing.
+abbrev pub rows_of : Volume → Option ℕ → List Row
+rows_of v None = []
+rows_of v (Some d) = proper_rows v d
+
+abbrev pub inodes_of : Volume → Option ℕ → List ℕ
+inodes_of v None = []
+inodes_of v (Some d) = d ∷ map id_of (proper_rows v d)
+
+-- the inode of the index directory, or none where the volume has no index directory
+abbrev pub index_directory : Volume → Option ℕ
+index_directory v = if v.geometry.indices == 0 then None else Some v.geometry.indices

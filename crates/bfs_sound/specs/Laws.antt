@@ -1,14 +1,14 @@
 -- What is true of sound volumes, whatever keeps them.
-use Rattle.std.specs.Prelude.{◌≡◌, ◌≢◌, ℕ, List}
+use Rattle.std.specs.Prelude.{◌≡◌, ◌≢◌, ◌<◌, ◌↔◌, ℕ, List}
 use Rattle.bfs_base.specs.Lists.{times, ChangesAt}
 use Rattle.bfs_super.specs.Geometry.{geometry_of}
 use Rattle.bfs_super.specs.declared.sup.Super.{Super}
 use Rattle.bfs_log.specs.Replay.{super_of, blocks_of, Valid}
 use Rattle.bfs_tree.specs.Trees.{Node, Tree, IsNode}
 use Rattle.bfs_sound.specs.Nodes.{HasNode}
-use Rattle.bfs_sound.specs.Volumes.{Volume}
-use Rattle.bfs_sound.specs.Owners.{node_blocks, fixed_blocks, IsMetadata}
-use Rattle.bfs_sound.specs.Whole.{volume_of, IsVolume, Whole, IsWhole, IsSound}
+use Rattle.bfs_sound.specs.Volumes.{Volume, IsMarked}
+use Rattle.bfs_sound.specs.Owners.{node_blocks, fixed_blocks, reach, IsMetadata}
+use Rattle.bfs_sound.specs.Whole.{HasSoundNodes, HasSoundIndices, volume_of, IsVolume, Whole, IsWhole, IsSound}
 
 -- Two superblocks with blocks have the same geometry, log run, root, indices and used blocks, and agree at every block that
 -- is metadata, but for block 0 and the log.
@@ -27,6 +27,25 @@ ImageIsCarried = (old new : List ℕ) (tree : Tree) → IsWhole old tree → Val
 -- the volume with other blocks
 abbrev pub with_blocks : Volume → (ℕ → List ℕ) → Volume
 with_blocks v new = record v { blocks = new }
+
+-- the volume with other blocks and another count of used blocks
+abbrev pub changed : Volume → (ℕ → List ℕ) → ℕ → Volume
+changed v new used = record { geometry = record v.geometry { used = used }; blocks = new }
+
+-- What is carried from a volume to another, part by part: the nodes are sound, and so are the indices where they were; the same
+-- blocks are reached, the same of them are metadata, and the same bits are set.
+pub record IsCarried (v w : Volume) (tree : Tree) : Type 0 where
+  pub nodes : HasSoundNodes w tree
+  pub indices : HasSoundIndices v tree → HasSoundIndices w tree
+  pub reached : reach w tree ≡ reach v tree
+  pub metadata : (k : ℕ) → IsMetadata w tree k ↔ IsMetadata v tree k
+  pub bits : (k : ℕ) → IsMarked w k ↔ IsMarked v k
+
+-- Where a volume agrees with one of sound nodes at every metadata block, but for block 0 and those of the log, all this is
+-- carried to it, whatever becomes of the count.
+abbrev pub PartsAreCarried : Type 0
+PartsAreCarried = (v : Volume) (new : ℕ → List ℕ) (used : ℕ) (tree : Tree) → HasSoundNodes v tree → 0 < v.geometry.block_size
+    → ((k : ℕ) → IsMetadata v tree k → times k (fixed_blocks v) ≡ 0 → new k ≡ v.blocks k) → IsCarried v (changed v new used) tree
 
 -- a node keeps its record and its blocks
 pub record StaysNode (v : Volume) (new : ℕ → List ℕ) (id : ℕ) (n : Node) : Type 0 where

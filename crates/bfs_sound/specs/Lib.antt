@@ -6,3 +6,6 @@ pub mod Listings
 pub mod Owners
 pub mod Whole
 pub mod Laws
+pub mod OwnerLaws
+pub mod Need
+pub mod Worked

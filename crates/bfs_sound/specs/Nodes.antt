@@ -4,7 +4,7 @@ use Rattle.std.specs.List.{before_first, AllByRecursion}
 use Rattle.std.specs.Str.{bytes_eq}
 use Rattle.std.specs.FinMap.{from_entries}
 use Rattle.bfs_base.specs.declared.kind.KeyKind.TheVariants.{Text}
-use Rattle.bfs_bytes.specs.Fields.{unsigned_at, signed64_at, run_in}
+use Rattle.bfs_bytes.specs.Fields.{signed32_at, signed64_at, run_in}
 use Rattle.bfs_super.specs.Conditions.{natural}
 use Rattle.bfs_inode.specs.Refusals.{IsInode, Names}
 use Rattle.bfs_smalldata.specs.Items.{Item, items_of}
@@ -13,7 +13,7 @@ use Rattle.bfs_stream.specs.Places.{fields, HasStream}
 use Rattle.bfs_tree.specs.declared.call.Kind.{Kind}
 use Rattle.bfs_tree.specs.declared.call.Kind.TheVariants.{File, Dir, Link}
 use Rattle.bfs_tree.specs.Trees.{Node}
-use Rattle.bfs_rows.specs.Reached.{IsWholeTree}
+use Rattle.bfs_values.specs.Reached.{IsWholeTree}
 use Rattle.bfs_sound.specs.Volumes.{Volume, sizes}
 use Rattle.bfs_sound.specs.Inodes.{kind_bits, mode_bits, is_short, content}
 use Rattle.bfs_sound.specs.Attributes.{Named, own_name, is_name_item, attributes_in, attribute_directory, HasDirectory, attributes_of}
@@ -50,8 +50,8 @@ pub record HasNode (v : Volume) (id : ℕ) (n : Node) : Type 0 where
   pub inode : IsInode (v.blocks id) id v.geometry.shift
   pub kind : mode_bits v id / 4096 % 16 ≡ kind_bits n.kind
   pub mode : n.mode ≡ mode_bits v id % 4096
-  pub uid : n.uid ≡ unsigned_at 4 (v.blocks id) 12
-  pub gid : n.gid ≡ unsigned_at 4 (v.blocks id) 16
+  pub uid : n.uid ≡ signed32_at (v.blocks id) 12
+  pub gid : n.gid ≡ signed32_at (v.blocks id) 16
   pub created : n.created ≡ signed64_at (v.blocks id) 28
   pub modified : n.modified ≡ signed64_at (v.blocks id) 36
   pub changed : n.changed ≡ signed64_at (v.blocks id) 216

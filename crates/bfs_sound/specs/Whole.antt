@@ -1,31 +1,44 @@
 -- Whole: an image, or a superblock with blocks, is a sound volume with a tree; and an image that recovers to one.
 use Rattle.std.specs.Prelude.{◌≡◌, ◌<◌, ℕ, ℤ, List, length, Some}
 use Rattle.std.specs.FinMap.{get}
+use Rattle.bfs_base.specs.Lists.{IsOnce}
 use Rattle.bfs_base.specs.declared.kind.KeyKind.{KeyKind}
 use Rattle.bfs_super.specs.Conditions.{natural, IsValid}
 use Rattle.bfs_super.specs.Geometry.{geometry_of}
 use Rattle.bfs_super.specs.declared.sup.Super.{Super}
 use Rattle.bfs_log.specs.Replay.{super_of, blocks_of, Valid, Replayed}
 use Rattle.bfs_tree.specs.Listings.{listed}
-use Rattle.bfs_tree.specs.Trees.{Tree, IsPlain}
-use Rattle.bfs_rows.specs.Rows.{rows_in}
-use Rattle.bfs_rows.specs.Reached.{AreWritten}
+use Rattle.bfs_tree.specs.Trees.{Tree, HasPlainNodes, HasPlainIndices}
+use Rattle.bfs_values.specs.Rows.{rows_in}
+use Rattle.bfs_values.specs.Reached.{AreWritten}
 use Rattle.bfs_sound.specs.Volumes.{Volume}
 use Rattle.bfs_sound.specs.Inodes.{content}
 use Rattle.bfs_sound.specs.Listings.{IsIndexRow, Stands}
-use Rattle.bfs_sound.specs.Owners.{reach, Accounts}
+use Rattle.bfs_sound.specs.Owners.{reach, Marks, Counts}
 
 -- each index lists what the tree's rule says: its rows, with the numbers of their values written out
 abbrev pub HasIndices : Volume → Tree → Type 0
 HasIndices v tree = (name : List ℕ) (value : ℤ) (kind : KeyKind) → IsIndexRow v name value → get tree.indices name ≡ Some kind
     → AreWritten (content v (natural value)) (rows_in kind (content v (natural value))) (listed tree name kind)
 
--- a volume is sound with a plain tree
-pub record IsSound (v : Volume) (tree : Tree) : Type 0 where
-  pub plain : IsPlain tree
+-- The nodes: they are those of a plain tree, the tree stands on the volume, and no block is reached twice.
+pub record HasSoundNodes (v : Volume) (tree : Tree) : Type 0 where
+  pub plain : HasPlainNodes tree
   pub stands : Stands v tree
-  pub indices : HasIndices v tree
-  pub accounts : Accounts v (reach v tree)
+  pub once : IsOnce (reach v tree)
+
+-- The indices: where there are any, the built-in ones are there with their kinds; and each lists what it has to.
+pub record HasSoundIndices (v : Volume) (tree : Tree) : Type 0 where
+  pub plain : HasPlainIndices tree.indices
+  pub listed : HasIndices v tree
+
+-- A volume is sound with a plain tree: in its nodes, in its indices, in the bits of its bitmap, and in the count of its used
+-- blocks.
+pub record IsSound (v : Volume) (tree : Tree) : Type 0 where
+  pub nodes : HasSoundNodes v tree
+  pub indices : HasSoundIndices v tree
+  pub bits : Marks v (reach v tree)
+  pub used : Counts v (reach v tree)
 
 -- the volume that a superblock and blocks are
 abbrev pub volume_of : Super → (ℕ → List ℕ) → Volume

@@ -1,13 +1,14 @@
 -- What follows where a superblock with blocks is whole with a tree: which blocks are reached, and that a row of the root
 -- directory names a node.
-use Rattle.std.proofs.Common.{◌≡◌, ◌≢◌, ◌≤◌, ◌<◌, ◌⊎◌, inl, inr, ℕ, pos, List, [], ◌∷◌, ◌++◌, Some, Bool, true, false, cond, T, refl, sym, ap, ◌∙◌, subst, arith, ⊎_elim}
+use Rattle.std.proofs.Common.{◌≡◌, ◌≢◌, ◌≤◌, ◌<◌, ◌⊎◌, inl, inr, ℕ, ℤ, pos, List, [], ◌∷◌, ◌++◌, Some, None, Bool, true, false, cond, T, refl, sym, ap, ◌∙◌, subst, arith, ⊎_elim}
 use Rattle.std.proofs.lemmas.Bool.{true≢false}
 use Rattle.std.specs.Prelude.{◌==◌, codes}
 use Rattle.std.specs.List.{AllByRecursion, flat_map}
 use Rattle.std.specs.Str.{bytes_eq}
 use Rattle.std.specs.Ordering.{nat_cmp, eq_by_cmp, is_lt}
-use Rattle.std.specs.FinMap.{entries, entries_sorted, get-entries, find, is_sorted}
+use Rattle.std.specs.FinMap.{get, get-empty, entries, entries_sorted, get-entries, find, is_sorted}
 use Rattle.std.specs.FinMap.Entries.{below_all}
+use Rattle.bfs_base.specs.Keys.{text_cmp}
 use Rattle.bfs_base.specs.Lists.{times, Has}
 use Rattle.bfs_base.specs.declared.kind.KeyKind.TheVariants.{Text, I64}
 use Rattle.bfs_node.specs.Page.{Row}
@@ -18,9 +19,9 @@ use Rattle.bfs_super.specs.Conditions.{natural}
 use Rattle.bfs_super.specs.declared.sup.Super.{Super}
 use Rattle.bfs_tree.specs.declared.call.Kind.TheVariants.{Dir}
 use Rattle.bfs_tree.specs.Names.{is_bad_name}
-use Rattle.bfs_tree.specs.Trees.{Node, Tree, IsNode, IsDirectory, LeadsTo, at_top, by_parent}
-use Rattle.bfs_rows.specs.Rows.{rows_in}
-use Rattle.bfs_rows.specs.Reached.{IsWholeTree}
+use Rattle.bfs_tree.specs.Trees.{Node, Tree, IsNode, IsDirectory, HasBuiltIn, HasPlainIndices, LeadsTo, at_top, by_parent}
+use Rattle.bfs_values.specs.Rows.{rows_in}
+use Rattle.bfs_values.specs.Reached.{IsWholeTree}
 use Rattle.bfs_values.specs.Values.{HasValues}
 use Rattle.bfs_sound.specs.Volumes.{Volume, bitmap_blocks, IsMarked}
 use Rattle.bfs_sound.specs.Inodes.{content, inode_blocks}
@@ -97,15 +98,15 @@ module _ (s : Super) (blocks : ℕ → List ℕ) (tree : Tree) (w : Whole s bloc
   root = v.geometry.root
 
   root_is : IsDirectory tree root
-  root_is = subst (IsDirectory tree) w.sound.stands.root w.sound.plain.root
+  root_is = subst (IsDirectory tree) w.sound.nodes.stands.root w.sound.nodes.plain.root
 
   root_lists : Lists v tree root root_is.0
-  root_lists = w.sound.stands.listings root root_is.0 root_is.1 root_is.2
+  root_lists = w.sound.nodes.stands.listings root root_is.0 root_is.1 root_is.2
 
   -- a row of a directory but `.` and `..` names a child
   pub child_in : (d : ℕ) (n : Node) → IsNode tree d n → n.kind ≡ Dir → (rs : List Row) → rows_in Text (content v d) ≡ rs → (name : List ℕ) (id : ℕ) → assoc Text rs name ≡ Some (pos id)
       → bytes_eq name (codes ".") ≡ false → bytes_eq name (codes "..") ≡ false → IsChild tree d name id
-  child_in d n is dir rs are name id row one two = by ((w.sound.stands.listings d n is dir name (pos id)).0 (subst (λ rows. assoc Text rows name ≡ Some (pos id)) (sym are) row))
+  child_in d n is dir rs are name id row one two = by ((w.sound.nodes.stands.listings d n is dir name (pos id)).0 (subst (λ rows. assoc Text rows name ≡ Some (pos id)) (sym are) row))
     where
       by : IsRow tree d n name (pos id) → IsChild tree d name id
       by (inl p) = absurd (true≢false (sym (itself name (codes ".") p.0) ∙ one))
@@ -116,7 +117,7 @@ module _ (s : Super) (blocks : ℕ → List ℕ) (tree : Tree) (w : Whole s bloc
   child_of rs are name id row one two = child_in root root_is.0 root_is.1 root_is.2 rs are name id row one two
 
   pub has_node : (id : ℕ) (n : Node) → IsNode tree id n → HasNode v id n
-  has_node id n is = w.sound.stands.nodes id n is
+  has_node id n is = w.sound.nodes.stands.nodes id n is
 
   -- the blocks of a node are reached, its own block among them
   pub node_reached : (id : ℕ) (n : Node) → IsNode tree id n → (k : ℕ) → Has (node_blocks v (id, n)) k → Has (reach v tree) k
@@ -138,38 +139,49 @@ module _ (s : Super) (blocks : ℕ → List ℕ) (tree : Tree) (w : Whole s bloc
   inode_reached id n is = node_reached id n is id (own_block id n)
 
   pub bit_set : (k : ℕ) → Has (reach v tree) k → bit v k ≡ 1
-  bit_set k h = ((w.sound.accounts.marks k).1 h).1
+  bit_set k h = ((w.sound.bits k).1 h).1
 
   pub once : (k : ℕ) → times k (reach v tree) ≤ 1
-  once k = w.sound.accounts.once k
+  once k = w.sound.nodes.once k
 
   pub index_once : (k : ℕ) → times k (index_blocks v) ≤ 1
   index_once k = let p = reach_parts v tree k in let o = once k in omega (arith, p, o)
 
+  -- where the index directory has a row, the three built-in indices are there
+  pub built_in : (name : List ℕ) (value : ℤ) → IsIndexRow v name value → HasBuiltIn tree.indices
+  built_in name value row = by w.sound.indices.plain
+    where
+      there : IsIndexOf v tree name value
+      there = w.sound.nodes.stands.indices name value row
+
+      by : HasPlainIndices tree.indices → HasBuiltIn tree.indices
+      by (inl none) = absurd (let bad : None ≡ Some there.kind = sym (get-empty text_cmp name) ∙ sym (ap (λ m. get m name) none) ∙ there.there in cc)
+      by (inr has) = has
+
   -- the index `last_modified` is a tree of 64 bit numbers, and its values mean numbers
   pub time_tree : (id : ℕ) → IsIndexRow v (codes "last_modified") (pos id) → IsWholeTree I64 (content v id)
   time_tree id row =
-      let i : IsIndexOf v tree (codes "last_modified") (pos id) = w.sound.stands.indices (codes "last_modified") (pos id) row in
-      let twice : Some i.kind ≡ Some I64 = sym i.there ∙ w.sound.plain.by_time in
+      let i : IsIndexOf v tree (codes "last_modified") (pos id) = w.sound.nodes.stands.indices (codes "last_modified") (pos id) row in
+      let twice : Some i.kind ≡ Some I64 = sym i.there ∙ (built_in (codes "last_modified") (pos id) row).by_time in
       let one : i.kind ≡ I64 = cc in
       subst (λ k. IsWholeTree k (content v id)) one i.index.tree
 
   pub time_values : (id : ℕ) → IsIndexRow v (codes "last_modified") (pos id) → AllByRecursion (λ r. HasValues (content v id) r.1) (rows_in I64 (content v id))
-  time_values id row = (w.sound.indices (codes "last_modified") (pos id) I64 row w.sound.plain.by_time).mean
+  time_values id row = (time_tree id row).mean
 
   -- where the root directory has no rows but `.` and `..`, it is the only node
   module _ (rs : List Row) (are : rows_in Text (content v root) ≡ rs) (bad : AllByRecursion (λ r. is_bad_name r.0 ≡ true) rs) where
     none_below : Below tree tree.root → ⊥
     unfolding Below
     none_below b =
-        let up : b.1.parent ≡ root = b.4 ∙ w.sound.stands.root in
+        let up : b.1.parent ≡ root = b.4 ∙ w.sound.nodes.stands.root in
         let is_child : IsChild tree root b.1.name b.0 = record { node = b.1; there = b.2; not_root = b.3; parent = up; named = refl } in
         let row : assoc Text (rows_in Text (content v root)) b.1.name ≡ Some (pos b.0) = (root_lists b.1.name (pos b.0)).1 (inr (inr (b.0, refl, is_child))) in
         let is_bad : is_bad_name b.1.name ≡ true = row_all (λ name _. is_bad_name name ≡ true) rs bad b.1.name (pos b.0) (subst (λ rows. assoc Text rows b.1.name ≡ Some (pos b.0)) are row) in
-        true≢false (sym is_bad ∙ w.sound.plain.named b.0 b.1 b.2 b.3)
+        true≢false (sym is_bad ∙ w.sound.nodes.plain.named b.0 b.1 b.2 b.3)
 
     only_root : (id : ℕ) (n : Node) → IsNode tree id n → id ≡ root
-    only_root id n is = ⊎_elim (λ e. e ∙ w.sound.stands.root) (λ b. absurd (none_below b)) (under tree tree.root id (w.sound.plain.lead id n is))
+    only_root id n is = ⊎_elim (λ e. e ∙ w.sound.nodes.stands.root) (λ b. absurd (none_below b)) (under tree tree.root id (w.sound.nodes.plain.lead id n is))
 
     -- so only its blocks are those of nodes
     pub nodes_without : (k : ℕ) → ((b : Bool) → times k (cond b (root ∷ []) (inode_blocks v root) ++ flat_map (inode_blocks v) (attribute_inodes v (attribute_directory v root))) ≡ 0)
@@ -183,7 +195,7 @@ module _ (s : Super) (blocks : ℕ → List ℕ) (tree : Tree) (w : Whole s bloc
     pub not_reached : (k : ℕ) → times k (fixed_blocks v) ≡ 0 → times k (bitmap_blocks v.geometry) ≡ 0 → times k (index_blocks v) ≡ 0
         → ((b : Bool) → times k (cond b (root ∷ []) (inode_blocks v root) ++ flat_map (inode_blocks v) (attribute_inodes v (attribute_directory v root))) ≡ 0) → IsMarked v k → ⊥
     not_reached k fixed bitmap index none m =
-        let h : 0 < times k (reach v tree) = (w.sound.accounts.marks k).0 m in
+        let h : 0 < times k (reach v tree) = (w.sound.bits k).0 m in
         let p = reach_parts v tree k in
         let nodes = nodes_without k none in
         omega (arith, h, p, fixed, bitmap, index, nodes)

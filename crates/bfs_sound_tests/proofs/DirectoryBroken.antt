@@ -18,8 +18,8 @@ use Rattle.bfs_super.specs.Layout.{super_at, sector_of, sizes_of, groups_of, pla
 use Rattle.bfs_super.specs.declared.sup.Super.{Super}
 use Rattle.bfs_tree.specs.Names.{is_bad_name}
 use Rattle.bfs_tree.specs.Trees.{Tree}
-use Rattle.bfs_rows.specs.Rows.{rows_in}
-use Rattle.bfs_rows.specs.Reached.{pairs_of}
+use Rattle.bfs_values.specs.Rows.{rows_in}
+use Rattle.bfs_values.specs.Reached.{pairs_of}
 use Rattle.bfs_tree.specs.Listings.{listed}
 use Rattle.bfs_sound.specs.Volumes.{Volume, IsMarked}
 use Rattle.bfs_sound.specs.Inodes.{content, inode_blocks}
@@ -29,14 +29,14 @@ use Rattle.bfs_sound.specs.Listings.{IsChild, IsIndexRow}
 use Rattle.bfs_sound.specs.Whole.{volume_of, Whole}
 use Rattle.bfs_sound_tests.specs.Bytes.{level_bytes, inode_block, header_block, leaf_block, bitmap_block}
 use Rattle.bfs_sound_tests.specs.Worked.{image_of, super_of_used, IsBroken}
-use Rattle.bfs_sound_tests.specs.Directory.{blocks, root_rows, unmarked, unlisted, shared, unindexed, logged_super, LoggedIsBroken, TruncatedIsBroken}
+use Rattle.bfs_sound_tests.specs.Directory.{blocks, root_rows, overmarked, unmarked, unlisted, shared, unindexed, logged_super, LoggedIsBroken, TruncatedIsBroken}
 use Rattle.bfs_sound_tests.proofs.Finite.{low}
 use Rattle.bfs_sound_tests.proofs.Standing.{bit}
 use Rattle.bfs_sound_tests.proofs.DirectoryNodes.{blocks_long}
 use Rattle.bfs_sound_tests.proofs.Supers.{reads_22, full_22, reads_23, full_23}
 use Rattle.bfs_sound_tests.proofs.Images.{from_image, with_long, super_is_made}
 use Rattle.bfs_sound_tests.proofs.Tallies.{ones, used_is, named_listed}
-use Rattle.bfs_sound_tests.proofs.Broken.{child_of, inode_reached, bit_set, index_once, not_reached}
+use Rattle.bfs_sound_tests.proofs.Broken.{built_in, child_of, inode_reached, bit_set, index_once, not_reached}
 
 abbrev unmarked_volume : Volume
 unmarked_volume = volume_of (super_of_used 22) unmarked
@@ -127,7 +127,7 @@ unindexed_not_whole : (tree : Tree) → Whole (super_of_used 22) unindexed tree 
 unindexed_not_whole tree w =
     let c : IsChild tree 4 (codes "d") 19 = child_of (super_of_used 22) unindexed tree w root_rows unindexed_rows (codes "d") 19 refl refl refl in
     let some : 1 ≤ length (listed tree (codes "name") Text) = named_listed tree 19 c.node c.there c.not_root in
-    let none : length (listed tree (codes "name") Text) ≡ 0 = ap length ((w.sound.indices (codes "name") (pos 10) Text unindexed_row w.sound.plain.by_name).are ∙ none_written) in
+    let none : length (listed tree (codes "name") Text) ≡ 0 = ap length ((w.sound.indices.listed (codes "name") (pos 10) Text unindexed_row (built_in (super_of_used 22) unindexed tree w (codes "name") (pos 10) unindexed_row).by_name).are ∙ none_written) in
     omega (arith, some, none)
 
 pub unindexed_broken : IsBroken 22 unindexed
@@ -145,6 +145,20 @@ pub miscounted_broken : IsBroken 23 blocks
 miscounted_broken tree image =
     let used : 23 ≡ ones miscounted_volume 64 = used_is (super_of_used 23) blocks tree (from_image 23 blocks blocks_long reads_23 full_23 tree image) in
     let marks = marked_blocks in
+    omega (arith, used, marks)
+
+abbrev overmarked_volume : Volume
+overmarked_volume = volume_of (super_of_used 22) overmarked
+
+overmarked_blocks : ones overmarked_volume 64 ≡ 23
+unfolding ones unsigned_at bit_of bitmap_block
+overmarked_blocks = refl
+
+pub overmarked_broken : IsBroken 22 overmarked
+unfolding unsigned_bytes signed32_bytes signed64_bytes run_bytes header_bytes head_bytes bytes_of level_bytes inode_block header_block leaf_block bitmap_block
+overmarked_broken tree image =
+    let used : 22 ≡ ones overmarked_volume 64 = used_is (super_of_used 22) overmarked tree (from_image 22 overmarked (with_long _ _ blocks refl blocks_long) reads_22 full_22 tree image) in
+    let marks = overmarked_blocks in
     omega (arith, used, marks)
 
 logged_reads : super_at (sector_of logged_super) ≡ logged_super

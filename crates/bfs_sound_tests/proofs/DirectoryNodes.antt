@@ -13,7 +13,7 @@ use Rattle.bfs_smalldata.specs.Items.{Item, items_of, bytes_of}
 use Rattle.bfs_stream.specs.Places.{array_runs, level_blocks, arrays_of, bytes_at}
 use Rattle.bfs_tree.specs.declared.call.Kind.TheVariants.{Dir}
 use Rattle.bfs_tree.specs.Trees.{Node, new_node}
-use Rattle.bfs_rows.specs.Rows.{rows_in}
+use Rattle.bfs_values.specs.Rows.{rows_in}
 use Rattle.bfs_values.specs.Links.{link_in}
 use Rattle.bfs_sound.specs.Listings.{IsChild, Lists, IsIndex}
 use Rattle.bfs_sound.specs.Nodes.{HasNode}
@@ -101,15 +101,15 @@ directory = record { owner = indices_tree.owner; mode = refl; kind_is = tt; tree
 
 by_time : IsListing v (tree_of nodes) (codes "last_modified") 16 I64
 unfolding unsigned_at signed32_at signed64_at run_in unsigned_bytes signed32_bytes signed64_bytes run_bytes level_bytes inode_block header_block leaf_block blocks
-by_time = listing v nodes (codes "last_modified") 16 I64 no_rows tested time_tree refl tt tt refl
+by_time = listing v nodes (codes "last_modified") 16 I64 no_rows tested time_tree refl tt refl
 
 by_name : IsListing v (tree_of nodes) (codes "name") 10 Text
 unfolding unsigned_at signed32_at signed64_at run_in unsigned_bytes signed32_bytes signed64_bytes run_bytes level_bytes inode_block header_block leaf_block blocks link_in
-by_name = listing v nodes (codes "name") 10 Text name_rows tested name_tree refl tt (tt, tt) refl
+by_name = listing v nodes (codes "name") 10 Text name_rows tested name_tree refl tt refl
 
 by_size : IsListing v (tree_of nodes) (codes "size") 13 I64
 unfolding unsigned_at signed32_at signed64_at run_in unsigned_bytes signed32_bytes signed64_bytes run_bytes level_bytes inode_block header_block leaf_block blocks
-by_size = listing v nodes (codes "size") 13 I64 no_rows tested size_tree refl tt tt refl
+by_size = listing v nodes (codes "size") 13 I64 no_rows tested size_tree refl tt refl
 
 abbrev xs : List ℕ
 xs = 0 ∷ 2 ∷ 3 ∷ 1 ∷ 4 ∷ 5 ∷ 6 ∷ 19 ∷ 20 ∷ 21 ∷ 7 ∷ 8 ∷ 9 ∷ 16 ∷ 17 ∷ 18 ∷ 10 ∷ 11 ∷ 12 ∷ 13 ∷ 14 ∷ 15 ∷ []

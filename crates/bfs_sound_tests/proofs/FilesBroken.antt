@@ -12,8 +12,8 @@ use Rattle.bfs_stream.specs.Places.{array_runs, level_blocks, bytes_at, HasStrea
 use Rattle.bfs_tree.specs.declared.call.Kind.{Kind}
 use Rattle.bfs_tree.specs.declared.call.Kind.TheVariants.{File, Dir, Link}
 use Rattle.bfs_tree.specs.Trees.{Tree, Node}
-use Rattle.bfs_rows.specs.Rows.{rows_in}
-use Rattle.bfs_rows.specs.Reached.{AreReached, IsWholeTree, times_named}
+use Rattle.bfs_values.specs.Rows.{rows_in}
+use Rattle.bfs_values.specs.Reached.{AreReached, IsWholeTree, times_named}
 use Rattle.bfs_values.specs.Links.{link_in}
 use Rattle.bfs_values.specs.Values.{HasValues, IsFragment, fragment_count}
 use Rattle.bfs_pages.specs.Trees.{page_in}

@@ -108,7 +108,7 @@ module _ (log : Run) (start end used : ℕ) (blocks : ℕ → List ℕ) (long : 
     valid = image_valid;
     whole = whole_carried s (super_of image) blocks (blocks_of image) tree w (volume_is image image_valid) (ap (λ (t : Super). t.log_start) super_is ∙ w.emptied ∙ sym (ap (λ (t : Super). t.log_end) super_is)) (record {
       fields = ap geometry_of super_is;
-      blocks = λ k m apart. block_is k (not_first k (times k (log_blocks (geometry_of s))) apart) ((w.sound.accounts.marks k).1 m.0).0;
+      blocks = λ k m apart. block_is k (not_first k (times k (log_blocks (geometry_of s))) apart) ((w.sound.bits k).1 m.0).0;
     });
   }
 
@@ -116,7 +116,7 @@ module _ (log : Run) (start end used : ℕ) (blocks : ℕ → List ℕ) (long : 
   pub blocks_whole : (tree : Tree) → IsWhole image tree → Whole s blocks tree
   blocks_whole tree w = whole_carried (super_of image) s (blocks_of image) blocks tree w.whole (record { super = is_valid; long = λ k _. long k }) (sym (ap (λ (t : Super). t.log_start) super_is) ∙ w.whole.emptied ∙ ap (λ (t : Super). t.log_end) super_is) (record {
     fields = sym (ap geometry_of super_is);
-    blocks = λ k m apart. sym (block_is k (not_first k (times k (log_blocks (geometry_of (super_of image)))) apart) (subst (λ (t : Super). k < natural t.num_blocks) super_is ((w.whole.sound.accounts.marks k).1 m.0).0));
+    blocks = λ k m apart. sym (block_is k (not_first k (times k (log_blocks (geometry_of (super_of image)))) apart) (subst (λ (t : Super). k < natural t.num_blocks) super_is ((w.whole.sound.bits k).1 m.0).0));
   })
 
 -- with an empty log in blocks 2 and 3

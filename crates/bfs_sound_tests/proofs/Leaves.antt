@@ -1,5 +1,6 @@
 -- A stream's bytes are a tree of one leaf, by what its pages say.
-use Rattle.std.proofs.Common.{◌≡◌, ◌≤◌, ◌<◌, ◌+◌, ◌-◌, ◌%◌, ℕ, zero, suc, pos, negsuc, List, [], ◌∷◌, length, true, false, cond, Some, refl, sym, ap, ◌∙◌, subst, arith}
+use Rattle.std.proofs.Common.{◌≡◌, ◌≤◌, ◌<◌, ◌+◌, ◌-◌, ◌%◌, ℕ, zero, suc, pos, negsuc, List, [], ◌∷◌, length, Bool, true, false, cond, Some, refl, sym, ap, ◌∙◌, subst, arith}
+use Rattle.std.proofs.lemmas.Bool.{true≢false}
 use Rattle.std.specs.Prelude.{◌==◌, ◌&&◌, nat_le}
 use Rattle.std.specs.List.{flat_map, list_all, AllByRecursion}
 use Rattle.bfs_base.specs.Lists.{times, Has, counted_from}
@@ -10,11 +11,14 @@ use Rattle.bfs_node.specs.Page.{Row}
 use Rattle.bfs_pages.specs.Shapes.{leaf_body, leaf_shape, entries_in, AscendAll}
 use Rattle.bfs_pages.specs.Trees.{page_in, header_in, place_of, body_in, neighbours_in, held, IsTree}
 use Rattle.bfs_pages.proofs.Placed.{held_more}
-use Rattle.bfs_rows.specs.Rows.{rows_in}
-use Rattle.bfs_rows.specs.Reached.{times_named, chains_in, Ends, AreReached, IsWholeTree}
-use Rattle.bfs_values.specs.Values.{chain_of, fragment_count}
-use Rattle.bfs_rows.proofs.Rows.{rows_those}
-use Rattle.bfs_sound_tests.proofs.Finite.{same, counted_all}
+use Rattle.bfs_values.specs.Rows.{rows_in}
+use Rattle.bfs_values.specs.Reached.{times_named, chains_in, Ends, AreReached, AllMean, IsWholeTree}
+use Rattle.bfs_values.specs.Values.{chain_of, fragment_count, HasNumbers}
+use Rattle.bfs_values.specs.Links.{link_in}
+use Rattle.bfs_values.specs.declared.link.Link.{Link}
+use Rattle.bfs_values.specs.declared.link.Link.TheVariants.{Number, Fragment, Chain, Nothing}
+use Rattle.bfs_values.proofs.Rows.{rows_those}
+use Rattle.bfs_sound_tests.proofs.Finite.{both, same, counted_all}
 
 held_none : (x : ℕ) → held 0 x ≡ 0
 unfolding held
@@ -58,12 +62,18 @@ header_of kind size = record {
 -- what the header and the leaf behind it say, and which pages the leaf's values reach
 pub record IsOneLeaf (kind : KeyKind) (bytes : List ℕ) (size : ℕ) (reached : List ℕ) (rows : List Row) : Type 0 where
   pub long : length bytes ≡ size
+  pub pages : size % 1024 ≡ 0
   pub few : code_of kind ≤ 4
   pub header : header_in bytes ≡ header_of kind size
   pub body : body_in kind (page_in bytes 1024) ≡ Some (leaf_body rows)
   pub links : neighbours_in (page_in bytes 1024) ≡ (0, 0)
   pub ascend : AscendAll kind (entries_in rows)
   pub once : (x : ℕ) → times x (0 ∷ []) + times x reached + times x (1024 ∷ []) + times x [] ≡ held size x
+
+-- the pages that the values of rows reach, and that each value means numbers
+pub record IsValued (bytes : List ℕ) (rows : List Row) (reached : List ℕ) : Type 0 where
+  pub values : AreReached bytes rows reached
+  pub mean : AllMean bytes rows
 
 module _ (kind : KeyKind) (bytes : List ℕ) (size : ℕ) (reached : List ℕ) (rows : List Row) (leaf : IsOneLeaf kind bytes size reached rows) where
   pub one_tree : IsTree kind bytes reached (leaf_shape 1024 rows) []
@@ -90,18 +100,38 @@ module _ (kind : KeyKind) (bytes : List ℕ) (size : ℕ) (reached : List ℕ) (
   pub rows_are : rows_in kind bytes ≡ rows
   rows_are = sym (rows_those kind bytes reached (leaf_shape 1024 rows) [] one_tree)
 
-  pub whole_tree : AreReached bytes rows reached → IsWholeTree kind bytes
-  whole_tree values = record {
+  pub whole_tree : IsValued bytes rows reached → IsWholeTree kind bytes
+  whole_tree valued = record {
+    whole = ap (λ n. n % 1024) leaf.long ∙ leaf.pages;
     reached = reached;
     shape = leaf_shape 1024 rows;
     free = [];
     tree = one_tree;
-    values = subst (λ rs. AreReached bytes rs reached) (sym rows_are) values;
+    values = subst (λ rs. AreReached bytes rs reached) (sym rows_are) valued.values;
+    mean = subst (AllMean bytes) (sym rows_are) valued.mean;
   }
 
--- plain numbers reach no page
-pub plain_values : (bytes : List ℕ) (rows : List Row) → ((at f : ℕ) → times_named at f rows ≡ 0) → chains_in rows ≡ [] → AreReached bytes rows []
-plain_values bytes rows none no_chain = record {
+-- a link is a number
+abbrev pub is_number : Link → Bool
+is_number (Number n) = true
+is_number (Fragment page i) = false
+is_number (Chain page) = false
+is_number Nothing = false
+
+number_means : (bytes : List ℕ) (link : Link) → is_number link ≡ true → HasNumbers bytes link
+number_means bytes (Number n) e = tt
+number_means bytes (Fragment page i) e = absurd (true≢false (sym e))
+number_means bytes (Chain page) e = absurd (true≢false (sym e))
+number_means bytes Nothing e = absurd (true≢false (sym e))
+
+numbers_mean : (bytes : List ℕ) (rows : List Row) → list_all (λ r. is_number (link_in r.1)) rows ≡ true → AllMean bytes rows
+numbers_mean bytes [] e = tt
+numbers_mean bytes (r ∷ rs) e =
+    let p = both (is_number (link_in r.1)) (list_all (λ r. is_number (link_in r.1)) rs) e in
+    (number_means bytes (link_in r.1) p.0, numbers_mean bytes rs p.1)
+
+plain_reach : (bytes : List ℕ) (rows : List Row) → ((at f : ℕ) → times_named at f rows ≡ 0) → chains_in rows ≡ [] → AreReached bytes rows []
+plain_reach bytes rows none no_chain = record {
   fragments = [];
   parts = ap (flat_map (chain_of bytes)) (sym no_chain);
   ends = subst (λ firsts. AllByRecursion (Ends bytes) firsts) (sym no_chain) tt;
@@ -109,9 +139,13 @@ plain_values bytes rows none no_chain = record {
   each = λ at f h. absurd (let z : 0 < times at [] = h in omega (arith, z));
 }
 
+-- plain numbers reach no page
+pub plain_values : (bytes : List ℕ) (rows : List Row) → ((at f : ℕ) → times_named at f rows ≡ 0) → chains_in rows ≡ [] → list_all (λ r. is_number (link_in r.1)) rows ≡ true → IsValued bytes rows []
+plain_values bytes rows none no_chain numbers = record { values = plain_reach bytes rows none no_chain; mean = numbers_mean bytes rows numbers }
+
 -- the values reach one page of fragments, of which only the first is in use, and one row names it
 module _ (bytes : List ℕ) (rows : List Row) (page : ℕ) (named : (at f : ℕ) → times_named at f rows ≡ cond ((page == at) && (0 == f)) 1 0) (no_chain : chains_in rows ≡ [])
-    (others : list_all (λ f. fragment_count (page_in bytes page) f == 0) (counted_from 1 15) ≡ true) where
+    (others : list_all (λ f. fragment_count (page_in bytes page) f == 0) (counted_from 1 15) ≡ true) (mean : AllMean bytes rows) where
   found : (at : ℕ) → Has (page ∷ []) at → (page == at) ≡ true
   found at h = let some : 0 < cond (page == at) 1 0 + 0 = h in grind (arith, some)
 
@@ -129,11 +163,14 @@ module _ (bytes : List ℕ) (rows : List Row) (page : ℕ) (named : (at f : ℕ)
       let used : 0 < fragment_count (page_in bytes page) (suc f) = subst (λ p. 0 < fragment_count (page_in bytes p) (suc f)) (sym here) some in
       absurd (omega (arith, free, used))
 
-  pub one_fragment : AreReached bytes rows (page ∷ [])
-  one_fragment = record {
+  one_reach : AreReached bytes rows (page ∷ [])
+  one_reach = record {
     fragments = page ∷ [];
     parts = ap (λ firsts. page ∷ flat_map (chain_of bytes) firsts) (sym no_chain);
     ends = subst (λ firsts. AllByRecursion (Ends bytes) firsts) (sym no_chain) tt;
     named = λ at. ((λ h. (0, first_named at (found at h))), (λ f. back at f.0 f.1));
     each = each_one;
   }
+
+  pub one_fragment : IsValued bytes rows (page ∷ [])
+  one_fragment = record { values = one_reach; mean = mean }

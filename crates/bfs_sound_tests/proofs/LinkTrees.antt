@@ -27,43 +27,43 @@ pub root_tree : HasTree v 4 Text root_rows
 unfolding unsigned_at signed32_at signed64_at run_in runs_in unsigned_bytes signed32_bytes signed64_bytes run_bytes array_runs level_blocks bytes_at rows_of header_bytes head_bytes bytes_of level_bytes inode_block header_block leaf_block blocks link_in
 root_tree = tree_at v 4 Text 2048 [] root_rows (is_inode (v.blocks 4) 4 13 refl refl refl refl refl)
     (record { direct = refl; table = inl refl; in_table = refl; double = refl; arrays = refl; runs = refl; direct_range = refl; indirect_range = refl; double_range = refl; size_is = refl; enough = refl })
-    (record { long = refl; few = most (code_of Text) 4 refl; header = refl; body = refl; links = refl; ascend = ((refl, (refl, (refl, (refl, tt)))), ((refl, (refl, (refl, tt))), ((refl, (refl, tt)), ((refl, tt), (tt, tt))))); once = two_held })
-    (plain_values (content v 4) root_rows (λ at f. refl) refl)
+    (record { long = refl; pages = refl; few = most (code_of Text) 4 refl; header = refl; body = refl; links = refl; ascend = ((refl, (refl, (refl, (refl, tt)))), ((refl, (refl, (refl, tt))), ((refl, (refl, tt)), ((refl, tt), (tt, tt))))); once = two_held })
+    (plain_values (content v 4) root_rows (λ at f. refl) refl refl)
 
 pub indices_tree : HasTree v 7 Text index_rows
 unfolding unsigned_at signed32_at signed64_at run_in runs_in unsigned_bytes signed32_bytes signed64_bytes run_bytes array_runs level_blocks bytes_at rows_of header_bytes head_bytes bytes_of level_bytes inode_block header_block leaf_block blocks link_in
 indices_tree = tree_at v 7 Text 2048 [] index_rows (is_inode (v.blocks 7) 7 13 refl refl refl refl refl)
     (record { direct = refl; table = inl refl; in_table = refl; double = refl; arrays = refl; runs = refl; direct_range = refl; indirect_range = refl; double_range = refl; size_is = refl; enough = refl })
-    (record { long = refl; few = most (code_of Text) 4 refl; header = refl; body = refl; links = refl; ascend = ((refl, (refl, tt)), ((refl, tt), (tt, tt))); once = two_held })
-    (plain_values (content v 7) index_rows (λ at f. refl) refl)
+    (record { long = refl; pages = refl; few = most (code_of Text) 4 refl; header = refl; body = refl; links = refl; ascend = ((refl, (refl, tt)), ((refl, tt), (tt, tt))); once = two_held })
+    (plain_values (content v 7) index_rows (λ at f. refl) refl refl)
 
 pub name_tree : HasTree v 10 Text name_rows
 unfolding unsigned_at signed32_at signed64_at run_in runs_in unsigned_bytes signed32_bytes signed64_bytes run_bytes array_runs level_blocks bytes_at rows_of header_bytes head_bytes bytes_of level_bytes inode_block header_block leaf_block blocks link_in
 name_tree = tree_at v 10 Text 2048 [] name_rows (is_inode (v.blocks 10) 10 13 refl refl refl refl refl)
     (record { direct = refl; table = inl refl; in_table = refl; double = refl; arrays = refl; runs = refl; direct_range = refl; indirect_range = refl; double_range = refl; size_is = refl; enough = refl })
-    (record { long = refl; few = most (code_of Text) 4 refl; header = refl; body = refl; links = refl; ascend = ((refl, (refl, tt)), ((refl, tt), (tt, tt))); once = two_held })
-    (plain_values (content v 10) name_rows (λ at f. refl) refl)
+    (record { long = refl; pages = refl; few = most (code_of Text) 4 refl; header = refl; body = refl; links = refl; ascend = ((refl, (refl, tt)), ((refl, tt), (tt, tt))); once = two_held })
+    (plain_values (content v 10) name_rows (λ at f. refl) refl refl)
 
 pub size_tree : HasTree v 13 I64 size_rows
 unfolding unsigned_at signed32_at signed64_at run_in runs_in unsigned_bytes signed32_bytes signed64_bytes run_bytes array_runs level_blocks bytes_at rows_of header_bytes head_bytes bytes_of level_bytes inode_block header_block leaf_block blocks link_in
 size_tree = tree_at v 13 I64 2048 [] size_rows (is_inode (v.blocks 13) 13 13 refl refl refl refl refl)
     (record { direct = refl; table = inl refl; in_table = refl; double = refl; arrays = refl; runs = refl; direct_range = refl; indirect_range = refl; double_range = refl; size_is = refl; enough = refl })
-    (record { long = refl; few = most (code_of I64) 4 refl; header = refl; body = refl; links = refl; ascend = (tt, tt); once = two_held })
-    (plain_values (content v 13) size_rows (λ at f. refl) refl)
+    (record { long = refl; pages = refl; few = most (code_of I64) 4 refl; header = refl; body = refl; links = refl; ascend = (tt, tt); once = two_held })
+    (plain_values (content v 13) size_rows (λ at f. refl) refl refl)
 
 pub time_tree : HasTree v 16 I64 time_rows
 unfolding unsigned_at signed32_at signed64_at run_in runs_in unsigned_bytes signed32_bytes signed64_bytes run_bytes array_runs level_blocks bytes_at rows_of header_bytes head_bytes bytes_of level_bytes inode_block header_block leaf_block blocks link_in
 time_tree = tree_at v 16 I64 2048 [] time_rows (is_inode (v.blocks 16) 16 13 refl refl refl refl refl)
     (record { direct = refl; table = inl refl; in_table = refl; double = refl; arrays = refl; runs = refl; direct_range = refl; indirect_range = refl; double_range = refl; size_is = refl; enough = refl })
-    (record { long = refl; few = most (code_of I64) 4 refl; header = refl; body = refl; links = refl; ascend = (tt, tt); once = two_held })
-    (plain_values (content v 16) time_rows (λ at f. refl) refl)
+    (record { long = refl; pages = refl; few = most (code_of I64) 4 refl; header = refl; body = refl; links = refl; ascend = (tt, tt); once = two_held })
+    (plain_values (content v 16) time_rows (λ at f. refl) refl refl)
 
 pub attribute_tree : HasTree v 24 Text attribute_rows
 unfolding unsigned_at signed32_at signed64_at run_in runs_in unsigned_bytes signed32_bytes signed64_bytes run_bytes array_runs level_blocks bytes_at rows_of header_bytes head_bytes bytes_of level_bytes inode_block header_block leaf_block blocks link_in
 attribute_tree = tree_at v 24 Text 2048 [] attribute_rows (is_inode (v.blocks 24) 24 13 refl refl refl refl refl)
     (record { direct = refl; table = inl refl; in_table = refl; double = refl; arrays = refl; runs = refl; direct_range = refl; indirect_range = refl; double_range = refl; size_is = refl; enough = refl })
-    (record { long = refl; few = most (code_of Text) 4 refl; header = refl; body = refl; links = refl; ascend = (tt, tt); once = two_held })
-    (plain_values (content v 24) attribute_rows (λ at f. refl) refl)
+    (record { long = refl; pages = refl; few = most (code_of Text) 4 refl; header = refl; body = refl; links = refl; ascend = (tt, tt); once = two_held })
+    (plain_values (content v 24) attribute_rows (λ at f. refl) refl refl)
 
 pub long_owner : IsOwner v 20
 unfolding unsigned_at signed32_at signed64_at run_in runs_in unsigned_bytes signed32_bytes signed64_bytes run_bytes array_runs level_blocks bytes_at rows_of header_bytes head_bytes bytes_of level_bytes inode_block header_block leaf_block blocks

@@ -15,7 +15,7 @@ use Rattle.bfs_stream.specs.Places.{array_runs, level_blocks, bytes_at, HasStrea
 use Rattle.bfs_tree.specs.declared.call.Kind.{Kind}
 use Rattle.bfs_tree.specs.declared.call.Kind.TheVariants.{File, Dir, Link}
 use Rattle.bfs_tree.specs.Trees.{Tree, Node}
-use Rattle.bfs_rows.specs.Rows.{rows_in}
+use Rattle.bfs_values.specs.Rows.{rows_in}
 use Rattle.bfs_sound.specs.Volumes.{Volume, sizes}
 use Rattle.bfs_sound.specs.Inodes.{content, kind_bits}
 use Rattle.bfs_sound.specs.Attributes.{Named, IsAttributeRow, IsAttributeDirectory, attributes_in, attributes_of, attribute_directory}

@@ -1,5 +1,5 @@
 -- An image whose log isn't empty recovers to the tree.
-use Rattle.std.proofs.Common.{◌≡◌, ◌<◌, inl, ℕ, pos, List, [], ◌∷◌, length, refl, ap, subst, arith}
+use Rattle.std.proofs.Common.{inr, ◌≡◌, ◌<◌, inl, ℕ, pos, List, [], ◌∷◌, length, refl, ap, subst, arith}
 use Rattle.std.proofs.lemmas.Int.{ints}
 use Rattle.std.proofs.lemmas.List.Elements.{All-cons, All-nil}
 use Rattle.bfs_bytes.specs.Fields.{unsigned_at, signed32_at, signed64_at, run_in, unsigned_bytes, signed32_bytes, signed64_bytes, run_bytes}
@@ -43,7 +43,7 @@ module _ (start end : ℕ) (some : start < 8) (more : end < 8) where
     log_start = (omega (arith, ints), omega (arith, ints, some));
     log_end = (omega (arith, ints), omega (arith, ints, more));
     root = root_run;
-    indices = (indices_run, λ e. let bad : 7 ≡ 4 = e in omega (arith, bad));
+    indices = inr (indices_run, λ e. let bad : 7 ≡ 4 = e in omega (arith, bad));
   }
 
 reads_before : super_at (sector_of super_before) ≡ super_before

@@ -16,7 +16,7 @@ use Rattle.bfs_node.specs.Page.{rows_of, head_bytes}
 use Rattle.bfs_smalldata.specs.Items.{Item, items_of, bytes_of}
 use Rattle.bfs_stream.specs.Places.{array_runs, level_blocks, arrays_of, bytes_at}
 use Rattle.bfs_tree.specs.Trees.{Node}
-use Rattle.bfs_rows.specs.Rows.{rows_in}
+use Rattle.bfs_values.specs.Rows.{rows_in}
 use Rattle.bfs_values.specs.Links.{link_in}
 use Rattle.bfs_sound.specs.Listings.{IsChild, Lists, IsIndex}
 use Rattle.bfs_sound.specs.Inodes.{kind_bits}
@@ -141,20 +141,17 @@ index_directory : IsIndex v 7 Text
 unfolding unsigned_at signed32_at signed64_at run_in runs_in unsigned_bytes signed32_bytes signed64_bytes run_bytes array_runs level_blocks bytes_at rows_of header_bytes head_bytes bytes_of level_bytes inode_block header_block leaf_block blocks
 index_directory = record { owner = indices_tree.owner; mode = refl; kind_is = tt; tree = indices_tree.tree }
 
-two_once : (k : ℕ) → times k (23 ∷ 24 ∷ []) ≤ 1
-two_once k = grind arith
-
 by_time : IsListing v (tree_of nodes) (codes "last_modified") 16 I64
 unfolding unsigned_at signed32_at signed64_at run_in runs_in unsigned_bytes signed32_bytes signed64_bytes run_bytes array_runs level_blocks bytes_at rows_of header_bytes head_bytes bytes_of level_bytes inode_block header_block leaf_block blocks link_in number_of
-by_time = listing v nodes (codes "last_modified") 16 I64 time_rows tested time_tree refl tt (((most 1 4096 refl, refl), (0, refl), (record { some = most 1 2 refl; fits = most 2 125 refl; ascend = refl }, tt), two_once), (tt, tt)) refl
+by_time = listing v nodes (codes "last_modified") 16 I64 time_rows tested time_tree refl tt refl
 
 by_name : IsListing v (tree_of nodes) (codes "name") 10 Text
 unfolding unsigned_at signed32_at signed64_at run_in runs_in unsigned_bytes signed32_bytes signed64_bytes run_bytes array_runs level_blocks bytes_at rows_of header_bytes head_bytes bytes_of level_bytes inode_block header_block leaf_block blocks link_in
-by_name = listing v nodes (codes "name") 10 Text name_rows tested name_tree refl tt (tt, (tt, (tt, tt))) refl
+by_name = listing v nodes (codes "name") 10 Text name_rows tested name_tree refl tt refl
 
 by_size : IsListing v (tree_of nodes) (codes "size") 13 I64
 unfolding unsigned_at signed32_at signed64_at run_in runs_in unsigned_bytes signed32_bytes signed64_bytes run_bytes array_runs level_blocks bytes_at rows_of header_bytes head_bytes bytes_of level_bytes inode_block header_block leaf_block blocks link_in number_of
-by_size = listing v nodes (codes "size") 13 I64 size_rows tested size_tree refl tt (tt, (tt, (tt, tt))) refl
+by_size = listing v nodes (codes "size") 13 I64 size_rows tested size_tree refl tt refl
 
 abbrev xs : List ℕ
 xs = 0 ∷ 2 ∷ 3 ∷ 1 ∷ 4 ∷ 5 ∷ 6 ∷ 23 ∷ 24 ∷ 25 ∷ 26 ∷ 27 ∷ 7 ∷ 8 ∷ 9 ∷ 16 ∷ 17 ∷ 18 ∷ 19 ∷ 20 ∷ 21 ∷ 22 ∷ 10 ∷ 11 ∷ 12 ∷ 13 ∷ 14 ∷ 15 ∷ []

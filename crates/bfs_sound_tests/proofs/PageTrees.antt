@@ -1,12 +1,12 @@
 -- The trees and the streams of the volume with an interior page, duplicates and a free page.
-use Rattle.std.proofs.Common.{◌<◌, ◌++◌, inl, arith, List, [], ◌∷◌, refl}
+use Rattle.std.proofs.Common.{ℕ, ◌≤◌, ◌<◌, ◌++◌, inl, arith, List, [], ◌∷◌, refl}
 use Rattle.bfs_base.specs.declared.kind.KeyKind.TheVariants.{Text, I64}
 use Rattle.bfs_bytes.specs.Fields.{unsigned_at, signed32_at, signed64_at, run_in, unsigned_bytes, signed32_bytes, signed64_bytes, run_bytes}
 use Rattle.bfs_inode.specs.Inode.{runs_in}
 use Rattle.bfs_pages.specs.Shapes.{Shape, leaf_shape, node_shape, last_shape, more_shapes}
 use Rattle.bfs_pages.specs.Trees.{IsTree}
-use Rattle.bfs_rows.specs.Rows.{rows_in}
-use Rattle.bfs_rows.specs.Reached.{AreReached}
+use Rattle.bfs_values.specs.Rows.{rows_in}
+use Rattle.bfs_values.specs.Reached.{AreReached, AllMean}
 use Rattle.bfs_base.specs.Lists.{times}
 use Rattle.bfs_base.specs.Keys.{number_of}
 use Rattle.bfs_node.specs.Header.{header_bytes, code_of}
@@ -32,29 +32,29 @@ pub root_tree : HasTree v 4 Text root_rows
 unfolding unsigned_at signed32_at signed64_at run_in runs_in unsigned_bytes signed32_bytes signed64_bytes run_bytes array_runs level_blocks bytes_at rows_of header_bytes head_bytes bytes_of level_bytes inode_block header_block leaf_block blocks link_in
 root_tree = tree_at v 4 Text 2048 [] root_rows (is_inode (v.blocks 4) 4 13 refl refl refl refl refl)
     (record { direct = refl; table = inl refl; in_table = refl; double = refl; arrays = refl; runs = refl; direct_range = refl; indirect_range = refl; double_range = refl; size_is = refl; enough = refl })
-    (record { long = refl; few = most (code_of Text) 4 refl; header = refl; body = refl; links = refl; ascend = ((refl, (refl, (refl, (refl, tt)))), ((refl, (refl, (refl, tt))), ((refl, (refl, tt)), ((refl, tt), (tt, tt))))); once = two_held })
-    (plain_values (content v 4) root_rows (λ at f. refl) refl)
+    (record { long = refl; pages = refl; few = most (code_of Text) 4 refl; header = refl; body = refl; links = refl; ascend = ((refl, (refl, (refl, (refl, tt)))), ((refl, (refl, (refl, tt))), ((refl, (refl, tt)), ((refl, tt), (tt, tt))))); once = two_held })
+    (plain_values (content v 4) root_rows (λ at f. refl) refl refl)
 
 pub indices_tree : HasTree v 7 Text index_rows
 unfolding unsigned_at signed32_at signed64_at run_in runs_in unsigned_bytes signed32_bytes signed64_bytes run_bytes array_runs level_blocks bytes_at rows_of header_bytes head_bytes bytes_of level_bytes inode_block header_block leaf_block blocks link_in
 indices_tree = tree_at v 7 Text 2048 [] index_rows (is_inode (v.blocks 7) 7 13 refl refl refl refl refl)
     (record { direct = refl; table = inl refl; in_table = refl; double = refl; arrays = refl; runs = refl; direct_range = refl; indirect_range = refl; double_range = refl; size_is = refl; enough = refl })
-    (record { long = refl; few = most (code_of Text) 4 refl; header = refl; body = refl; links = refl; ascend = ((refl, (refl, tt)), ((refl, tt), (tt, tt))); once = two_held })
-    (plain_values (content v 7) index_rows (λ at f. refl) refl)
+    (record { long = refl; pages = refl; few = most (code_of Text) 4 refl; header = refl; body = refl; links = refl; ascend = ((refl, (refl, tt)), ((refl, tt), (tt, tt))); once = two_held })
+    (plain_values (content v 7) index_rows (λ at f. refl) refl refl)
 
 pub name_tree : HasTree v 10 Text name_rows
 unfolding unsigned_at signed32_at signed64_at run_in runs_in unsigned_bytes signed32_bytes signed64_bytes run_bytes array_runs level_blocks bytes_at rows_of header_bytes head_bytes bytes_of level_bytes inode_block header_block leaf_block blocks link_in
 name_tree = tree_at v 10 Text 2048 [] name_rows (is_inode (v.blocks 10) 10 13 refl refl refl refl refl)
     (record { direct = refl; table = inl refl; in_table = refl; double = refl; arrays = refl; runs = refl; direct_range = refl; indirect_range = refl; double_range = refl; size_is = refl; enough = refl })
-    (record { long = refl; few = most (code_of Text) 4 refl; header = refl; body = refl; links = refl; ascend = ((refl, (refl, tt)), ((refl, tt), (tt, tt))); once = two_held })
-    (plain_values (content v 10) name_rows (λ at f. refl) refl)
+    (record { long = refl; pages = refl; few = most (code_of Text) 4 refl; header = refl; body = refl; links = refl; ascend = ((refl, (refl, tt)), ((refl, tt), (tt, tt))); once = two_held })
+    (plain_values (content v 10) name_rows (λ at f. refl) refl refl)
 
 pub size_tree : HasTree v 13 I64 size_rows
 unfolding unsigned_at signed32_at signed64_at run_in runs_in unsigned_bytes signed32_bytes signed64_bytes run_bytes array_runs level_blocks bytes_at rows_of header_bytes head_bytes bytes_of level_bytes inode_block header_block leaf_block blocks link_in number_of
 size_tree = tree_at v 13 I64 2048 [] size_rows (is_inode (v.blocks 13) 13 13 refl refl refl refl refl)
     (record { direct = refl; table = inl refl; in_table = refl; double = refl; arrays = refl; runs = refl; direct_range = refl; indirect_range = refl; double_range = refl; size_is = refl; enough = refl })
-    (record { long = refl; few = most (code_of I64) 4 refl; header = refl; body = refl; links = refl; ascend = ((refl, (refl, tt)), ((refl, tt), (tt, tt))); once = two_held })
-    (plain_values (content v 13) size_rows (λ at f. refl) refl)
+    (record { long = refl; pages = refl; few = most (code_of I64) 4 refl; header = refl; body = refl; links = refl; ascend = ((refl, (refl, tt)), ((refl, tt), (tt, tt))); once = two_held })
+    (plain_values (content v 13) size_rows (λ at f. refl) refl refl)
 
 abbrev pub time_rows : List Row
 time_rows = first_rows ++ last_rows
@@ -85,12 +85,19 @@ time_values = record {
   each = λ at f h. absurd (let z : 0 < times at [] = h in omega (arith, z));
 }
 
+two_once : (k : ℕ) → times k (23 ∷ 24 ∷ []) ≤ 1
+two_once k = grind arith
+
+time_mean : AllMean (content v 16) time_rows
+unfolding unsigned_at signed32_at signed64_at run_in runs_in unsigned_bytes signed32_bytes signed64_bytes run_bytes array_runs level_blocks bytes_at rows_of header_bytes head_bytes bytes_of level_bytes inode_block header_block leaf_block blocks link_in number_of
+time_mean = (((most 1 4096 refl, refl), (0, refl), (record { some = most 1 2 refl; fits = most 2 125 refl; ascend = refl }, tt), two_once), (tt, tt))
+
 pub time_tree : HasTree v 16 I64 time_rows
 unfolding unsigned_at signed32_at signed64_at run_in runs_in unsigned_bytes signed32_bytes signed64_bytes run_bytes array_runs level_blocks bytes_at rows_of header_bytes head_bytes bytes_of level_bytes inode_block header_block leaf_block blocks rows_in
 time_tree = record {
   owner = owner_at v 16 6144 (is_inode (v.blocks 16) 16 13 refl refl refl refl refl)
       (record { direct = refl; table = inl refl; in_table = refl; double = refl; arrays = refl; runs = refl; direct_range = refl; indirect_range = refl; double_range = refl; size_is = refl; enough = refl });
-  tree = record { reached = 4096 ∷ []; shape = shape; free = 5120 ∷ []; tree = time_shape; values = time_values };
+  tree = record { whole = refl; reached = 4096 ∷ []; shape = shape; free = 5120 ∷ []; tree = time_shape; values = time_values; mean = time_mean };
   rows_of = refl;
 }
 

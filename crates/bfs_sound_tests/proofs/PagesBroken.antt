@@ -12,8 +12,8 @@ use Rattle.bfs_stream.specs.Places.{array_runs, level_blocks, bytes_at}
 use Rattle.bfs_tree.specs.Trees.{Tree}
 use Rattle.bfs_super.specs.Conditions.{natural}
 use Rattle.bfs_values.specs.declared.link.Link.TheVariants.{Chain}
-use Rattle.bfs_rows.specs.Rows.{rows_in}
-use Rattle.bfs_rows.specs.Reached.{IsWholeTree}
+use Rattle.bfs_values.specs.Rows.{rows_in}
+use Rattle.bfs_values.specs.Reached.{IsWholeTree}
 use Rattle.bfs_values.specs.Links.{link_in}
 use Rattle.bfs_values.specs.Values.{next_of, EndsAfter, HasNumbers, HasValues}
 use Rattle.bfs_sound.specs.Volumes.{Volume}

@@ -1,5 +1,5 @@
 -- A tree whose nodes and indices are written out is plain, by tests that compute.
-use Rattle.std.proofs.Common.{◌≡◌, ◌≢◌, ℕ, zero, suc, List, [], Option, Some, None, Bool, true, false, not, ◌||◌, T, refl, sym, ◌∙◌, subst, arith, ⊎_elim}
+use Rattle.std.proofs.Common.{◌≡◌, ◌≢◌, inr, ℕ, zero, suc, List, [], Option, Some, None, Bool, true, false, not, ◌||◌, T, refl, sym, ◌∙◌, subst, arith, ⊎_elim}
 use Rattle.std.proofs.lemmas.Bool.{true≢false}
 use Rattle.std.specs.Prelude.{◌==◌, codes}
 use Rattle.std.specs.List.{AllByRecursion, list_all}
@@ -128,13 +128,17 @@ module _ (root : ℕ) (nodes : List (ℕ × Node)) (indices : List (List ℕ × 
 
     pub plain : IsPlain tree
     plain = record {
-      root = root_dir;
-      own = root_own;
-      parents = parent_dir;
-      lead = leads;
-      apart = one;
-      named = good;
-      by_name = index_is (codes "name") Text f.by_name;
-      by_size = index_is (codes "size") I64 f.by_size;
-      by_time = index_is (codes "last_modified") I64 f.by_time;
+      nodes = record {
+        root = root_dir;
+        own = root_own;
+        parents = parent_dir;
+        lead = leads;
+        apart = one;
+        named = good;
+      };
+      indices = inr (record {
+        by_name = index_is (codes "name") Text f.by_name;
+        by_size = index_is (codes "size") I64 f.by_size;
+        by_time = index_is (codes "last_modified") I64 f.by_time;
+      });
     }

@@ -2,7 +2,7 @@
 use Rattle.std.proofs.Common.{◌≡◌, ◌≢◌, ◌↔◌, ◌≤◌, ◌<◌, ◌*◌, ◌⊎◌, inl, inr, ℕ, ℤ, pos, List, [], ◌∷◌, ◌++◌, length, Some, None, Bool, true, false, cond, ◌&&◌, refl, sym, ap, ◌∙◌, subst, arith, ⊎_elim}
 use Rattle.std.specs.Prelude.{◌==◌, codes, nat_le, nat_lt}
 use Rattle.std.specs.List.{AllByRecursion, list_all, filter, flat_map}
-use Rattle.std.specs.FinMap.{get, find}
+use Rattle.std.specs.FinMap.{get, find, empty, get-empty}
 use Rattle.std.specs.Ordering.{is_eq}
 use Rattle.bfs_base.specs.Keys.{text_cmp, IsTreeKind}
 use Rattle.bfs_base.specs.Lists.{times, Has, counted_from}
@@ -18,19 +18,19 @@ use Rattle.bfs_stream.specs.Places.{levels_at}
 use Rattle.bfs_tree.specs.declared.call.Kind.TheVariants.{Dir}
 use Rattle.bfs_tree.specs.Listings.{listed, listed_among}
 use Rattle.bfs_tree.specs.Trees.{Node, Tree}
-use Rattle.bfs_rows.specs.Rows.{rows_in}
-use Rattle.bfs_rows.specs.Reached.{AreReached, IsWholeTree, AreWritten, pairs_of}
-use Rattle.bfs_values.specs.Values.{HasValues}
+use Rattle.bfs_values.specs.Rows.{rows_in}
+use Rattle.bfs_values.specs.Reached.{IsWholeTree, AreWritten, pairs_of}
 use Rattle.bfs_sound.specs.Volumes.{Volume, sizes, bitmap_blocks, IsMarked}
-use Rattle.bfs_sound.specs.Inodes.{HasBit, mode_bits, content, IsOwner, is_proper, proper_rows}
+use Rattle.bfs_sound.specs.Inodes.{HasBit, mode_bits, content, IsOwner, is_proper, rows_of, index_directory}
 use Rattle.bfs_sound.specs.Nodes.{HasNode}
-use Rattle.bfs_sound.specs.Listings.{IsChild, IsRow, Lists, IsIndex, IsIndexRow, IsIndexOf, Stands}
+use Rattle.bfs_sound.specs.Listings.{IsChild, IsRow, Lists, IsIndex, HasIndexDirectory, IsIndexRow, IsIndexOf, Stands}
 use Rattle.bfs_sound.specs.Owners.{node_blocks, index_blocks, fixed_blocks, reach, Accounts}
+use Rattle.bfs_sound.proofs.Parts.{sound_from}
 use Rattle.bfs_sound.specs.Whole.{HasIndices, IsSound}
 use Rattle.bfs_sound_tests.specs.Worked.{index_rows, index_kinds, tree_of}
 use Rattle.bfs_sound_tests.proofs.Finite.{both, most, low, same, counted_all, none_above, text_one}
 use Rattle.bfs_sound_tests.proofs.Plain.{IsTested, plain, nodes_are, each_node, each_index, index_is}
-use Rattle.bfs_sound_tests.proofs.Leaves.{IsOneLeaf, rows_are, whole_tree}
+use Rattle.bfs_sound_tests.proofs.Leaves.{IsOneLeaf, IsValued, rows_are, whole_tree}
 use Rattle.bfs_sound_tests.proofs.Streams.{IsSmall, has_levels}
 use Rattle.std.specs.declared.cmp.Ordering.{Ordering}
 use Rattle.std.specs.declared.cmp.Ordering.TheVariants.{Less, Equal, Greater}
@@ -42,7 +42,7 @@ pub record HasTree (v : Volume) (id : ℕ) (kind : KeyKind) (rows : List Row) : 
   pub rows_of : rows_in kind (content v id) ≡ rows
 
 pub tree_at : (v : Volume) (id : ℕ) (kind : KeyKind) (size : ℕ) (reached : List ℕ) (rows : List Row) → IsInode (v.blocks id) id v.geometry.shift → IsSmall (sizes v.geometry) (levels_at (sizes v.geometry) v.blocks id) size
-    → IsOneLeaf kind (content v id) size reached rows → AreReached (content v id) rows reached → HasTree v id kind rows
+    → IsOneLeaf kind (content v id) size reached rows → IsValued (content v id) rows reached → HasTree v id kind rows
 tree_at v id kind size reached rows inode small leaf values = record {
   owner = record { inode = inode; stream = has_levels (sizes v.geometry) (levels_at (sizes v.geometry) v.blocks id) size small };
   tree = whole_tree kind (content v id) size reached rows leaf values;
@@ -122,10 +122,10 @@ pub record IsListing (v : Volume) (tree : Tree) (name : List ℕ) (id : ℕ) (ki
   pub written : AreWritten (content v id) (rows_in kind (content v id)) (listed tree name kind)
 
 pub listing : (v : Volume) (nodes : List (ℕ × Node)) (name : List ℕ) (id : ℕ) (kind : KeyKind) (rows : List Row) → IsTested 4 nodes index_kinds → HasTree v id kind rows → HasBit (mode_bits v id) 29 → IsTreeKind kind
-    → AllByRecursion (λ r. HasValues (content v id) r.1) rows → listed_among 4 name kind nodes ≡ flat_map (pairs_of (content v id)) rows → IsListing v (tree_of nodes) name id kind
-listing v nodes name id kind rows tested t bit is_kind mean are = record {
+    → listed_among 4 name kind nodes ≡ flat_map (pairs_of (content v id)) rows → IsListing v (tree_of nodes) name id kind
+listing v nodes name id kind rows tested t bit is_kind are = record {
   index = record { owner = t.owner; mode = bit; kind_is = is_kind; tree = t.tree };
-  written = subst (λ rs. AreWritten (content v id) rs (listed (tree_of nodes) name kind)) (sym t.rows_of) (record { mean = mean; are = ap (listed_among 4 name kind) (nodes_are 4 nodes index_kinds tested) ∙ are });
+  written = subst (λ rs. AreWritten (content v id) rs (listed (tree_of nodes) name kind)) (sym t.rows_of) (record { are = ap (listed_among 4 name kind) (nodes_are 4 nodes index_kinds tested) ∙ are });
 }
 
 -- the blocks that are reached, where the nodes are written out
@@ -152,8 +152,16 @@ module _ (v : Volume) (nodes : List (ℕ × Node)) (root : v.geometry.root ≡ 4
   abbrev t : Tree
   t = tree_of nodes
 
-  rows_proper : proper_rows v v.geometry.indices ≡ index_rows
-  rows_proper = ap (λ id. proper_rows v id) directory_at ∙ ap (λ rs. filter (λ row. is_proper row.0) rs) rows
+  directory_there : index_directory v ≡ Some 7
+  directory_there = ap (λ id. cond (id == 0) None (Some id)) directory_at
+
+  rows_proper : rows_of v (index_directory v) ≡ index_rows
+  rows_proper = ap (rows_of v) directory_there ∙ ap (λ rs. filter (λ row. is_proper row.0) rs) rows
+
+  some_index : t.indices ≡ empty → ⊥
+  some_index e =
+      let none : None ≡ Some Text = sym (get-empty text_cmp (codes "name")) ∙ sym (ap (λ m. get m (codes "name")) e) ∙ index_is 4 nodes index_kinds tested (codes "name") Text refl in
+      cc
 
   index_row : (name : List ℕ) (value : ℤ) → IsIndexRow v name value → assoc Text index_rows name ≡ Some value
   index_row name value row = subst (λ rs. assoc Text rs name ≡ Some value) rows_proper row
@@ -209,10 +217,11 @@ module _ (v : Volume) (nodes : List (ℕ × Node)) (root : v.geometry.root ≡ 4
     root = sym root;
     nodes = λ id n is. each_node 4 nodes index_kinds tested (HasNode v) all_nodes id n is;
     listings = λ id n is dir. each_node 4 nodes index_kinds tested (λ id n. n.kind ≡ Dir → Lists v t id n) all_lists id n is dir;
-    directory = subst (λ id. IsIndex v id Text) (sym directory_at) directory;
+    directory = subst (HasIndexDirectory v) (sym directory_there) directory;
+    none = ((λ e. absurd (let bad : 7 ≡ 0 = sym directory_at ∙ e in omega (arith, bad))), (λ e. absurd (some_index e)));
     indices = index_of;
     no_more = no_more;
   }
 
   pub sound : IsSound v t
-  sound = record { plain = plain 4 nodes index_kinds tested; stands = stands; indices = listings; accounts = subst (Accounts v) (sym reach_is) (accounts_are v xs counted) }
+  sound = sound_from v t (plain 4 nodes index_kinds tested) stands listings (subst (Accounts v) (sym reach_is) (accounts_are v xs counted))

@@ -31,7 +31,7 @@ module _ (used : ℕ) where
     log_start = (omega (arith, ints), omega (arith, ints));
     log_end = (omega (arith, ints), omega (arith, ints));
     root = root_run;
-    indices = (indices_run, λ e. let bad : 7 ≡ 4 = e in omega (arith, bad));
+    indices = inr (indices_run, λ e. let bad : 7 ≡ 4 = e in omega (arith, bad));
   }
 
 -- the volume is whole where it is sound

@@ -83,8 +83,8 @@ module _ (s : Super) (blocks : ℕ → List ℕ) (tree : Tree) (w : Whole s bloc
     where
       set : (bit v k == 1) ≡ true → times k xs ≡ cond (bit v k == 1) 1 0
       set e =
-          let has : 0 < times k xs = (w.sound.accounts.marks k).0 (inside, same (bit v k) 1 e) in
-          let most : times k xs ≤ 1 = w.sound.accounts.once k in
+          let has : 0 < times k xs = (w.sound.bits k).0 (inside, same (bit v k) 1 e) in
+          let most : times k xs ≤ 1 = w.sound.nodes.once k in
           let one : ◌≡◌ {A = ℕ} (cond (bit v k == 1) 1 0) 1 = ap (λ b. cond b 1 0) e in
           omega (arith, has, most, one)
 
@@ -94,7 +94,7 @@ module _ (s : Super) (blocks : ℕ → List ℕ) (tree : Tree) (w : Whole s bloc
 
       clear : (bit v k == 1) ≡ false → times k xs ≡ cond (bit v k == 1) 1 0
       clear e =
-          let none : times k xs ≡ 0 = not_set (bit v k) (times k xs) e (λ some. ((w.sound.accounts.marks k).1 some).1) in
+          let none : times k xs ≡ 0 = not_set (bit v k) (times k xs) e (λ some. ((w.sound.bits k).1 some).1) in
           let zero_here : ◌≡◌ {A = ℕ} (cond (bit v k == 1) 1 0) 0 = ap (λ b. cond b 1 0) e in
           omega (arith, none, zero_here)
 
@@ -104,7 +104,7 @@ module _ (s : Super) (blocks : ℕ → List ℕ) (tree : Tree) (w : Whole s bloc
   all_bits (suc n) h = let ih = all_bits n (omega (arith, h)) in let here = one_bit n (omega (arith, h)) in omega (arith, ih, here)
 
   pub used_is : v.geometry.used ≡ ones v v.geometry.blocks
-  used_is = w.sound.accounts.used ∙ sym (total_length v.geometry.blocks xs (λ k has. ((w.sound.accounts.marks k).1 has).0)) ∙ all_bits v.geometry.blocks (omega arith)
+  used_is = w.sound.used ∙ sym (total_length v.geometry.blocks xs (λ k has. ((w.sound.bits k).1 has).0)) ∙ all_bits v.geometry.blocks (omega arith)
 
 -- a list that is put in order isn't empty where it wasn't
 placed_some : {A : Type 0} (cmp : A → A → Ordering) (xs : List A) (x : A) → 1 ≤ length (placed cmp xs x)

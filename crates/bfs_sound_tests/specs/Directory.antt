@@ -6,7 +6,7 @@ use Rattle.bfs_tree.specs.declared.call.Kind.TheVariants.{Dir}
 use Rattle.bfs_tree.specs.Trees.{Node, Tree, new_node}
 use Rattle.bfs_sound.specs.Whole.{IsWhole}
 use Rattle.bfs_super.specs.declared.sup.Super.{Super}
-use Rattle.bfs_sound_tests.specs.Bytes.{padded, no_run, stream_bytes, run, inode_block, leaf_block}
+use Rattle.bfs_sound_tests.specs.Bytes.{padded, no_run, stream_bytes, run, inode_block, leaf_block, bitmap_block}
 use Rattle.bfs_sound_tests.specs.Worked.{super_of_used, image_of, blocks_in, with_block, name_item, tree_blocks, directory_mode, long_mode, first_blocks, root_node, tree_of, IsWorked, IsBroken}
 
 abbrev pub root_rows : List Row
@@ -58,6 +58,13 @@ UnindexedIsBroken = IsBroken 22 unindexed
 -- the superblock counts one used block more
 abbrev pub MiscountedIsBroken : Type 0
 MiscountedIsBroken = IsBroken 23 blocks
+
+-- the bit of block 22 is set, which nothing reaches
+abbrev pub overmarked : ℕ → List ℕ
+overmarked = with_block 1 (bitmap_block 23) blocks
+
+abbrev pub OvermarkedIsBroken : Type 0
+OvermarkedIsBroken = IsBroken 22 overmarked
 
 -- the log isn't empty
 abbrev pub logged_super : Super

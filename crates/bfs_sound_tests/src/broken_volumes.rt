@@ -1,5 +1,5 @@
 // Volumes with one thing broken: that each is whole with no tree is the contract of a function that does nothing.
-ghost use Rattle.bfs_sound_tests.specs.Directory.{LoggedIsBroken, MiscountedIsBroken, SharedIsBroken, TruncatedIsBroken, UnindexedIsBroken, UnlistedIsBroken, UnmarkedIsBroken};
+ghost use Rattle.bfs_sound_tests.specs.Directory.{LoggedIsBroken, MiscountedIsBroken, OvermarkedIsBroken, SharedIsBroken, TruncatedIsBroken, UnindexedIsBroken, UnlistedIsBroken, UnmarkedIsBroken};
 ghost use Rattle.bfs_sound_tests.specs.Files.{DescendingIsBroken, UnfilledIsBroken, UnnamedIsBroken};
 ghost use Rattle.bfs_sound_tests.specs.Levels.{ShortRunIsBroken};
 ghost use Rattle.bfs_sound_tests.specs.Logged.{UnreplayedIsBroken};
@@ -30,6 +30,11 @@ pub fn unindexed_is_broken()
 /// The superblock counts one used block more than there are.
 pub fn miscounted_is_broken()
     ensures { MiscountedIsBroken }
+{}
+
+/// The bit of a block is set that nothing reaches.
+pub fn overmarked_is_broken()
+    ensures { OvermarkedIsBroken }
 {}
 
 /// The log isn't empty.

@@ -9,10 +9,10 @@ mod whole_volumes;
 pub use broken_volumes::{
     clashing_is_broken, descending_is_broken, doubled_is_broken, logged_is_broken,
     looped_is_broken, miscounted_is_broken, mismeasured_is_broken, misplaced_is_broken,
-    outside_is_broken, repeated_is_broken, shared_is_broken, short_run_is_broken,
-    truncated_is_broken, unended_is_broken, unfilled_is_broken, unindexed_is_broken,
-    unlisted_is_broken, unmarked_is_broken, unnamed_is_broken, unreplayed_is_broken,
-    untyped_is_broken,
+    outside_is_broken, overmarked_is_broken, repeated_is_broken, shared_is_broken,
+    short_run_is_broken, truncated_is_broken, unended_is_broken, unfilled_is_broken,
+    unindexed_is_broken, unlisted_is_broken, unmarked_is_broken, unnamed_is_broken,
+    unreplayed_is_broken, untyped_is_broken,
 };
 pub use whole_volumes::{
     directory_is_whole, files_are_whole, levels_are_kept, links_are_whole, logged_recovers,

@@ -1,4 +1,4 @@
--- A volume is sound with one tree.
+-- At most one tree stands on a volume.
 use Rattle.std.proofs.Common.{◌≡◌, ◌≢◌, inr, ⊎_elim, ℕ, pos, List, Option, Some, None, Bool, true, false, cond, refl, sym, ap, ◌∙◌, subst, codes}
 use Rattle.std.specs.Prelude.{◌==◌, ◌||◌, not, nat_lt, length}
 use Rattle.std.specs.Str.{is_utf8}
@@ -11,13 +11,13 @@ use Rattle.bfs_base.specs.declared.kind.KeyKind.TheVariants.{Text, I32, U32, I64
 use Rattle.bfs_tree.specs.declared.call.Kind.TheVariants.{Dir}
 use Rattle.bfs_super.specs.Conditions.{natural}
 use Rattle.bfs_node.specs.Header.{code_of}
-use Rattle.bfs_rows.specs.Reached.{IsWholeTree}
+use Rattle.bfs_values.specs.Reached.{IsWholeTree}
 use Rattle.bfs_tree.specs.Names.{is_bad_name, has_byte}
 use Rattle.bfs_tree.specs.Trees.{Node, Tree, IsNode, LeadsTo, at_top, by_parent}
 use Rattle.bfs_sound.specs.Volumes.{Volume}
 use Rattle.bfs_sound.specs.Inodes.{content}
 use Rattle.bfs_sound.specs.Listings.{IsRow, IsChild}
-use Rattle.bfs_sound.specs.Whole.{IsSound}
+use Rattle.bfs_sound.specs.Whole.{HasSoundNodes, IsSound}
 use Rattle.bfs_whole.proofs.Nodes.{some_same, pos_same, same_or_not, one_node}
 
 -- two options are the same where what one has the other has
@@ -63,7 +63,7 @@ dots_bad = or_true (other_tests (codes "..") || false)
 good_name : (name word : List ℕ) → is_bad_name name ≡ false → name ≡ word → is_bad_name word ≡ true → ⊥
 good_name name word good same bad = true≢false (sym bad ∙ sym (ap is_bad_name same) ∙ good)
 
-module _ (v : Volume) (one other : Tree) (a : IsSound v one) (b : IsSound v other) where
+module _ (v : Volume) (one other : Tree) (a : HasSoundNodes v one) (b : HasSoundNodes v other) where
   roots : one.root ≡ other.root
   roots = a.stands.root ∙ sym b.stands.root
 
@@ -112,11 +112,14 @@ module _ (v : Volume) (one other : Tree) (a : IsSound v one) (b : IsSound v othe
       let own : first.kind ≡ kind = some_same first.kind kind (sym first.there ∙ there) in
       second.there ∙ ap Some (sym same ∙ own)
 
-pub one_tree : (v : Volume) (one other : Tree) → IsSound v one → IsSound v other → one ≡ other
-one_tree v one other a b =
+pub one_stands : (v : Volume) (one other : Tree) → HasSoundNodes v one → HasSoundNodes v other → one ≡ other
+one_stands v one other a b =
     let nodes : one.nodes ≡ other.nodes = same_map nat_cmp_total nat_cmp-IsAntisymmetric one.nodes other.nodes (λ id.
     same_options (get one.nodes id) (get other.nodes id) (λ m there. node_there v one other a b id m there (a.plain.lead id m there)) (λ m there. node_there v other one b a id m there (b.plain.lead id m there))) in
     let indices : one.indices ≡ other.indices = same_map nat_list_cmp_total (slice_cmp-IsAntisymmetric nat_cmp-IsAntisymmetric) one.indices other.indices (λ name.
     same_options (get one.indices name) (get other.indices name) (index_there v one other a b name) (index_there v other one b a name)) in
     let root : one.root ≡ other.root = a.stands.root ∙ sym b.stands.root in
     λ i. record { root = root i; nodes = nodes i; indices = indices i }
+
+pub one_tree : (v : Volume) (one other : Tree) → IsSound v one → IsSound v other → one ≡ other
+one_tree v one other a b = one_stands v one other a.nodes b.nodes

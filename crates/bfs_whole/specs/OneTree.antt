@@ -2,7 +2,11 @@
 use Rattle.std.specs.Prelude.{◌≡◌, List, ℕ}
 use Rattle.bfs_tree.specs.Trees.{Tree}
 use Rattle.bfs_sound.specs.Volumes.{Volume}
-use Rattle.bfs_sound.specs.Whole.{IsSound, IsWhole, Recovers}
+use Rattle.bfs_sound.specs.Whole.{HasSoundNodes, IsSound, IsWhole, Recovers}
+
+-- At most one tree stands on a volume with plain nodes, whatever its indices list, its bitmap marks and its superblock counts.
+abbrev pub StandingTreeIsOne : Type 0
+StandingTreeIsOne = (v : Volume) (one other : Tree) → HasSoundNodes v one → HasSoundNodes v other → one ≡ other
 
 -- a volume is sound with at most one tree
 abbrev pub SoundTreeIsOne : Type 0

@@ -3,4 +3,4 @@
 
 mod laws;
 
-pub use laws::{recovered_tree_is_one, sound_tree_is_one, tree_is_one};
+pub use laws::{recovered_tree_is_one, sound_tree_is_one, standing_tree_is_one, tree_is_one};

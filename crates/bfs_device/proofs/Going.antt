@@ -204,7 +204,7 @@ module _ (s : Super) (g : Group) (v : ℕ → List ℕ) (t : ℕ → Bool) (vali
 
     -- an image with the gate and the log's blocks behind it
     gate_image : {S T : List ℕ → Type 0} {Q : ℕ → List ℕ → Type 0} (loose : List Home) (w : ℕ → List ℕ) → 0 < n → ((b : ℕ) → IsHomeOf loose b → IsHomeOf homes b) → Gate (opened_of s g) (sector 1 image)
-        → Known st r S T (Keeps l (log_from s) B loose t w n) Q → RecoversTo s t (over homes w) g.used image
+        → Known st r S T (Keeps l (log_from s) B loose t w n) Q → RecoversTo s homes t (over homes w) g.used image
     gate_image loose w more named gate known =
         let entry_read = group_logs (opened_of s g) opened_valid (blocks_of image) g.blocks (log_from s) sealed.places (from_low s valid) sealed.room
         (λ j lt. let inside = slot_in j lt in
@@ -216,47 +216,47 @@ module _ (s : Super) (g : Group) (v : ℕ → List ℕ) (t : ℕ → Bool) (vali
 
     -- an image with an empty log
     empty_image : {S T : List ℕ → Type 0} {Q : ℕ → List ℕ → Type 0} (u : Super) (used m : ℕ) (w : ℕ → List ℕ) → IsOfVolume s used u → IsValid u → log_from u ≡ log_to u → Says u (sector 1 image)
-        → Known st r S T (Keeps l (log_from s) B [] t w m) Q → RecoversTo s t w used image
+        → Known st r S T (Keeps l (log_from s) B [] t w m) Q → RecoversTo s homes t w used image
     empty_image u used m w same ok none_left says known =
-        recovers_empty s u used image same ok says long_image t w none_left
+        recovers_empty s u used image same ok says long_image homes t w none_left
         (λ b is_data. ⊎_elim (λ nothing. absurd nothing) (λ rest. rest) ((known_image image known leaves b is_data.0 (fits b is_data.1)).held is_data))
 
-    again : RecoversTo s t (over homes (over homes v)) g.used image → RecoversTo s t newest_of g.used image
-    again twice = record { result = twice.result; replayed = twice.replayed; geometry = twice.geometry; agrees = λ b is_data clear. twice.agrees b is_data clear ∙ over_again homes v b }
+    again : RecoversTo s homes t (over homes (over homes v)) g.used image → RecoversTo s homes t newest_of g.used image
+    again twice = record { result = twice.result; replayed = twice.replayed; valid = twice.valid; emptied = twice.emptied; geometry = twice.geometry; agrees = λ b is_data clear. twice.agrees b is_data clear ∙ over_again homes v b; written = twice.written }
 
-    pub logging_image : (i : ℕ) → Logging s g v t st i → RecoversTo s t v (natural s.used_blocks) image
+    pub logging_image : (i : ℕ) → Logging s g v t st i → RecoversTo s homes t v (natural s.used_blocks) image
     logging_image i known = empty_image s (natural s.used_blocks) 0 v refl valid empty (known_super image known leaves some) known
 
-    pub logged_image : Logged s g v t st → RecoversTo s t v (natural s.used_blocks) image
+    pub logged_image : Logged s g v t st → RecoversTo s homes t v (natural s.used_blocks) image
     logged_image known = empty_image s (natural s.used_blocks) n v refl valid empty (known_super image known leaves some) known
 
-    pub opened_image : 0 < n → Opened s g v t st → RecoversTo s t v (natural s.used_blocks) image ⊎ RecoversTo s t newest_of g.used image
+    pub opened_image : 0 < n → Opened s g v t st → RecoversTo s homes t v (natural s.used_blocks) image ⊎ RecoversTo s homes t newest_of g.used image
     opened_image more known = ⊎_elim
         (λ before. inl (empty_image s (natural s.used_blocks) n v refl valid empty before known))
         (λ after. inr (gate_image [] v more (λ b nothing. absurd nothing) after known))
         (known_super image known leaves some)
 
-    pub homing_image : (i : ℕ) → 0 < n → Homing s g v t st i → RecoversTo s t newest_of g.used image
+    pub homing_image : (i : ℕ) → 0 < n → Homing s g v t st i → RecoversTo s homes t newest_of g.used image
     homing_image i more known = again (gate_image homes newest_of more (λ b one. one) (known_super image known leaves some) known)
 
-    pub at_home_image : 0 < n → AtHome s g v t st → RecoversTo s t newest_of g.used image
+    pub at_home_image : 0 < n → AtHome s g v t st → RecoversTo s homes t newest_of g.used image
     at_home_image more known = again (gate_image [] newest_of more (λ b nothing. absurd nothing) (known_super image known leaves some) known)
 
-    pub moved_image : 0 < n → Moved s g v t st → RecoversTo s t newest_of g.used image
+    pub moved_image : 0 < n → Moved s g v t st → RecoversTo s homes t newest_of g.used image
     moved_image more known = ⊎_elim
         (λ before. again (gate_image [] newest_of more (λ b nothing. absurd nothing) before known))
         (λ after. empty_image (closed_of s g) g.used n newest_of refl closed_valid refl after known)
         (known_super image known leaves some)
 
     -- an image of a disk on which no group is on its way
-    pub rest_image : Rests s v t st → RecoversTo s t v (natural s.used_blocks) image
-    rest_image known = recovers_empty s s (natural s.used_blocks) image refl valid (known_super image known leaves some) long_image t v empty
+    pub rest_image : Rests s v t st → RecoversTo s homes t v (natural s.used_blocks) image
+    rest_image known = recovers_empty s s (natural s.used_blocks) image refl valid (known_super image known leaves some) long_image homes t v empty
         (λ b is_data. known_image image known leaves b is_data.0 (fits b is_data.1) is_data)
 
 -- an image of a disk on which no group is on its way
-pub rested_image : (s : Super) (v : ℕ → List ℕ) (t : ℕ → Bool) → IsValid s → log_from s ≡ log_to s → (st : State) → (layout_of s).sectors * (layout_of s).blocks ≤ st.size → (image : List ℕ) → IsImage st image → Rests s v t st → RecoversTo s t v (natural s.used_blocks) image
-rested_image s v t valid empty st sized image leaves known =
+pub rested_image : (s : Super) (homes : List Home) (v : ℕ → List ℕ) (t : ℕ → Bool) → IsValid s → log_from s ≡ log_to s → (st : State) → (layout_of s).sectors * (layout_of s).blocks ≤ st.size → (image : List ℕ) → IsImage st image → Rests s v t st → RecoversTo s homes t v (natural s.used_blocks) image
+rested_image s homes v t valid empty st sized image leaves known =
     let fits : (b : ℕ) → b < (layout_of s).blocks → (layout_of s).sectors * b + (layout_of s).sectors ≤ st.size = λ b lt. omega (arith, fits_sectors s valid b lt, sized) in
     let some : 1 < st.size = let f = fits 0 (omega (arith, (good s valid).inside, (good s valid).behind_zero)) in omega (arith, f, (good s valid).two) in
-    recovers_empty s s (natural s.used_blocks) image refl valid (known_super image known leaves some) (omega (arith, leaves.size, sized)) t v empty
+    recovers_empty s s (natural s.used_blocks) image refl valid (known_super image known leaves some) (omega (arith, leaves.size, sized)) homes t v empty
     (λ b is_data. known_image image known leaves b is_data.0 (fits b is_data.1) is_data)

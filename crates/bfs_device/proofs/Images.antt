@@ -1,6 +1,7 @@
 -- What replay gives of an image.
-use Rattle.std.proofs.Common.{◌≡◌, ◌≢◌, ◌⊎◌, ⊎_elim, ℕ, ◌*◌, ◌/◌, ◌≤◌, List, length, refl, sym, ◌∙◌, ap, subst, arith, Bool, true, cond, ◌==◌}
+use Rattle.std.proofs.Common.{ℤ, pos, negsuc, ◌≤ℤ◌, ◌≡◌, ◌≢◌, ◌⊎◌, inl, inr, ⊎_elim, ℕ, ◌*◌, ◌/◌, ◌≤◌, List, length, refl, sym, ◌∙◌, ap, subst, arith, Bool, true, cond, ◌==◌}
 use Rattle.std.proofs.lemmas.Bool.{true≢false}
+use Rattle.std.proofs.lemmas.Int.{ints}
 use Rattle.bfs_base.specs.Images.{sector, block, overwritten, IsBytes}
 use Rattle.bfs_super.specs.declared.sup.Super.{Super}
 use Rattle.bfs_super.specs.declared.geometry.Geometry.{Geometry}
@@ -9,12 +10,18 @@ use Rattle.bfs_super.specs.Geometry.{geometry_of}
 use Rattle.bfs_super.specs.Layout.{sector_of}
 use Rattle.bfs_log.specs.Replay.{Home, Logs, Valid, Replayed, super_of, block_sectors, blocks_of, log_from, log_to, homes_of, with_homes, emptied, over}
 use Rattle.bfs_log.proofs.Replays.{replayed_empty, replayed_blocks}
-use Rattle.bfs_log.proofs.Emptied.{superblock_is}
+use Rattle.bfs_log.proofs.Emptied.{superblock_is, result_valid}
 use Rattle.bfs_device.specs.Layouts.{IsData, layout_of}
 use Rattle.bfs_device.specs.Versions.{RecoversTo}
 use Rattle.bfs_device.specs.Phases.{IsHomeOf}
-use Rattle.bfs_device.proofs.Homes.{over_in, over_same}
+use Rattle.bfs_device.proofs.Homes.{over_in, over_same, over_out, home_or}
 use Rattle.bfs_device.proofs.Sizes.{sizes, good}
+
+-- places that are the same number are the same
+natural_apart : (a b : ℤ) → pos 0 ≤ℤ a → pos 0 ≤ℤ b → natural a ≡ natural b → a ≡ b
+natural_apart (pos m) (pos n) low high same = ap pos same
+natural_apart (negsuc m) b low high same = absurd (omega (arith, ints, low))
+natural_apart (pos m) (negsuc n) low high same = absurd (omega (arith, ints, high))
 
 -- the superblock is one of this volume, with so many used blocks
 abbrev pub IsOfVolume : Super → ℕ → Super → Type 0
@@ -49,13 +56,16 @@ module _ (s u : Super) (used : ℕ) (image : List ℕ) (same : IsOfVolume s used
   read_block b = ap (λ (r : ℕ). block r b image) sectors_same
 
   -- where the log is empty
-  pub recovers_empty : (touched : ℕ → Bool) (v : ℕ → List ℕ) → log_from u ≡ log_to u
-      → ((b : ℕ) → IsData (layout_of s) b → (touched b ≡ true) ⊎ (block (layout_of s).sectors b image ≡ v b)) → RecoversTo s touched v used image
-  recovers_empty touched v empty held = record {
+  pub recovers_empty : (homes : List Home) (touched : ℕ → Bool) (v : ℕ → List ℕ) → log_from u ≡ log_to u
+      → ((b : ℕ) → IsData (layout_of s) b → (touched b ≡ true) ⊎ (block (layout_of s).sectors b image ≡ v b)) → RecoversTo s homes touched v used image
+  recovers_empty homes touched v empty held = record {
     result = image;
     replayed = replayed_empty image valid_image (subst (λ (x : Super). log_from x ≡ log_to x) (sym is) empty);
+    valid = valid_image;
+    emptied = subst (λ (x : Super). x.log_start ≡ x.log_end) (sym is) (natural_apart u.log_start u.log_end valid.log_start.0 valid.log_end.0 empty);
     geometry = ap geometry_of is ∙ same;
     agrees = λ b is_data clear. ⊎_elim (λ dirty. absurd (true≢false (sym dirty ∙ clear))) (λ kept. read_block b ∙ kept) (held b is_data);
+    written = λ b some. inr refl;
   }
 
   -- where it has entries
@@ -82,15 +92,20 @@ module _ (s u : Super) (used : ℕ) (image : List ℕ) (same : IsOfVolume s used
         ∙ replayed_blocks image replayed_image replay b some
 
     pub recovers_full : (homes : List Home) (loose : List Home) (touched : ℕ → Bool) (v : ℕ → List ℕ) → homes_of entries ≡ homes → ((b : ℕ) → IsHomeOf loose b → IsHomeOf homes b)
-        → ((b : ℕ) → IsData (layout_of s) b → IsHomeOf loose b ⊎ ((touched b ≡ true) ⊎ (block (layout_of s).sectors b image ≡ v b))) → RecoversTo s touched (over homes v) used image
+        → ((b : ℕ) → IsData (layout_of s) b → IsHomeOf loose b ⊎ ((touched b ≡ true) ⊎ (block (layout_of s).sectors b image ≡ v b))) → RecoversTo s homes touched (over homes v) used image
     unfolding replay
     recovers_full homes loose touched v are named held = record {
       result = replayed_image;
       replayed = replay;
+      valid = result_valid image replayed_image bytes replay;
+      emptied = ap (λ (x : Super). x.log_start) new_super ∙ sym (ap (λ (x : Super). x.log_end) new_super);
       geometry = ap geometry_of new_super ∙ same;
       agrees = λ b is_data clear.
           new_block b (omega (arith, is_data.0)) ∙ ap (λ (hs : List Home). over hs (blocks_of image) b) are
           ∙ ⊎_elim (λ one. over_in homes (blocks_of image) v b (named b one))
           (λ rest. ⊎_elim (λ dirty. absurd (true≢false (sym dirty ∙ clear))) (λ kept. over_same homes (blocks_of image) v b (read_block b ∙ kept)) rest)
           (held b is_data);
+      written = λ b some. ⊎_elim (λ one. inl one)
+          (λ none. inr (new_block b some ∙ ap (λ (hs : List Home). over hs (blocks_of image) b) are ∙ over_out homes (blocks_of image) b none))
+          (home_or homes b);
     }

@@ -14,3 +14,5 @@ pub mod Telling
 pub mod Sealing
 pub mod Reading
 pub mod Keeping
+pub mod Forward
+pub mod PlainReads

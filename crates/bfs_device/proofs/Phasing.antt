@@ -84,15 +84,15 @@ module _ (s : Super) (g : Group) (valid : IsValid s) (sealed : IsSealed (layout_
 
   -- what replay may give of an image that a phase or its call leaves
   abbrev pub MayRecover : (ℕ → List ℕ) → (ℕ → Bool) → List ℕ → Phase → Type 0
-  MayRecover v t image (Log i) = RecoversTo s t v (natural s.used_blocks) image
-  MayRecover v t image LogSafe = RecoversTo s t v (natural s.used_blocks) image
-  MayRecover v t image Open = RecoversTo s t v (natural s.used_blocks) image ⊎ RecoversTo s t (over (homes_in g.blocks) v) g.used image
-  MayRecover v t image OpenSafe = RecoversTo s t v (natural s.used_blocks) image ⊎ RecoversTo s t (over (homes_in g.blocks) v) g.used image
-  MayRecover v t image (GoHome i) = RecoversTo s t (over (homes_in g.blocks) v) g.used image
-  MayRecover v t image HomeSafe = RecoversTo s t (over (homes_in g.blocks) v) g.used image
-  MayRecover v t image Tail = RecoversTo s t (over (homes_in g.blocks) v) g.used image
-  MayRecover v t image TailSafe = RecoversTo s t (over (homes_in g.blocks) v) g.used image
-  MayRecover v t image Pass = RecoversTo s t v (natural s.used_blocks) image
+  MayRecover v t image (Log i) = RecoversTo s (homes_in g.blocks) t v (natural s.used_blocks) image
+  MayRecover v t image LogSafe = RecoversTo s (homes_in g.blocks) t v (natural s.used_blocks) image
+  MayRecover v t image Open = RecoversTo s (homes_in g.blocks) t v (natural s.used_blocks) image ⊎ RecoversTo s (homes_in g.blocks) t (over (homes_in g.blocks) v) g.used image
+  MayRecover v t image OpenSafe = RecoversTo s (homes_in g.blocks) t v (natural s.used_blocks) image ⊎ RecoversTo s (homes_in g.blocks) t (over (homes_in g.blocks) v) g.used image
+  MayRecover v t image (GoHome i) = RecoversTo s (homes_in g.blocks) t (over (homes_in g.blocks) v) g.used image
+  MayRecover v t image HomeSafe = RecoversTo s (homes_in g.blocks) t (over (homes_in g.blocks) v) g.used image
+  MayRecover v t image Tail = RecoversTo s (homes_in g.blocks) t (over (homes_in g.blocks) v) g.used image
+  MayRecover v t image TailSafe = RecoversTo s (homes_in g.blocks) t (over (homes_in g.blocks) v) g.used image
+  MayRecover v t image Pass = RecoversTo s (homes_in g.blocks) t v (natural s.used_blocks) image
 
   module _ (v : ℕ → List ℕ) (t : ℕ → Bool) (st : State) (sized : r * l.blocks ≤ st.size) (image : List ℕ) where
     pub stands_image : (p : Phase) → IsPhaseOf g.blocks p → Stands s g v t st p → IsImage st image → MayRecover v t image p

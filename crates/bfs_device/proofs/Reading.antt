@@ -199,7 +199,7 @@ read_one : (b : Books) (t : ℕ → Bool) (one other : State) (image : List ℕ)
 read_one b t one other image same recovers = record {
   number = recovers.number;
   is_version = recovers.is_version;
-  recovers = to_version b.sup t (version b one recovers.number) (version b other recovers.number) _ _ image (λ k d clear. over_same (upto recovers.number b.groups) (contents_of one (layout_of b.sup).sectors) (contents_of other (layout_of b.sup).sectors) k (same k d clear)) refl recovers.recovers;
+  recovers = to_version b.sup t (version b one recovers.number) (version b other recovers.number) _ _ image (λ k d clear. over_same (upto recovers.number b.groups) (contents_of one (layout_of b.sup).sectors) (contents_of other (layout_of b.sup).sectors) k (same k d clear)) refl (λ i one. one) recovers.recovers;
 }
 
 module _ (b : Books) (know : Known b) (none_yet : b.stop ≡ None) (t : ℕ → Bool) (st : State) (filled : Filled st) (sized : (layout_of b.sup).sectors * (layout_of b.sup).blocks ≤ st.size) (right : IsRight b t st)
@@ -276,7 +276,7 @@ more_touched : (b : Books) (t : ℕ → Bool) (st : State) (k : ℕ) (image : Li
 more_touched b t st k image one = record {
   number = one.number;
   is_version = one.is_version;
-  recovers = record { result = one.recovers.result; replayed = one.recovers.replayed; geometry = one.recovers.geometry; agrees = λ i d clear. one.recovers.agrees i d (untouched (t i) (i == k) clear) };
+  recovers = record { result = one.recovers.result; replayed = one.recovers.replayed; valid = one.recovers.valid; emptied = one.recovers.emptied; geometry = one.recovers.geometry; agrees = λ i d clear. one.recovers.agrees i d (untouched (t i) (i == k) clear); written = one.recovers.written };
 }
   where
     untouched : (d e : Bool) → (e || d) ≡ false → d ≡ false

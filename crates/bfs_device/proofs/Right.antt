@@ -15,7 +15,7 @@ use Rattle.bfs_device.specs.declared.journal.Phase.TheVariants.{Log, LogSafe, Op
 use Rattle.bfs_device.specs.Layouts.{Layout, IsData, layout_of, homes_in, closed_of}
 use Rattle.bfs_device.specs.Versions.{RecoversTo, upto, used_upto}
 use Rattle.bfs_device.specs.Calls.{Call, Write, Barrier, state_after, touched_after, LeftDuring}
-use Rattle.bfs_device.specs.Phases.{Rests, Stands}
+use Rattle.bfs_device.specs.Phases.{IsHomeOf, Rests, Stands}
 use Rattle.bfs_device.specs.Books.{Books, Follow, IsPhaseOf, IsLastOf, IsVersion, RecoversOne, Standing, is_durable, durable_in, version, used_of}
 use Rattle.bfs_device.specs.Steps.{call_of, PrintsBack, next_phase, front_phase, first_phase, after_phase}
 use Rattle.bfs_device.proofs.Homes.{over_same, over_joined}
@@ -61,12 +61,15 @@ module _ (l : Layout) (size left used n : ℕ) (g : Group) (gs : List Group) (fo
       ∙ used_low l size g.last g.used g.last g.used gs follow.1 (omega arith)
 
 -- the same version under another name
-pub to_version : (s : Super) (t : ℕ → Bool) (w w' : ℕ → List ℕ) (u u' : ℕ) (image : List ℕ) → ((b : ℕ) → IsData (layout_of s) b → t b ≡ false → w b ≡ w' b) → u ≡ u' → RecoversTo s t w u image → RecoversTo s t w' u' image
-to_version s t w w' u u' image same used recovers = record {
+pub to_version : (s : Super) {hs hs' : List Home} (t : ℕ → Bool) (w w' : ℕ → List ℕ) (u u' : ℕ) (image : List ℕ) → ((b : ℕ) → IsData (layout_of s) b → t b ≡ false → w b ≡ w' b) → u ≡ u' → ((b : ℕ) → IsHomeOf hs b → IsHomeOf hs' b) → RecoversTo s hs t w u image → RecoversTo s hs' t w' u' image
+to_version s t w w' u u' image same used widen recovers = record {
   result = recovers.result;
   replayed = recovers.replayed;
+  valid = recovers.valid;
+  emptied = recovers.emptied;
   geometry = recovers.geometry ∙ ap (λ (k : ℕ). let g : Geometry = record (geometry_of s) { used = k } in g) used;
   agrees = λ b is_data clear. recovers.agrees b is_data clear ∙ same b is_data clear;
+  written = λ b some. ⊎_elim (λ one. inl (widen b one)) (λ same_block. inr same_block) (recovers.written b some);
 }
 
 -- the groups behind one that has left stand in the new version
@@ -92,7 +95,7 @@ pub rest_one : (b : Books) → IsValid b.sup → log_from b.sup ≡ log_to b.sup
 rest_one b valid empty t st sized known image is = record {
   number = b.left;
   is_version = inl refl;
-  recovers = going.rested_image b.sup (contents_of st (layout_of b.sup).sectors) t valid empty st sized image is known;
+  recovers = going.rested_image b.sup [] (contents_of st (layout_of b.sup).sectors) t valid empty st sized image is known;
 }
 
 -- a call keeps the number of sectors
@@ -112,24 +115,24 @@ module _ (b : Books) (g : Group) (gs : List Group) (valid : IsValid b.sup) (empt
 
   -- an image that recovers to the version without the group
   before_one : (v : ℕ → List ℕ) (t : ℕ → Bool) (st : State) (p : Phase) (image : List ℕ) → is_durable p ≡ false → ((k : ℕ) → IsData (layout_of b.sup) k → t k ≡ false → v k ≡ reading st k)
-      → RecoversTo b.sup t v (natural b.sup.used_blocks) image → RecoversOne (at p) t st image
+      → RecoversTo b.sup (homes_in g.blocks) t v (natural b.sup.used_blocks) image → RecoversOne (at p) t st image
   before_one v t st p image early same recovers = record {
     number = b.left;
     is_version = inl (sym (cond-false (is_durable p) g.last b.left early));
     recovers = to_version b.sup t v (version (at p) st b.left) (natural b.sup.used_blocks) (used_of (at p) b.left) image
         (λ k is_data clear. same k is_data clear ∙ sym (ap (λ (hs : List Home). over hs (reading st) k) (upto_low (layout_of b.sup) b.sup.block_size b.left (natural b.sup.used_blocks) b.left (g ∷ gs) follow (omega arith))))
-        (sym (used_low (layout_of b.sup) b.sup.block_size b.left (natural b.sup.used_blocks) b.left (natural b.sup.used_blocks) (g ∷ gs) follow (omega arith))) recovers;
+        (sym (used_low (layout_of b.sup) b.sup.block_size b.left (natural b.sup.used_blocks) b.left (natural b.sup.used_blocks) (g ∷ gs) follow (omega arith))) (λ i one. one) recovers;
   }
 
   -- and one that recovers to the version with it
   with_one : (v : ℕ → List ℕ) (t : ℕ → Bool) (st : State) (p : Phase) (image : List ℕ) → ((k : ℕ) → IsData (layout_of b.sup) k → t k ≡ false → over (homes_in g.blocks) v k ≡ over (homes_in g.blocks) (reading st) k)
-      → RecoversTo b.sup t (over (homes_in g.blocks) v) g.used image → RecoversOne (at p) t st image
+      → RecoversTo b.sup (homes_in g.blocks) t (over (homes_in g.blocks) v) g.used image → RecoversOne (at p) t st image
   with_one v t st p image same recovers = record {
     number = g.last;
     is_version = by_phase (is_durable p);
     recovers = to_version b.sup t (over (homes_in g.blocks) v) (version (at p) st g.last) g.used (used_of (at p) g.last) image
         (λ k is_data clear. same k is_data clear ∙ sym (ap (λ (hs : List Home). over hs (reading st) k) (upto_first (layout_of b.sup) b.sup.block_size b.left (natural b.sup.used_blocks) g.last g gs follow)))
-        (sym (used_first (layout_of b.sup) b.sup.block_size b.left (natural b.sup.used_blocks) g.last g gs follow (natural b.sup.used_blocks))) recovers;
+        (sym (used_first (layout_of b.sup) b.sup.block_size b.left (natural b.sup.used_blocks) g.last g gs follow (natural b.sup.used_blocks))) (λ i one. one) recovers;
   }
     where
       by_phase : (d : Bool) → (g.last ≡ cond d g.last b.left) ⊎ IsLastOf g.last (cond d gs (g ∷ gs))

@@ -20,8 +20,8 @@ use Rattle.bfs_txn.specs.Changed.{Ascends}
 use Rattle.bfs_device.specs.Orders.{AllAscend}
 use Rattle.bfs_device.proofs.Ordered.{ascend_more}
 use Rattle.bfs_device.specs.Layouts.{Layout, IsData, layout_of, homes_in}
-use Rattle.bfs_device.specs.Versions.{upto, used_upto}
-use Rattle.bfs_device.specs.Phases.{none, Plain, Rests, Stands}
+use Rattle.bfs_device.specs.Versions.{upto, used_upto, front_homes}
+use Rattle.bfs_device.specs.Phases.{IsHomeOf, none, Plain, Rests, Stands}
 use Rattle.bfs_device.specs.Books.{Books, Ready, Follow, IsNext, IsPhaseOf, IsPhaseFor, IsLastOf, IsVersion, IsRight, IsRightAs, RecoversOne, waiting, is_durable, durable_in, last_in, sealed_of, version, used_of}
 use Rattle.bfs_device.specs.Steps.{first_phase, calls_left, calls_in, calls_of, calls_from}
 use Rattle.bfs_device.specs.Seals.{used_behind, last_used, phase_with, sealed_with, calls_of_group}
@@ -170,12 +170,16 @@ module _ (b : Books) (g : Group) (know : Known b) (next : IsNext (layout_of b.su
   pub still_version : (n : ℕ) → IsVersion b n → IsVersion (sealed_with b g) n
   still_version n is = ⊎_elim (λ here. inl (here ∙ sym (durable_more b.groups))) (λ one. inr (waits_more n b.groups one)) is
 
+  homes_more : (gs : List Group) (k : ℕ) → IsHomeOf (front_homes gs) k → IsHomeOf (front_homes (gs ++ g ∷ [])) k
+  homes_more [] k one = absurd one
+  homes_more (x ∷ xs) k one = one
+
   one_more : (t : ℕ → Bool) (st : State) (image : List ℕ) → RecoversOne b t st image → RecoversOne (sealed_with b g) t st image
   one_more t st image one = record {
     number = one.number;
     is_version = still_version one.number one.is_version;
     recovers = to_version b.sup t (version b st one.number) (version (sealed_with b g) st one.number) (used_of b one.number) (used_of (sealed_with b g) one.number) image
-        (λ k is_data clear. sym (older_version st one.number k one.is_version)) (sym (used_earlier one.number (natural b.sup.used_blocks) b.groups g (version_low one.number one.is_version))) one.recovers;
+        (λ k is_data clear. sym (older_version st one.number k one.is_version)) (sym (used_earlier one.number (natural b.sup.used_blocks) b.groups g (version_low one.number one.is_version))) (homes_more b.groups) one.recovers;
   }
 
   stands_more : (gs : List Group) (t : ℕ → Bool) (st : State) → (let c : Books = record b { groups = gs } in IsRightAs None c t st) → (let c : Books = record b { groups = gs ++ g ∷ []; phase = phase_with g gs b.phase; spare = b.spare - 1 } in IsRightAs None c t st)

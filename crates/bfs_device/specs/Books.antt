@@ -14,7 +14,7 @@ use Rattle.bfs_device.specs.declared.journal.Stop.{Stop}
 use Rattle.bfs_device.specs.declared.journal.Phase.{Phase}
 use Rattle.bfs_device.specs.declared.journal.Phase.TheVariants.{Log, LogSafe, Open, OpenSafe, Home as GoHome, HomeSafe, Tail, TailSafe, Pass}
 use Rattle.bfs_device.specs.Layouts.{Layout, layout_of, IsData, ring_count}
-use Rattle.bfs_device.specs.Versions.{upto, used_upto, RecoversTo}
+use Rattle.bfs_device.specs.Versions.{upto, used_upto, front_homes, RecoversTo}
 use Rattle.bfs_device.specs.Phases.{Rests, Stands}
 use Rattle.bfs_device.specs.Orders.{IsOnce, AllAscend}
 
@@ -90,7 +90,7 @@ used_of b n = used_upto n b.groups (natural b.sup.used_blocks)
 pub record RecoversOne (b : Books) (touched : ℕ → Bool) (state : State) (image : List ℕ) : Type 0 where
   pub number : ℕ
   pub is_version : IsVersion b number
-  pub recovers : RecoversTo b.sup touched (version b state number) (used_of b number) image
+  pub recovers : RecoversTo b.sup (front_homes b.groups) touched (version b state number) (used_of b number) image
 
 -- a group that may be sealed on such a volume
 pub record IsSealed (l : Layout) (size : ℕ) (g : Group) : Type 0 where

@@ -1,5 +1,5 @@
 -- How a group of changed blocks stands in the ring of the log.
-use Rattle.std.specs.Prelude.{◌≡◌, ◌⊎◌, ◌<◌, ◌≤◌, ℕ, pos, ◌+◌, ◌-◌, ◌*◌, ◌/◌, ◌%◌, ◌==◌, List, length, take, drop, map, if◌then◌else◌}
+use Rattle.std.specs.Prelude.{Bool, ◌&&◌, ◌||◌, nat_lt, nat_le, ◌≡◌, ◌⊎◌, ◌<◌, ◌≤◌, ℕ, pos, ◌+◌, ◌-◌, ◌*◌, ◌/◌, ◌%◌, ◌==◌, List, length, take, drop, map, if◌then◌else◌}
 use Rattle.std.specs.Int.{w32, cast_signed}
 use Rattle.bfs_super.specs.declared.sup.Super.{Super}
 use Rattle.bfs_super.specs.Conditions.{natural, ceil}
@@ -35,6 +35,10 @@ pub record IsSameVolume (old new : Super) : Type 0 where
 -- a block of the volume that is neither block 0 nor one of the log
 abbrev pub IsData : Layout → ℕ → Type 0
 IsData l b = (0 < b) × (b < l.blocks) × ((b < l.first) ⊎ (l.first + l.len ≤ b))
+
+-- is it such a block?
+abbrev pub is_data : Layout → ℕ → Bool
+is_data l k = nat_lt 0 k && (nat_lt k l.blocks && (nat_lt k l.first || nat_le (l.first + l.len) k))
 
 -- the block of the log that stands so far behind a place
 abbrev pub slot : Layout → ℕ → ℕ → ℕ

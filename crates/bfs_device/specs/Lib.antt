@@ -9,3 +9,5 @@ pub mod Seals
 pub mod Told
 pub mod Data
 pub mod Kept
+pub mod Ahead
+pub mod Plain

@@ -3,7 +3,7 @@ ghost use Rattle.std.specs.Prelude.{◌≡◌, ◌⊎◌, ◌≤◌, ◌<◌, �
 ghost use Rattle.bfs_base.specs.Counts.{HasCause, Rose};
 ghost use Rattle.bfs_base.specs.Moments.{Elapses, Passed};
 ghost use Rattle.bfs_disk.specs.State.{State, Tells};
-ghost use Rattle.bfs_disk.specs.Disk.{MayLeave, told_written};
+ghost use Rattle.bfs_disk.specs.Disk.{MayLeave, HalfWritten, told_written};
 ghost use Rattle.bfs_super.specs.Conditions.{IsValid};
 ghost use Rattle.bfs_device.specs.Layouts.{IsData, layout_of};
 ghost use Rattle.bfs_device.specs.Books.{Ready, IsOnDisk, IsRight, RecoversOne, Books, books_of, version, sealed_of};
@@ -74,6 +74,7 @@ pub fn read_data<D: Disk>(
     ensures state { D.state disk.new ≡ D.state disk.old }
     ensures faults { D.faults disk.old ≤ D.faults disk.new }
     ensures stops { D.stops disk.new ≡ D.stops disk.old }
+    ensures one { IsSome (D.state disk.old) → OnOk result (D.clock disk.new ≡ D.clock disk.old + 1) }
     ensures moved { HasMoved (D.clock disk.old) journal.old.moment (D.clock disk.new) journal.new.moment }
     ensures right { (t : ℕ → Bool) (s : State) → IsRight (books_of journal.old) t s → IsRight (books_of journal.new) t s }
     ensures moments { (t : ℕ → Bool) → Tells (D.state disk.old) (IsRight (books_of journal.old) t)
@@ -116,6 +117,8 @@ pub fn write_data<D: Disk>(
     ensures unmoved { IsSome journal.old.stop → disk.new ≡ disk.old }
     ensures faults { D.faults disk.old ≤ D.faults disk.new }
     ensures stops { D.stops disk.old ≤ D.stops disk.new }
+    ensures one { IsSome (D.state disk.old) → OnOk result (D.clock disk.new ≡ D.clock disk.old + 1) }
+    ensures failed { journal.old.stop ≡ None → OnErr result (HalfWritten (D.state disk.old) ((layout_of journal.old.sup).sectors * block) from.now (D.state disk.new)) }
     ensures moved { HasMoved (D.clock disk.old) journal.old.moment (D.clock disk.new) journal.new.moment }
     ensures right { (t : ℕ → Bool) (right : Tells (D.state disk.old) (IsRight (books_of journal.old) t))
         → OnOk result (Tells (D.state disk.new) (λ s. IsRight (books_of journal.new) (touching block t) s × AreSameBut block (books_of journal.old) right.0 (books_of journal.new) s)) }

@@ -1,23 +1,24 @@
 // A device: a disk, and the groups that go into its log and from there home.
-ghost use Rattle.std.specs.Prelude.{◌≡◌, ◌⊎◌, ◌≤◌, ◌<◌, ◌+◌, ◌-◌, ◌*◌, ◌/◌, ◌^◌, ◌==◌, ◌||◌, ◌↔◌, ◌++◌, ◌∷◌, max, ℕ, List, [], length, Bool, IsTrue, OnOk, OnErr, IfOk, IfErr, IfSome, IsSome, Option, Some, None};
+ghost use Rattle.std.specs.Prelude.{◌≡◌, ◌⊎◌, ◌≤◌, ◌<◌, ◌+◌, ◌-◌, ◌*◌, ◌/◌, ◌^◌, ◌==◌, ◌||◌, ◌&&◌, nat_lt, nat_le, ◌↔◌, ◌++◌, ◌∷◌, max, ℕ, List, [], length, Bool, IsTrue, OnOk, OnErr, IfOk, IfErr, IfSome, IsSome, Option, Some, None};
 ghost use Rattle.bfs_base.specs.Counts.{HasCause, Rose};
 ghost use Rattle.bfs_base.specs.Moments.{Elapses, Passed};
 ghost use Rattle.bfs_disk.specs.State.{State, Tells, Holds};
-ghost use Rattle.bfs_disk.specs.Disk.{MayLeave, told_written};
+ghost use Rattle.bfs_disk.specs.Disk.{MayLeave, HalfWritten, told_written};
 ghost use Rattle.bfs_super.specs.Conditions.{IsValid};
 ghost use Rattle.bfs_log.specs.Replay.{super_of, over};
-ghost use Rattle.bfs_device.specs.Layouts.{IsData, IsSameVolume, layout_of, homes_in};
+ghost use Rattle.bfs_device.specs.Layouts.{is_data, IsData, IsSameVolume, layout_of, homes_in};
 ghost use Rattle.bfs_device.specs.Phases.{none};
 ghost use Rattle.bfs_device.specs.Books.{IsNext, IsOnDisk, IsRight, Ready, IsVersion, RecoversOne, AreSame, Books, View, durable_of, sealed_of, version, used_of};
-ghost use Rattle.bfs_device.specs.Steps.{told_front, still_touched, stepped, progress_to, calls_left, IsStepFault, IsUnmoved, HasMoved};
+ghost use Rattle.bfs_device.specs.Steps.{told_front, FailedFront, still_touched, stepped, progress_to, calls_left, IsStepFault, IsUnmoved, HasMoved};
 ghost use Rattle.bfs_device.specs.Told.{HasCalled, HasMarked, HasCounted};
 ghost use Rattle.bfs_device.specs.Data.{newest_in, moved_on, IsRested, AreRead, IsReadFault, touching, AreSameBut};
 ghost use Rattle.bfs_device.specs.Seals.{adopted, with_room, sealed_with, last_used, calls_of_group};
+ghost use Rattle.bfs_device.specs.Ahead.{IsSteady, HasOrder, IsGroupOf, GoesOn};
 ghost use Rattle.bfs_device.specs.Kept.{KeptBut, kept_by, written_front};
 
 use crate::calls::written_block;
 use crate::data::{read_data, read_newest, write_data};
-use crate::journal::{DeviceFault, Journal, Mark, Phase, Progress};
+use crate::journal::{DeviceFault, Journal, Mark, Phase, Progress, Stop};
 use crate::read_blocks::ReadBlocks;
 use crate::step::step_of;
 use crate::turn::{durable_number, take};
@@ -60,6 +61,18 @@ fn forget_next(journal: &Journal, kept: &mut ReadBlocks)
             None => {}
         },
     }
+}
+
+// Whether a block is one of a volume that is neither block 0 nor one of the log.
+fn is_data_of(sup: &Super, block: u64) -> bool
+    requires { IsValid sup.now }
+    ensures { result ≡ is_data (layout_of sup.now) block }
+{
+    let geometry = sup.geometry();
+    let first = sup.block_of(sup.log_blocks);
+    0 < block
+        && (block < geometry.blocks
+            && (block < first || first + u64::from(geometry.log.len) <= block))
 }
 
 impl<D: Disk> Device<D> {
@@ -131,6 +144,10 @@ impl<D: Disk> Device<D> {
         ensures disk { self.new.disk ≡ self.old.disk }
         ensures books { self.new.books ≡ sealed_with self.old.books group }
         ensures right { (t : ℕ → Bool) (s : State) → IsRight self.old.books t s → IsRight self.new.books t s }
+        // Its version is the only new one.
+        ensures only { (n : ℕ) → IsVersion self.new.books n → IsVersion self.old.books n ⊎ (n ≡ group.last) }
+        ensures groups { (g : Group) → IsGroupOf g self.new.books.groups → IsGroupOf g self.old.books.groups ⊎ (g ≡ group) }
+        ensures durable { durable_of self.new.books ≡ durable_of self.old.books }
         // The versions stay, and the newest has the group's blocks over the one before it.
         ensures numbers { (n : ℕ) → IsVersion self.old.books n → IsVersion self.new.books n × (n < group.last) }
         ensures older { (s : State) (n k : ℕ) → IsVersion self.old.books n → version self.new.books s n k ≡ version self.old.books s n k }
@@ -150,10 +167,13 @@ impl<D: Disk> Device<D> {
         ensures volume { IsSameVolume self.old.books.sup self.new.books.sup }
         ensures ok { IfOk result (λ p. (self.old.books.stop ≡ None) × (p ≡ progress_to self.old.books.groups self.old.books.phase) × (self.new.books ≡ stepped self.old.books)) }
         ensures call { OnOk result (D.state self.new.disk ≡ told_front self.old.books.sup self.old.books.groups self.old.books.phase (D.state self.old.disk)) }
+        ensures ahead { GoesOn self.old.books self.new.books }
         // The answer tells the disk call, the mark that is stored and the call that is no longer left; Idle comes where no group is.
         ensures called { IfOk result (HasCalled (layout_of self.old.books.sup) (D.state self.old.disk) (D.state self.new.disk)) }
         ensures marked { IfOk result (HasMarked self.old.books self.new.books) }
         ensures counted { IfOk result (HasCounted (calls_left self.old.books) (calls_left self.new.books)) }
+        // A call that fails leaves what it may leave of its sectors; a device without a group makes none.
+        ensures failed { self.old.books.stop ≡ None → OnErr result (FailedFront self.old.books.sup self.old.books.groups self.old.books.phase (D.state self.old.disk) (D.state self.new.disk)) }
         ensures fault { IfErr result (IsStepFault self.old.books self.new.books (D.faults self.old.disk) (D.faults self.new.disk) (D.stops self.old.disk) (D.stops self.new.disk)) }
         ensures unmoved { IsUnmoved self.old.books → self.new.disk ≡ self.old.disk }
         ensures faults { D.faults self.old.disk ≤ D.faults self.new.disk }
@@ -218,6 +238,7 @@ impl<D: Disk> Device<D> {
         ensures state { D.state self.new.disk ≡ D.state self.old.disk }
         ensures faults { D.faults self.old.disk ≤ D.faults self.new.disk }
         ensures stops { D.stops self.new.disk ≡ D.stops self.old.disk }
+        ensures one { IsSome (D.state self.old.disk) → OnOk result (D.clock self.new.disk ≡ D.clock self.old.disk + 1) }
         ensures moved { HasMoved (D.clock self.old.disk) self.old.books.moment (D.clock self.new.disk) self.new.books.moment }
         ensures right { (t : ℕ → Bool) (s : State) → IsRight self.old.books t s → IsRight self.new.books t s }
         ensures moments { (t : ℕ → Bool) → Tells (D.state self.old.disk) (IsRight self.old.books t)
@@ -239,6 +260,8 @@ impl<D: Disk> Device<D> {
         ensures unmoved { IsSome self.old.books.stop → self.new.disk ≡ self.old.disk }
         ensures faults { D.faults self.old.disk ≤ D.faults self.new.disk }
         ensures stops { D.stops self.old.disk ≤ D.stops self.new.disk }
+        ensures one { IsSome (D.state self.old.disk) → OnOk result (D.clock self.new.disk ≡ D.clock self.old.disk + 1) }
+        ensures failed { self.old.books.stop ≡ None → OnErr result (HalfWritten (D.state self.old.disk) ((layout_of self.old.books.sup).sectors * block) from.now (D.state self.new.disk)) }
         ensures moved { HasMoved (D.clock self.old.disk) self.old.books.moment (D.clock self.new.disk) self.new.books.moment }
         ensures right { (t : ℕ → Bool) (right : Tells (D.state self.old.disk) (IsRight self.old.books t))
             → OnOk result (Tells (D.state self.new.disk) (λ s. IsRight self.new.books (touching block t) s × AreSameBut block self.old.books right.0 self.new.books s)) }
@@ -258,6 +281,30 @@ impl<D: Disk> Device<D> {
         ensures recovers { (t : ℕ → Bool) (right : Tells (D.state self.now.disk) (IsRight self.now.books t)) (image : List ℕ) → MayLeave (D.state self.now.disk) image → RecoversOne self.now.books t right.0 image }
     {
         durable_number(&self.journal)
+    }
+
+    /// Whether a block is one of the volume that is neither block 0 nor one of the log.
+    pub fn is_data(&self, block: u64) -> bool
+        ensures { result ≡ is_data (layout_of self.now.books.sup) block }
+    {
+        is_data_of(&self.journal.sup, block)
+    }
+
+    /// What is true of the books of every device.
+    pub fn steady(&self)
+        ensures steady { IsSteady self.now.books }
+        ensures order { HasOrder self.now.books }
+        ensures on_disk { IsOnDisk (D.size self.now.disk) self.now.books.sup }
+        ensures idle { calls_left self.now.books ≡ 0 → durable_of self.now.books ≡ sealed_of self.now.books }
+    {
+        let _left = self.journal.left;
+    }
+
+    /// The last entry that was durable when the device stopped, and the count of faults then.
+    pub fn stopped(&self) -> Option<Stop>
+        ensures { result ≡ self.now.books.stop }
+    {
+        self.journal.stop
     }
 
     /// The number of the last group that has left the log.

@@ -1,6 +1,7 @@
 // What a device keeps beside its disk.
 use bfs_super::Super;
 use bfs_txn::Group;
+use thiserror::Error;
 
 /// The group whose last entry has this number became durable in the call that was the so manieth since adoption. The count
 /// stands still at its end.
@@ -28,13 +29,15 @@ pub enum Progress {
 
 /// A disk call failed, and the disk's count of faults rose from `before` to `after`; where it was a write or a barrier, the
 /// device has stopped. Or it had stopped before, with so many durable entries and the count of faults then.
-#[derive(Clone, Copy, Debug, PartialEq, Eq)]
+#[derive(Clone, Copy, Debug, PartialEq, Eq, Error)]
 pub enum DeviceFault {
+    #[error("a disk call failed")]
     Disk {
         before: u64,
         after: u64,
         stops: bool,
     },
+    #[error("the device has stopped with {durable} durable entries")]
     Stopped {
         durable: u64,
         faults: u64,

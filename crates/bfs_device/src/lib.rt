@@ -7,6 +7,7 @@
 mod calls;
 mod data;
 mod device;
+mod disk_blocks;
 mod journal;
 mod look_up;
 mod read_blocks;
@@ -14,7 +15,8 @@ mod step;
 mod turn;
 
 pub use device::Device;
-pub use journal::{DeviceFault, Mark, Progress};
+pub use disk_blocks::DiskBlocks;
+pub use journal::{DeviceFault, Mark, Progress, Stop};
 
 #[cfg(test)]
 mod tests;

@@ -9,6 +9,7 @@ ghost use Rattle.bfs_device.specs.Books.{Ready, IsOnDisk, IsRight, IsVersion, Re
 ghost use Rattle.bfs_device.specs.Steps.{told_front, FailedFront, LeftFront, ReadFront, still_touched, halted, stepped, progress_to, IsStepFault, IsUnmoved, HasMoved, calls_left};
 ghost use Rattle.bfs_device.specs.Told.{HasCalled, HasMarked, HasCounted};
 ghost use Rattle.bfs_device.specs.Kept.{written_front, ReadsBut};
+ghost use Rattle.bfs_device.specs.Ahead.{GoesOn};
 
 use crate::calls::perform;
 use crate::journal::{DeviceFault, Journal, Progress, Stop};
@@ -79,9 +80,11 @@ pub fn step_of<D: Disk>(disk: &mut D, journal: &mut Journal) -> Result<Progress,
     ensures ok { IfOk result (λ p. (journal.old.stop ≡ None) × (p ≡ progress_to journal.old.groups.items journal.old.phase) × (books_of journal.new ≡ stepped (books_of journal.old))) }
     ensures call { OnOk result (D.state disk.new ≡ told_front journal.old.sup journal.old.groups.items journal.old.phase (D.state disk.old)) }
     ensures volume { IsSameVolume journal.old.sup journal.new.sup }
+    ensures ahead { GoesOn (books_of journal.old) (books_of journal.new) }
     ensures called { IfOk result (HasCalled (layout_of journal.old.sup) (D.state disk.old) (D.state disk.new)) }
     ensures marked { IfOk result (HasMarked (books_of journal.old) (books_of journal.new)) }
     ensures counted { IfOk result (HasCounted (calls_left (books_of journal.old)) (calls_left (books_of journal.new))) }
+    ensures failed { journal.old.stop ≡ None → OnErr result (FailedFront journal.old.sup journal.old.groups.items journal.old.phase (D.state disk.old) (D.state disk.new)) }
     ensures others { ReadsBut (written_front journal.old.sup journal.old.groups.items journal.old.phase) (layout_of journal.old.sup).sectors (D.state disk.old) (D.state disk.new) }
     ensures fault { IfErr result (IsStepFault (books_of journal.old) (books_of journal.new) (D.faults disk.old) (D.faults disk.new) (D.stops disk.old) (D.stops disk.new)) }
     ensures unmoved { IsUnmoved (books_of journal.old) → disk.new ≡ disk.old }

@@ -567,6 +567,14 @@ fn read_twice<D: Disk>(
     Some([first, again, kept, written])
 }
 
+// What `read_twice` answers on a device over this disk; nothing where there is no device.
+fn twice_on(alloc: Global, disk: MemDisk) -> Option<Option<[u8; 4]>> {
+    match opened_on(alloc, disk) {
+        Some((_, mut device)) => Some(read_twice(&mut device, &[7; 1024], &mut [1; 1024])),
+        None => None,
+    }
+}
+
 #[test]
 fn a_block_that_was_read_takes_no_disk_call_again(rt: HostRuntime) -> Result<(), Fail> {
     let alloc = rt.alloc();
@@ -579,11 +587,9 @@ fn a_block_that_was_read_takes_no_disk_call_again(rt: HostRuntime) -> Result<(),
         (5, None),
         (6, Some([0, 0, 0, 7])),
     ] {
-        let (_, mut device) = opened_on(alloc, failing(alloc, call)?).ok_or("no device")?;
-        let mut into = [1; 1024];
         assert_eq!(rt;
-            read_twice(&mut device, &[7; 1024], &mut into),
-            want,
+            twice_on(alloc, failing(alloc, call)?),
+            Some(want),
             "{call}"
         );
     }
@@ -618,6 +624,17 @@ fn read_around<D: Disk>(
     Some([before, sealed, home, again])
 }
 
+// What `read_around` answers on a device over this disk; nothing where there is no device.
+fn around_on(alloc: Global, disk: MemDisk, group: Group) -> Option<Option<[u8; 4]>>
+    requires ascends { Ascends group.blocks }
+    requires sized { AreOfSize 1024 group.blocks }
+{
+    match opened_on(alloc, disk) {
+        Some((sup, mut device)) => Some(read_around(&mut device, &sup, group, &mut [9; 1024])),
+        None => None,
+    }
+}
+
 #[test]
 fn a_block_that_came_home_is_read_anew(rt: HostRuntime) -> Result<(), Fail> {
     let alloc = rt.alloc();
@@ -627,12 +644,10 @@ fn a_block_that_came_home_is_read_anew(rt: HostRuntime) -> Result<(), Fail> {
         (14, None),
         (15, Some([0, 1, 1, 1])),
     ] {
-        let (sup, mut device) = opened_on(alloc, failing(alloc, call)?).ok_or("no device")?;
         let group = group_of(alloc, [1, 2, 22], &[16, 17], 1024, 1)?;
-        let mut into = [9; 1024];
         assert_eq!(rt;
-            read_around(&mut device, &sup, group, &mut into),
-            want,
+            around_on(alloc, failing(alloc, call)?, group),
+            Some(want),
             "{call}"
         );
     }
@@ -701,12 +716,19 @@ fn waiting<D: Disk>(
     }
 }
 
+// What `waiting` answers on a device over this disk; nothing where there is no device.
+fn waiting_on(alloc: Global, disk: MemDisk) -> Option<Option<(u64, bool, Progress, bool)>> {
+    match opened_on(alloc, disk) {
+        Some((sup, mut device)) => Some(waiting(alloc, &mut device, &sup)),
+        None => None,
+    }
+}
+
 #[test]
 fn sixteen_groups_may_wait(rt: HostRuntime) -> Result<(), Fail> {
     let alloc = rt.alloc();
-    let (sup, mut device) = opened_on(alloc, failing(alloc, 0)?).ok_or("no device")?;
     let want = Some((16, false, Progress::Durable(1), true));
-    assert_eq!(rt; waiting(alloc, &mut device, &sup), want);
+    assert_eq!(rt; waiting_on(alloc, failing(alloc, 0)?), Some(want));
     Ok(())
 }
 

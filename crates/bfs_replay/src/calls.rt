@@ -34,6 +34,7 @@ pub fn read_block<D: Disk>(
     ensures size { D.size disk.new ≡ D.size disk.old }
     ensures time { Elapses (D.state disk.old) result (D.clock disk.old) (D.clock disk.new) (D.since disk.old) (D.since disk.new) (MayLeave (D.state disk.old)) }
     ensures cause { HasCause (D.faults disk.old) (D.faults disk.new) result }
+    ensures stops { D.stops disk.old ≤ D.stops disk.new }
 {
     let sectors = u64::from(sup.block_size / 512);
     disk.read(sectors * place, into)
@@ -54,6 +55,7 @@ pub fn write_home<D: Disk>(
     requires long { length buffer.old ≡ sup.now.block_size }
     ensures size { D.size disk.new ≡ D.size disk.old }
     ensures cause { HasCause (D.faults disk.old) (D.faults disk.new) result }
+    ensures stops { D.stops disk.old ≤ D.stops disk.new }
     ensures next { (quiet : Bool) (image : List ℕ) (all done : List Home) → IsLogOf image sup.now all → Has (home_places all) home → Tells (D.state disk.old) (Homing quiet (block_sectors sup.now) all done image)
         → OnOk result (Tells (D.state disk.new) (Homing quiet (block_sectors sup.now) all (done ++ record { place = home; bytes = blocks_of image (log_first (geometry_of sup.now) + at) } ∷ []) image)) }
     ensures time { (image : List ℕ) (all done : List Home) → IsLogOf image sup.now all → Has (home_places all) home → Tells (D.state disk.old) (Homing true (block_sectors sup.now) all done image)
@@ -85,6 +87,7 @@ fn write_super<D: Disk>(disk: &mut D, sector: &[u8; 512]) -> Result<(), Failed>
     ensures written { OnOk result (D.state disk.new ≡ told_written (D.state disk.old) 1 sector.now) }
     ensures time { Elapses (D.state disk.old) result (D.clock disk.old) (D.clock disk.new) (D.since disk.old) (D.since disk.new) (MayLeave (told_written (D.state disk.old) 1 sector.now)) }
     ensures cause { HasCause (D.faults disk.old) (D.faults disk.new) result }
+    ensures stops { D.stops disk.old ≤ D.stops disk.new }
 {
     disk.write(1, sector)
 }
@@ -94,6 +97,7 @@ pub fn empty_log<D: Disk>(disk: &mut D, sup: &Super) -> Result<Super, Failed>
     requires { HasSectors (D.size disk.old) 2 }
     ensures size { D.size disk.new ≡ D.size disk.old }
     ensures cause { HasCause (D.faults disk.old) (D.faults disk.new) result }
+    ensures stops { D.stops disk.old ≤ D.stops disk.new }
     ensures superblock { IfOk result (λ s. (s ≡ emptied sup.now) × (super_at (sector_of s) ≡ s)) }
     ensures done { (quiet : Bool) (r : ℕ) (image : List ℕ) (all : List Home) → Tells (D.state disk.old) (Homing quiet r all all image)
         → OnOk result (Tells (D.state disk.new) (Holds (overwritten 1 (sector_of (emptied sup.now)) (with_homes r all image)))) }

@@ -74,6 +74,7 @@ pub fn read_entry<D: Disk>(
     ensures read { IfOk result (λ _. AreRead (D.state disk.old) (block_sectors sup.now) (log_first (geometry_of sup.now) + at) buffer.new) }
     ensures fault { IfErr result (IsFaultAt (D.state disk.old) (block_sectors sup.now) (log_first (geometry_of sup.now) + at) (place_at sup.now at) buffer.new) }
     ensures cause { IfErr result (HasRisen (D.faults disk.old) (D.faults disk.new)) }
+    ensures stops { D.stops disk.old ≤ D.stops disk.new }
     ensures later { D.faults disk.old ≤ D.faults disk.new }
     ensures state { D.state disk.new ≡ D.state disk.old }
     ensures size { D.size disk.new ≡ D.size disk.old }
@@ -135,6 +136,7 @@ pub fn check_log<D: Disk>(disk: &mut D, sup: &Super, buffer: &mut [u8]) -> Resul
     ensures entries { (image : List ℕ) → super_of image ≡ sup.now → Tells (D.state disk.old) (λ s. ReadsAs s image) → OnOk result (HasEntries image) }
     ensures fault { (image : List ℕ) → super_of image ≡ sup.now → Tells (D.state disk.old) (λ s. ReadsAs s image) → IfErr result (HasFault image) }
     ensures cause { IfErr result (HasRisen (D.faults disk.old) (D.faults disk.new)) }
+    ensures stops { D.stops disk.old ≤ D.stops disk.new }
     ensures later { D.faults disk.old ≤ D.faults disk.new }
     ensures state { D.state disk.new ≡ D.state disk.old }
     ensures size { D.size disk.new ≡ D.size disk.old }

@@ -19,18 +19,24 @@ use bfs_disk::Disk;
 use bfs_log::EntryFault;
 use bfs_super::{Super, SuperFault};
 use std::alloc::{AllocError, Global};
+use thiserror::Error;
 
 /// Why a volume is not recovered.
-#[derive(Clone, Copy, Debug, PartialEq, Eq)]
+#[derive(Clone, Copy, Debug, PartialEq, Eq, Error)]
 pub enum MountFault {
     /// The disk has fewer than two sectors, or fewer than the superblock counts.
+    #[error("the disk has {sectors} sectors where {needed} are needed")]
     Short { sectors: u64, needed: u64 },
     /// The first condition that the superblock breaks.
+    #[error("the superblock is bad")]
     Super(SuperFault),
     /// The first entry of the log that is malformed.
+    #[error("an entry of the log is malformed")]
     Entry(EntryFault),
     /// A disk call failed: the disk's count of faults rose from one number to the other.
+    #[error("a disk call failed")]
     Disk { before: u64, after: u64 },
+    #[error("no memory was found")]
     NoMemory,
 }
 
@@ -93,6 +99,7 @@ fn load<D: Disk>(disk: &mut D) -> Loaded
     ensures time { Passed (D.clock disk.old) (D.clock disk.new) (D.since disk.old) (D.since disk.new) (MayLeave (D.state disk.old)) }
     ensures later { D.faults disk.old ≤ D.faults disk.new }
     ensures cause { result ≡ Loaded.Failed → Rose (D.faults disk.old) (D.faults disk.new) }
+    ensures stops { D.stops disk.old ≤ D.stops disk.new }
 {
     let sectors = match disk.sectors() {
         Ok(sectors) => sectors,
@@ -122,6 +129,7 @@ fn replay_log<D: Disk>(disk: &mut D, sup: &Super, array: &mut [u8], buffer: &mut
     ensures size { D.size disk.new ≡ D.size disk.old }
     ensures later { D.faults disk.old ≤ D.faults disk.new }
     ensures cause { result ≡ Ending.Failed → Rose (D.faults disk.old) (D.faults disk.new) }
+    ensures stops { D.stops disk.old ≤ D.stops disk.new }
 {
     match check_log(disk, sup, array) {
         Ok(()) => {}
@@ -150,6 +158,7 @@ fn replay<D: Disk>(disk: &mut D, array: &mut [u8], buffer: &mut [u8]) -> Ending
     ensures known { StaysKnown (D.size disk.old) (D.size disk.new) }
     ensures later { D.faults disk.old ≤ D.faults disk.new }
     ensures cause { result ≡ Ending.Failed → Rose (D.faults disk.old) (D.faults disk.new) }
+    ensures stops { D.stops disk.old ≤ D.stops disk.new }
 {
     let sup = match load(disk) {
         Loaded::Volume(sup) => sup,
@@ -197,6 +206,7 @@ pub fn recover<D: Disk>(alloc: Global, disk: &mut D) -> Result<Super, MountFault
     ensures known { StaysKnown (D.size disk.old) (D.size disk.new) }
     ensures later { D.faults disk.old ≤ D.faults disk.new }
     ensures cause { IfErr result (HasCauseIn (D.faults disk.old) (D.faults disk.new)) }
+    ensures stops { D.stops disk.old ≤ D.stops disk.new }
 {
     let Ok(mut array) = zeros(alloc, 8192) else {
         return Err(MountFault::NoMemory);

@@ -7,6 +7,8 @@ use Rattle.bfs_device.specs.Steps.{stepped, halted, still_touched, progress_to, 
 use Rattle.bfs_device.specs.Told.{HasCalled, HasMarked, HasCounted}
 use Rattle.bfs_device.proofs.Telling.{step_called, step_marked, step_counted, step_volume, step_moment, step_used}
 use Rattle.bfs_device.proofs.Keeping.{step_done, step_failed}
+use Rattle.bfs_device.specs.Ahead.{GoesOn}
+use Rattle.bfs_device.proofs.Forward.{steady_of, step_ahead, other_ahead}
 use Rattle.bfs_device.proofs.step.step_of.Given.{Over}
 use Rattle.bfs_device.proofs.Stepping.{known_of, ok_right, err_right, step_moments}
 use Rattle.bfs_device.proofs.step.step_of.Goals as goal
@@ -88,3 +90,14 @@ returns-in-Ok-clause-others g c = step_done (books_of c.args.journal.now) (known
 
 pub returns-in-Err-clause-others : goal.returns-in-Err-clause-others
 returns-in-Err-clause-others g c = step_failed (books_of c.args.journal.now) (known_of c.args.journal.now c.requires.ready) c.act.ensures.read (g.D.Disk.state c.args.disk.now) (g.D.Disk.state c.act.new.disk) c.in-Err.ensures.failed
+
+pub returns-in-Ok-clause-ahead : goal.returns-in-Ok-clause-ahead
+returns-in-Ok-clause-ahead g c =
+    let j = c.args.journal.now in
+    subst (λ (b : Books). GoesOn (books_of j) b) (sym (new_books g c)) (step_ahead (books_of j) (steady_of j c.requires.ready))
+
+pub returns-in-Err-clause-ahead : goal.returns-in-Err-clause-ahead
+returns-in-Err-clause-ahead g c =
+    let j = c.args.journal.now in
+    let is = c.halt.ensures.books ∙ ap (λ (b : Books). halted b c.faults.result) c.act.ensures.books in
+    other_ahead (books_of j) (books_of c.halt.new.journal) (ap (λ (b : Books). b.sup) is) (ap (λ (b : Books). b.groups) is) (ap (λ (b : Books). b.phase) is) (ap (λ (b : Books). b.left) is)

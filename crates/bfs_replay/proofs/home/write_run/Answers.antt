@@ -25,6 +25,7 @@ loop-i-preserved g c =
     record {
       long = c.write_home.auto.buffer ∙ l.invariant.long;
       later = omega (arith, l.invariant.later, c.in-Ok.ensures.cause.later);
+      stops = omega (arith, l.invariant.stops, c.in-Ok.ensures.stops);
       size = c.in-Ok.ensures.size ∙ l.invariant.size;
       next = λ quiet image all done log has known.
           let f = blocks_of image in

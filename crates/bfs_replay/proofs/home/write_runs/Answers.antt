@@ -55,6 +55,7 @@ loop-run-preserved g c =
       low = c.place_on-place.ensures.inside;
       long = c.in-Ok.ensures.long;
       later = omega (arith, l.invariant.later, c.in-Ok.ensures.cause.later);
+      stops = omega (arith, l.invariant.stops, c.in-Ok.ensures.stops);
       size = c.in-Ok.ensures.size ∙ l.invariant.size;
       next = λ quiet image all done log has known.
           let f = blocks_of image in

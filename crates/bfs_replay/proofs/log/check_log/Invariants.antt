@@ -13,6 +13,7 @@ invariant-loop-at g l = record {
   low : l.at < l.sup.log_blocks.len;
   long : length l.buffer ≡ l.sup.block_size;
   later : g.D.Disk.faults l.fn.disk ≤ g.D.Disk.faults l.disk;
+  stops : g.D.Disk.stops l.fn.disk ≤ g.D.Disk.stops l.disk;
   state : g.D.Disk.state l.disk ≡ g.D.Disk.state l.fn.disk;
   size : g.D.Disk.size l.disk ≡ g.D.Disk.size l.fn.disk;
   time : Passed (g.D.Disk.clock l.fn.disk) (g.D.Disk.clock l.disk) (g.D.Disk.since l.fn.disk) (g.D.Disk.since l.disk) (MayLeave (g.D.Disk.state l.fn.disk));

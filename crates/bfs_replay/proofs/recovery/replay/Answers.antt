@@ -1,4 +1,4 @@
-use Rattle.std.proofs.Common.{◌≡◌, ◌∙◌, rules, inl, sym, ap, subst}
+use Rattle.std.proofs.Common.{◌≡◌, ◌≢◌, ◌∙◌, rules, inl, sym, ap, subst}
 use Rattle.bfs_base.proofs.Moments.{passed_none, passed_then}
 use Rattle.bfs_disk.specs.State.{Tells, Holds}
 use Rattle.bfs_super.specs.declared.sup.Super.{Super}
@@ -39,3 +39,15 @@ returns-clause-time g c image held =
     let mid : Tells (g.D.Disk.state c.load.new.disk) (Holds image) = (held.0, (c.in-Volume.ensures.state ∙ held.1), held.2) in
     passed_then R (passed_then R (passed_none _ _ R) c.in-Volume.ensures.time (λ i r. r) (λ i left. inl (held_image (g.D.Disk.state disk) image i held left)))
     (c.replay_log.ensures.time image (sym found.0) found.1 mid) (λ i r. r) (λ i r. r)
+
+pub returns-then-sup-clause-time : goal.returns-then-sup-clause-time
+returns-then-sup-clause-time g c image held =
+    let R = GoesOn image in
+    passed_then R (passed_none _ _ R) c.in-Volume.ensures.time (λ i r. r) (λ i left. inl (held_image (g.D.Disk.state c.args.disk.now) image i held left))
+
+pub returns-clause-unwritten : goal.returns-clause-unwritten
+returns-clause-unwritten g c image held empty =
+    let found = c.in-Volume.ensures.found image held in
+    let same : c.in-Volume.sup.log_start ≡ c.in-Volume.sup.log_end = subst (λ (t : Super). t.log_start ≡ t.log_end) (sym found.0) empty in
+    let other : c.in-Volume.sup.log_start ≢ c.in-Volume.sup.log_end = search rules in
+    absurd (other same)

@@ -6,6 +6,9 @@ use Rattle.bfs_device.specs.Steps.{calls_left}
 use Rattle.bfs_device.specs.Seals.{sealed_with, calls_of_group, last_used}
 use Rattle.bfs_device.proofs.Stepping.{Known, known_of}
 use Rattle.bfs_device.proofs.Sealing.{sealed_right, still_version, version_low, older_version, newest_version, older_used, newest_used, sealed_calls, sealed_last, sealed_used}
+use Rattle.bfs_device.specs.Books.{durable_of}
+use Rattle.bfs_device.specs.Ahead.{IsGroupOf}
+use Rattle.bfs_device.proofs.Forward.{sealed_only, sealed_groups, sealed_durable}
 use Rattle.bfs_device.proofs.device.Device.seal.Goals as goal
 use Rattle.bfs_device.proofs.device.Device.seal.Given.{Over}
 
@@ -42,3 +45,12 @@ returns-clause-sealed g c = ap sealed_of (new_books g c) ∙ sealed_last c.args.
 
 pub returns-clause-last_used : goal.returns-clause-last_used
 returns-clause-last_used g c = ap last_used (new_books g c) ∙ sealed_used c.args.self.now.books c.args.group
+
+pub returns-clause-only : goal.returns-clause-only
+returns-clause-only g c = λ n is. sealed_only c.args.self.now.books c.args.group n (subst (λ (b : Books). IsVersion b n) (new_books g c) is)
+
+pub returns-clause-groups : goal.returns-clause-groups
+returns-clause-groups g c = λ x is. sealed_groups c.args.self.now.books x c.args.group (subst (λ (b : Books). IsGroupOf x b.groups) (new_books g c) is)
+
+pub returns-clause-durable : goal.returns-clause-durable
+returns-clause-durable g c = ap durable_of (new_books g c) ∙ sealed_durable c.args.self.now.books c.args.group

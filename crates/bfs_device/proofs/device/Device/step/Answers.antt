@@ -8,6 +8,7 @@ use Rattle.bfs_device.specs.Steps.{still_touched}
 use Rattle.bfs_device.specs.Told.{HasCalled}
 use Rattle.bfs_device.proofs.Stepping.{on_layout}
 use Rattle.bfs_device.proofs.Keeping.{kept_as, kept_on}
+use Rattle.bfs_device.specs.Ahead.{GoesOn}
 use Rattle.bfs_device.proofs.device.Device.step.Goals as goal
 
 pub invariant_of-self : goal.invariant_of-self
@@ -42,3 +43,8 @@ returns-clause-called g c =
 
 pub returns-clause-volume : goal.returns-clause-volume
 returns-clause-volume g c = subst (λ (x : View g.row.D.Denot). IsSameVolume x.books.sup c.step_of.new.journal.sup) c.self.view_is c.step_of.ensures.volume
+
+pub returns-clause-ahead : goal.returns-clause-ahead
+returns-clause-ahead g c =
+    let new = c.step_of.new in
+    subst (λ (x : View g.row.D.Denot). GoesOn x.books (books_of new.journal)) c.self.view_is c.step_of.ensures.ahead

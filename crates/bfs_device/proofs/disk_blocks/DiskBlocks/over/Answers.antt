@@ -1,0 +1,20 @@
+use Rattle.std.proofs.Common.{◌≡◌, ◌*◌, ◌/◌, ◌<◌, ◌≤◌, ◌^◌, ℕ, true, sym, ap, subst, arith}
+use Rattle.bfs_super.specs.declared.geometry.Geometry.{Geometry}
+use Rattle.bfs_super.specs.Conditions.{natural}
+use Rattle.bfs_device.specs.Plain.{has_sectors}
+use Rattle.bfs_device.proofs.Sizes.{sizes, volume_small}
+use Rattle.bfs_device.proofs.PlainReads.{on_has}
+use Rattle.bfs_device.proofs.disk_blocks.DiskBlocks.over.Goals as goal
+
+pub invariant_of-result : goal.invariant_of-result
+invariant_of-result g c =
+    let s = c.args.sup.now in
+    let same : c.geometry-blocks.result.blocks ≡ natural s.num_blocks = ap (λ (x : Geometry). x.blocks) c.geometry-blocks.ensures in
+    let low : s.block_size / 512 * natural s.num_blocks ≤ 67108864 = volume_small s c.requires.valid in
+    let small : s.block_size / 512 * natural s.num_blocks < 2 ^ 63 = omega (arith, low) in
+    record {
+      fits = (sizes s c.requires.valid).2;
+      even = (sizes s c.requires.valid).0;
+      small = subst (λ (n : ℕ). s.block_size / 512 * n < 2 ^ 63) (sym same) small;
+      on_disk = subst (λ (n : ℕ). has_sectors (g.D.Disk.size c.args.disk.now) (s.block_size / 512 * n) ≡ true) (sym same) (on_has s (g.D.Disk.size c.args.disk.now) c.requires.on_disk);
+    }

@@ -1,0 +1,142 @@
+// The blocks of a volume as its disk has them, to be read.
+ghost use Rattle.std.specs.Prelude.{◌≡◌, ◌≤◌, ◌<◌, ◌*◌, ◌/◌, ◌^◌, ℕ, length, take, true, OnOk, None};
+ghost use Rattle.bfs_base.specs.Counts.{HasCause};
+ghost use Rattle.bfs_base.specs.Moments.{Elapses};
+ghost use Rattle.bfs_disk.specs.Disk.{MayLeave, HasSectors};
+ghost use Rattle.bfs_super.specs.Conditions.{natural, IsValid};
+ghost use Rattle.bfs_device.specs.Books.{IsOnDisk};
+ghost use Rattle.bfs_device.specs.Data.{AreRead};
+ghost use Rattle.bfs_device.specs.Plain.{has_sectors};
+
+use bfs_disk::{Disk, Failed};
+use bfs_super::Super;
+use bfs_txn::{BlockFault, Blocks};
+use std::snapshot::Snapshot;
+
+/// A disk that is lent, as the blocks of a volume. It tells what the disk reads, and reads each block anew. What it notes
+/// for its owner is what the disk tells, and the disk's length: no read changes them.
+pub struct DiskBlocks<'a, D: Disk> {
+    disk: &'a mut D,
+    block_size: u32,
+    blocks: u64,
+    /// The block that was read last, and its bytes, which are the first ones here.
+    read: Snapshot<Option<u64>>,
+    bytes: Snapshot<[u8; 8192]>,
+    ghost fits: { block_size ≤ 8192 },
+    ghost even: { block_size ≡ 512 * (block_size / 512) },
+    ghost small: { block_size / 512 * blocks < 2 ^ 63 },
+    ghost on_disk: { has_sectors (D.size disk.now) (block_size / 512 * blocks) ≡ true },
+}
+
+impl<'a, D: Disk> DiskBlocks<'a, D> {
+    /// The blocks of the volume with this superblock. Takes no memory.
+    pub fn over(disk: &'a mut D, sup: &Super) -> DiskBlocks<'a, D>
+        requires valid { IsValid sup.now }
+        requires on_disk { IsOnDisk (D.size disk.old) sup.now }
+        ensures disk { result.disk.ghost_name ≡ disk.entry.ghost_name }
+        ensures disk_now { result.disk.now ≡ disk.old }
+        ensures size { result.block_size ≡ sup.now.block_size }
+        ensures blocks { result.blocks ≡ natural sup.now.num_blocks }
+        ensures unread { result.read.value ≡ None }
+    {
+        let blocks = sup.geometry().blocks;
+        DiskBlocks {
+            disk,
+            block_size: sup.block_size,
+            blocks,
+            read: Snapshot::of(&None),
+            bytes: Snapshot::of(&[0; 8192]),
+        }
+    }
+
+    /// Gives the disk back.
+    pub fn done(self)
+        ensures { self.exit.0.now ≡ self.entry.disk.now }
+    {
+        let DiskBlocks {
+            disk: _,
+            block_size: _,
+            blocks: _,
+            read: _,
+            bytes: _,
+        } = self;
+    }
+}
+
+// Reads one of so many blocks.
+fn read_place<D: Disk>(
+    disk: &mut D,
+    block_size: u32,
+    blocks: u64,
+    place: u64,
+    into: &mut [u8],
+) -> Result<(), Failed>
+    requires even { block_size ≡ 512 * (block_size / 512) }
+    requires small { block_size / 512 * blocks < 2 ^ 63 }
+    requires on_disk { HasSectors (D.size disk.old) (block_size / 512 * blocks) }
+    requires place { place < blocks }
+    requires long { length into.old ≡ block_size }
+    ensures bytes { OnOk result (AreRead (D.state disk.old) (block_size / 512) place into.new) }
+    ensures state { D.state disk.new ≡ D.state disk.old }
+    ensures size { D.size disk.new ≡ D.size disk.old }
+    ensures time { Elapses (D.state disk.old) result (D.clock disk.old) (D.clock disk.new) (D.since disk.old) (D.since disk.new) (MayLeave (D.state disk.old)) }
+    ensures cause { HasCause (D.faults disk.old) (D.faults disk.new) result }
+    ensures stops { D.stops disk.new ≡ D.stops disk.old }
+{
+    disk.read(u64::from(block_size / 512) * place, into)
+}
+
+// Bytes that were read, for contracts alone.
+fn seen(bytes: &[u8]) -> Snapshot<[u8; 8192]>
+    requires { length bytes.now ≤ 8192 }
+    ensures { take (length bytes.now) result.value ≡ bytes.now }
+{
+    let mut copy = [0; 8192];
+    copy[..bytes.len()].copy_from_slice(bytes);
+    Snapshot::of(&copy)
+}
+
+impl<D: Disk> Blocks for DiskBlocks<'_, D> {
+    ghost use Rattle.std.specs.Prelude.{ℕ, Option, None, [], ◌∷◌, false, take};
+    ghost use Rattle.std.specs.Option.{option_map};
+    ghost use Rattle.bfs_disk.specs.State.{State};
+    ghost use Rattle.bfs_device.specs.Plain.{plain, plain_sized};
+
+    ghost told = { λ b. option_map (plain (b.block_size / 512) b.blocks) (D.state b.disk.now) };
+
+    ghost size = { λ b. b.block_size };
+
+    ghost counts = { λ b. record { faults = D.faults b.disk.now; stops = D.stops b.disk.now; stop = None } };
+
+    ghost changed = { λ b k. false };
+
+    ghost pairs = { λ b. 0 };
+
+    ghost last = { λ b. option_map (λ k. (k, take b.block_size b.bytes.value)) b.read.value };
+
+    ghost Note = { Option State × Option ℕ };
+
+    ghost frame = { λ b. record { note = (D.state b.disk.now, D.size b.disk.now); names = b.disk.ghost_name ∷ []; kept = []; below = None } };
+
+    ghost sized = { λ b. plain_sized b.block_size b.blocks b.even (D.state b.disk.now) (D.size b.disk.now) (D.filled b.disk.now) (D.sized b.disk.now) b.on_disk };
+
+    fn get(&mut self, block: u64, into: &mut [u8]) -> Result<(), BlockFault> {
+        if block >= self.blocks {
+            self.read = Snapshot::of(&Some(block));
+            self.bytes = seen(into);
+            return Ok(());
+        }
+        let before = self.disk.faults();
+        match read_place(self.disk, self.block_size, self.blocks, block, into) {
+            Ok(()) => {
+                self.read = Snapshot::of(&Some(block));
+                self.bytes = seen(into);
+                Ok(())
+            }
+            Err(_) => Err(BlockFault::Disk {
+                before,
+                after: self.disk.faults(),
+            }),
+        }
+    }
+}

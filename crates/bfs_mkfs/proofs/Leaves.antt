@@ -1,5 +1,5 @@
 -- The rows of a new volume's trees, and where its trees are.
-use Rattle.std.proofs.Common.{◌≡◌, ◌≤◌, ◌<◌, ◌+◌, ◌*◌, ◌^◌, ℕ, ℤ, zero, suc, pos, List, [], ◌∷◌, ◌++◌, length, cond, refl, sym, ap, ◌∙◌, arith, take, drop, append_assoc, append-nil, length-append}
+use Rattle.std.proofs.Common.{◌≡◌, ◌≤◌, ◌<◌, ◌+◌, ◌*◌, ◌^◌, ℕ, ℤ, zero, suc, pos, List, [], ◌∷◌, ◌++◌, length, cond, refl, sym, ap, ◌∙◌, subst, arith, take, drop, append_assoc, append-nil, length-append}
 use Rattle.std.specs.Prelude.{codes}
 use Rattle.std.specs.List.{AllByRecursion}
 use Rattle.std.proofs.Math.Nat.{div-eq_of_lt}
@@ -9,9 +9,10 @@ use Rattle.bfs_base.specs.declared.kind.KeyKind.TheVariants.{Text, I64}
 use Rattle.bfs_super.specs.Geometry.{IsBlockSize}
 use Rattle.bfs_super.specs.declared.geometry.Geometry.{Geometry}
 use Rattle.bfs_node.specs.Page.{Row, HasKeys, IsKeyLength}
-use Rattle.bfs_rows.specs.Reached.{times_named, chain_in, chains_in, is_fragment}
+use Rattle.bfs_values.specs.Reached.{times_named, chain_in, chains_in, is_fragment, AllMean}
 use Rattle.bfs_values.specs.declared.link.Link.TheVariants.{Number}
 use Rattle.bfs_values.specs.Links.{link_by, link_in}
+use Rattle.bfs_values.specs.Values.{HasNumbers}
 use Rattle.bfs_sound.specs.Volumes.{Volume}
 use Rattle.bfs_mkfs.specs.Laid.{pages_length, blocks_in, tree_blocks, name_at, size_at, modified_at, root_rows, index_rows, root_tree, indices_tree, name_tree, size_tree, modified_tree, IsPlanned, HasTrees}
 use Rattle.bfs_mkfs.proofs.Planned.{used_bound}
@@ -38,6 +39,10 @@ no_chains : (rows : List Row) → AllByRecursion IsSmall rows → chains_in rows
 no_chains [] all = refl
 no_chains (r ∷ rs) all = ap (λ l. chain_in l ++ chains_in rs) (row_link r all.0) ∙ no_chains rs all.1
 
+all_mean : (rows : List Row) → AllByRecursion IsSmall rows → (bytes : List ℕ) → AllMean bytes rows
+all_mean [] all bytes = tt
+all_mean (r ∷ rs) all bytes = (subst (HasNumbers bytes) (sym (row_link r all.0)) tt, all_mean rs all.1 bytes)
+
 no_keys : (kind : KeyKind) → HasKeys kind []
 no_keys kind j h = absurd (omega (arith, h))
 
@@ -46,10 +51,10 @@ more_keys kind r rs first rest zero h = first
 more_keys kind r rs first rest (suc j) h = rest j (omega (arith, h))
 
 empty_text : IsPlainLeaf Text []
-empty_text = record { keys = no_keys Text; ascend = tt; few = omega arith; no_fragment = no_fragments [] tt; no_chain = refl }
+empty_text = record { keys = no_keys Text; ascend = tt; few = omega arith; no_fragment = no_fragments [] tt; no_chain = refl; mean = all_mean [] tt }
 
 empty_long : IsPlainLeaf I64 []
-empty_long = record { keys = no_keys I64; ascend = tt; few = omega arith; no_fragment = no_fragments [] tt; no_chain = refl }
+empty_long = record { keys = no_keys I64; ascend = tt; few = omega arith; no_fragment = no_fragments [] tt; no_chain = refl; mean = all_mean [] tt }
 
 small_of : (n : ℕ) → n ≤ 2600 → n < 2 ^ 62
 small_of n h = omega (arith, h)
@@ -61,6 +66,7 @@ root_leaf g small = record {
   few = omega arith;
   no_fragment = no_fragments (root_rows g) rows;
   no_chain = no_chains (root_rows g) rows;
+  mean = all_mean (root_rows g) rows;
 }
   where
     rows : AllByRecursion IsSmall (root_rows g)
@@ -73,6 +79,7 @@ index_leaf g small = record {
   few = omega arith;
   no_fragment = no_fragments (index_rows g) rows;
   no_chain = no_chains (index_rows g) rows;
+  mean = all_mean (index_rows g) rows;
 }
   where
     rows : AllByRecursion IsSmall (index_rows g)

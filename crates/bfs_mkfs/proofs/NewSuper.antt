@@ -113,7 +113,7 @@ module _ (g : Geometry) (label : List ℕ) (planned : IsPlanned g) where
     log_start = (omega (arith, ints), (let p = planned.log_low in omega (arith, ints, p)));
     log_end = (omega (arith, ints), (let p = planned.log_low in omega (arith, ints, p)));
     root = inode_run g.root (omega arith) root_in;
-    indices = (inode_run g.indices (omega (arith, apart)) indices_in, λ e. (let a = place g.indices in let b = place g.root in let same : block_of_run s (address g.indices) ≡ block_of_run s (address g.root) = e in omega (arith, a, b, same, apart)));
+    indices = inr (inode_run g.indices (omega (arith, apart)) indices_in, λ e. (let a = place g.indices in let b = place g.root in let same : block_of_run s (address g.indices) ≡ block_of_run s (address g.root) = e in omega (arith, a, b, same, apart)));
   }
 
   pub geometry_same : geometry_of s ≡ g

@@ -13,10 +13,10 @@ use Rattle.bfs_pages.specs.Shapes.{leaf_body, leaf_shape, entries_in, AscendAll}
 use Rattle.bfs_pages.specs.Trees.{is_place, page_in, place_of, is_page, body_of, body_in, neighbours_in, held, IsTree}
 use Rattle.bfs_pages.proofs.Good.{true-page}
 use Rattle.bfs_pages.proofs.Placed.{held_more}
-use Rattle.bfs_rows.specs.Rows.{rows_in}
-use Rattle.bfs_rows.specs.Reached.{times_named, chains_in, Ends, AreReached, IsWholeTree}
+use Rattle.bfs_values.specs.Rows.{rows_in}
+use Rattle.bfs_values.specs.Reached.{times_named, chains_in, Ends, AreReached, IsWholeTree, AllMean}
 use Rattle.bfs_values.specs.Values.{chain_of}
-use Rattle.bfs_rows.proofs.Rows.{rows_those}
+use Rattle.bfs_values.proofs.Rows.{rows_those}
 use Rattle.bfs_mkfs.specs.Laid.{IsLeaf, new_header}
 
 held_none : (x : ℕ) → held 0 x ≡ 0
@@ -72,8 +72,9 @@ module _ (kind : KeyKind) (bytes : List ℕ) (rows : List Row) (long : length by
   pub rows_are : rows_in kind bytes ≡ rows
   rows_are = sym (rows_those kind bytes [] (leaf_shape 1024 rows) [] is_tree)
 
-  pub whole_tree : ((r : ℕ) (f : ℕ) → times_named r f rows ≡ 0) → chains_in rows ≡ [] → IsWholeTree kind bytes
-  whole_tree none no_chain = record {
+  pub whole_tree : ((r : ℕ) (f : ℕ) → times_named r f rows ≡ 0) → chains_in rows ≡ [] → AllMean bytes rows → IsWholeTree kind bytes
+  whole_tree none no_chain all = record {
+    whole = ap (λ n. n % 1024) long;
     reached = [];
     shape = leaf_shape 1024 rows;
     free = [];
@@ -85,4 +86,5 @@ module _ (kind : KeyKind) (bytes : List ℕ) (rows : List Row) (long : length by
       named = λ at. ((λ h. absurd (omega (arith, h))), (λ f. let z : times_named at f.0 rows ≡ 0 = none at f.0 in let h : 0 < times_named at f.0 rows = f.1 in absurd (omega (arith, z, h))));
       each = λ at f h. absurd (let z : 0 < times at [] = h in omega (arith, z));
     });
+    mean = subst (AllMean bytes) (sym rows_are) all;
   }

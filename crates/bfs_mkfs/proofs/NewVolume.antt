@@ -18,12 +18,13 @@ use Rattle.bfs_stream.proofs.Doubles.{times-append}
 use Rattle.bfs_tree.specs.Listings.{listed, listed_among}
 use Rattle.bfs_tree.specs.Trees.{Node, Tree, empty_tree}
 use Rattle.bfs_tree.proofs.Empties.{empty-plain}
-use Rattle.bfs_rows.specs.Rows.{rows_in}
-use Rattle.bfs_rows.specs.Reached.{AreWritten}
+use Rattle.bfs_values.specs.Rows.{rows_in}
+use Rattle.bfs_values.specs.Reached.{AreWritten}
 use Rattle.bfs_sound.specs.Volumes.{Volume, sizes, log_blocks, IsMarked}
-use Rattle.bfs_sound.specs.Inodes.{content, inode_blocks, id_of}
+use Rattle.bfs_sound.specs.Inodes.{content, inode_blocks, id_of, inodes_of}
 use Rattle.bfs_sound.specs.Attributes.{attribute_directory, attribute_inodes}
 use Rattle.bfs_sound.specs.Owners.{node_blocks, index_blocks, reach, Accounts}
+use Rattle.bfs_sound.proofs.Parts.{sound_from}
 use Rattle.bfs_sound.specs.Whole.{HasIndices, IsSound}
 use Rattle.bfs_mkfs.specs.Laid.{pages_length, tree_blocks, blocks_in, bitmap_bytes, name_at, size_at, modified_at, IsPlanned, HasTrees}
 use Rattle.bfs_bitmap.specs.Runs.{marked}
@@ -31,7 +32,7 @@ use Rattle.bfs_mkfs.proofs.Trees.{block_bounds}
 use Rattle.bfs_mkfs.proofs.Bytes.{blocks_by}
 use Rattle.bfs_mkfs.proofs.Bits.{new_marked}
 use Rattle.bfs_mkfs.proofs.Leaves.{root_stood, indices_stood, name_stood, size_stood, modified_stood, indices_at, used_at}
-use Rattle.bfs_mkfs.proofs.Standing.{the_root, no_directory, rows_proper, index_row, new_stands}
+use Rattle.bfs_mkfs.proofs.Standing.{the_root, no_directory, has_built_in, directory_there, rows_proper, index_row, new_stands}
 
 -- the only entry of the tree's nodes
 no_entries : {X : Type 0} (es : List X) → length es ≡ 0 → es ≡ []
@@ -132,7 +133,8 @@ module _ (g : Geometry) (stamp : ℤ) (image : List ℕ) (planned : IsPlanned g)
   index_are : index_blocks v ≡ own g.indices ++ (own (modified_at g) ++ (own (name_at g) ++ (own (size_at g) ++ [])))
   unfolding index_blocks
   index_are =
-      ap (λ rows. flat_map (inode_blocks v) (g.indices ∷ map id_of rows)) (rows_proper g stamp image planned trees)
+      ap (λ o. flat_map (inode_blocks v) (inodes_of v o)) (directory_there g stamp image planned trees)
+      ∙ ap (λ rows. flat_map (inode_blocks v) (g.indices ∷ map id_of rows)) (rows_proper g stamp image planned trees)
       ∙ ap₂ (λ a b. a ++ b) (indices_stood g stamp image planned trees).blocks
       (ap₂ (λ a b. a ++ b) (modified_stood g stamp image planned trees).blocks
       (ap₂ (λ a b. a ++ b) (name_stood g stamp image planned trees).blocks
@@ -250,7 +252,7 @@ module _ (g : Geometry) (stamp : ℤ) (image : List ℕ) (planned : IsPlanned g)
   written_none : (id : ℕ) (name : List ℕ) (own_kind kind : KeyKind) → own_kind ≡ kind → rows_in own_kind (content v id) ≡ [] → (name ≡ codes "last_modified") ⊎ ((name ≡ codes "name") ⊎ (name ≡ codes "size"))
       → AreWritten (content v id) (rows_in kind (content v id)) (listed tree name kind)
   written_none id name own_kind kind same none which =
-      subst (λ rows. AreWritten (content v id) rows (listed tree name kind)) (sym (ap (λ k. rows_in k (content v id)) (sym same) ∙ none)) (record { mean = tt; are = listed_none g.root stamp kind name which })
+      subst (λ rows. AreWritten (content v id) rows (listed tree name kind)) (sym (ap (λ k. rows_in k (content v id)) (sym same) ∙ none)) (record { are = listed_none g.root stamp kind name which })
 
   indices_listed : HasIndices v tree
   indices_listed name value kind row there = by_row (index_row g stamp image planned trees name value row)
@@ -258,11 +260,11 @@ module _ (g : Geometry) (stamp : ℤ) (image : List ℕ) (planned : IsPlanned g)
       by_row : ((name ≡ codes "last_modified") × (value ≡ pos (modified_at g))) ⊎ ((name ≡ codes "name") × (value ≡ pos (name_at g))) ⊎ ((name ≡ codes "size") × (value ≡ pos (size_at g)))
           → AreWritten (content v (natural value)) (rows_in kind (content v (natural value))) (listed tree name kind)
       by_row (inl e) = subst (λ z. AreWritten (content v (natural z)) (rows_in kind (content v (natural z))) (listed tree name kind)) (sym e.1)
-          (written_none (modified_at g) name I64 kind (same_kind name (codes "last_modified") I64 kind e.0 (empty-plain g.root stamp).by_time there) (modified_stood g stamp image planned trees).rows_of (inl e.0))
+          (written_none (modified_at g) name I64 kind (same_kind name (codes "last_modified") I64 kind e.0 has_built_in.by_time there) (modified_stood g stamp image planned trees).rows_of (inl e.0))
       by_row (inr (inl e)) = subst (λ z. AreWritten (content v (natural z)) (rows_in kind (content v (natural z))) (listed tree name kind)) (sym e.1)
-          (written_none (name_at g) name Text kind (same_kind name (codes "name") Text kind e.0 (empty-plain g.root stamp).by_name there) (name_stood g stamp image planned trees).rows_of (inr (inl e.0)))
+          (written_none (name_at g) name Text kind (same_kind name (codes "name") Text kind e.0 has_built_in.by_name there) (name_stood g stamp image planned trees).rows_of (inr (inl e.0)))
       by_row (inr (inr e)) = subst (λ z. AreWritten (content v (natural z)) (rows_in kind (content v (natural z))) (listed tree name kind)) (sym e.1)
-          (written_none (size_at g) name I64 kind (same_kind name (codes "size") I64 kind e.0 (empty-plain g.root stamp).by_size there) (size_stood g stamp image planned trees).rows_of (inr (inr e.0)))
+          (written_none (size_at g) name I64 kind (same_kind name (codes "size") I64 kind e.0 has_built_in.by_size there) (size_stood g stamp image planned trees).rows_of (inr (inr e.0)))
 
   pub new_sound : IsSound v tree
-  new_sound = record { plain = empty-plain g.root stamp; stands = new_stands g stamp image planned trees; indices = indices_listed; accounts = accounts }
+  new_sound = sound_from v tree (empty-plain g.root stamp) (new_stands g stamp image planned trees) indices_listed accounts

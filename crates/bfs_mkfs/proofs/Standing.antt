@@ -1,10 +1,11 @@
 -- The tree of a new volume stands on it.
-use Rattle.std.proofs.Common.{◌≡◌, ◌-◌, ◌*◌, ◌/◌, ◌%◌, ◌↔◌, ◌⊎◌, inl, inr, ℕ, ℤ, zero, suc, pos, List, [], ◌∷◌, ◌++◌, length, Option, Some, None, Bool, true, false, cond, refl, sym, ap, ap₂, ◌∙◌, subst, arith, drop, replicate, get_or}
+use Rattle.std.proofs.Common.{◌≡◌, ◌-◌, ◌*◌, ◌/◌, ◌%◌, ◌<◌, ◌↔◌, ◌⊎◌, inl, inr, ℕ, ℤ, zero, suc, pos, List, [], ◌∷◌, ◌++◌, length, Option, Some, None, Bool, true, false, cond, refl, sym, ap, ap₂, ◌∙◌, subst, arith, drop, replicate, get_or}
 use Rattle.std.proofs.lemmas.List.{drop-replicate}
 use Rattle.std.specs.Prelude.{codes, ◌==◌, ◌||◌, nat_lt}
 use Rattle.std.specs.List.{filter}
 use Rattle.std.specs.declared.cmp.Ordering.{Ordering}
 use Rattle.std.specs.declared.cmp.Ordering.TheVariants.{Less, Equal, Greater}
+use Rattle.std.specs.Int.{w32, cast_signed}
 use Rattle.std.specs.Ordering.{nat_cmp, eq_by_cmp, is_eq}
 use Rattle.std.specs.Cmp.{nat_cmp_total}
 use Rattle.std.specs.Cmp.Lexicographic.{nat_list_cmp_total}
@@ -12,7 +13,7 @@ use Rattle.std.specs.FinMap.{get, empty, insert, from_entries, get-insert, get-e
 use Rattle.bfs_base.specs.Keys.{text_cmp, IsTreeKind}
 use Rattle.bfs_base.specs.declared.kind.KeyKind.{KeyKind}
 use Rattle.bfs_base.specs.declared.kind.KeyKind.TheVariants.{Text, I64}
-use Rattle.bfs_bytes.specs.Fields.{unsigned_at}
+use Rattle.bfs_bytes.specs.Fields.{unsigned_at, signed32_at}
 use Rattle.bfs_super.specs.Conditions.{natural}
 use Rattle.bfs_super.specs.declared.geometry.Geometry.{Geometry}
 use Rattle.bfs_node.specs.Page.{Row}
@@ -22,20 +23,19 @@ use Rattle.bfs_smalldata.specs.Items.{Item, items_of, items_in, size_in, item_in
 use Rattle.std.specs.Option.{option_map}
 use Rattle.byteorder.specs.Endian.{little_number, little_from}
 use Rattle.bfs_tree.specs.declared.call.Kind.TheVariants.{Dir}
-use Rattle.bfs_tree.specs.Trees.{Node, Tree, IsNode, IsPlain, new_node, empty_tree, built_in}
-use Rattle.bfs_tree.proofs.Empties.{empty-plain}
+use Rattle.bfs_tree.specs.Trees.{Node, Tree, IsNode, HasBuiltIn, new_node, empty_tree, built_in}
 use Rattle.bfs_sound.specs.Volumes.{Volume, sizes}
 use Rattle.bfs_stream.specs.Sizes.{first_block}
-use Rattle.bfs_sound.specs.Inodes.{HasBit, mode_bits, is_proper, proper_rows}
+use Rattle.bfs_sound.specs.Inodes.{HasBit, mode_bits, is_proper, proper_rows, rows_of, index_directory}
 use Rattle.bfs_sound.specs.Attributes.{is_zero, attribute_directory, HasDirectory, attributes_in, attributes_of}
 use Rattle.bfs_sound.specs.Nodes.{HasNode, AreApart}
-use Rattle.bfs_sound.specs.Listings.{IsChild, IsRow, Lists, IsIndex, IsIndexRow, IsIndexOf, Stands}
+use Rattle.bfs_sound.specs.Listings.{IsChild, IsRow, Lists, IsIndex, HasIndexDirectory, IsIndexRow, IsIndexOf, Stands}
 use Rattle.bfs_mkfs.specs.Laid.{tree_blocks, blocks_in, name_at, size_at, modified_at, root_rows, index_rows, root_tree, indices_tree, name_tree, size_tree, modified_tree, IsPlanned, HasTrees}
 use Rattle.bfs_mkfs.specs.declared.tree.NewTree.{NewTree}
 use Rattle.bfs_mkfs.proofs.Bytes.{blocks_by}
 use Rattle.bfs_mkfs.proofs.Fields.{uid_is, gid_is, created_is, modified_is, changed_is, attributes_are, small_data_is}
 use Rattle.bfs_mkfs.proofs.Stood.{Stood}
-use Rattle.bfs_mkfs.proofs.Leaves.{root_stood, indices_stood, name_stood, size_stood, modified_stood}
+use Rattle.bfs_mkfs.proofs.Leaves.{indices_at, root_stood, indices_stood, name_stood, size_stood, modified_stood}
 
 -- keys that tie are the same
 tied : (o : Ordering) → is_eq o ≡ true → o ≡ Equal
@@ -92,6 +92,10 @@ no_items : (n : ℕ) → items_of (replicate n 0) ≡ Some []
 unfolding items_of
 no_items n = no_items_in (length (replicate {A = ℕ} n 0)) n
 
+zero_signed : (bytes : List ℕ) (at : ℕ) → unsigned_at 4 bytes at ≡ 0 → pos 0 ≡ signed32_at bytes at
+unfolding signed32_at
+zero_signed bytes at is = sym (ap (cast_signed w32) is)
+
 -- the only node of the tree of a new volume
 module _ (root : ℕ) (stamp : ℤ) where
   abbrev pub the_root : Node
@@ -134,6 +138,19 @@ module _ (root : ℕ) (stamp : ℤ) where
             | false ↦ λ _ more. inr (second more)
           ] refl (sym e ∙ is)
 
+not_zero : (n : ℕ) → 0 < n → (n == 0) ≡ false
+not_zero n some = grind (arith, some)
+
+pub has_built_in : HasBuiltIn built_in
+has_built_in = record {
+  by_name = get-insert nat_list_cmp_total _ _ _ (codes "name") ∙ get-insert nat_list_cmp_total _ _ _ (codes "name") ∙ get-insert nat_list_cmp_total _ _ _ (codes "name");
+  by_size = get-insert nat_list_cmp_total _ _ _ (codes "size") ∙ get-insert nat_list_cmp_total _ _ _ (codes "size");
+  by_time = get-insert nat_list_cmp_total _ _ _ (codes "last_modified");
+}
+
+some_index : built_in ≡ empty → ⊥
+some_index e = let none : None ≡ Some Text = sym (get-empty text_cmp (codes "name")) ∙ sym (ap (λ m. get m (codes "name")) e) ∙ has_built_in.by_name in cc
+
 module _ (g : Geometry) (stamp : ℤ) (image : List ℕ) (planned : IsPlanned g) (trees : HasTrees g stamp (blocks_in g.block_size g.root (5 * tree_blocks g) image)) where
   abbrev v : Volume
   v = record { geometry = g; blocks = blocks_by g.block_size image }
@@ -158,8 +175,8 @@ module _ (g : Geometry) (stamp : ℤ) (image : List ℕ) (planned : IsPlanned g)
     inode = root.owner.inode;
     kind = ap (λ m. m / 4096 % 16) mode_root;
     mode = sym (ap (λ m. m % 4096) mode_root);
-    uid = sym (uid_is g.block_size (root_tree g stamp) (v.blocks g.root) root.inode);
-    gid = sym (gid_is g.block_size (root_tree g stamp) (v.blocks g.root) root.inode);
+    uid = zero_signed (v.blocks g.root) 12 (uid_is g.block_size (root_tree g stamp) (v.blocks g.root) root.inode);
+    gid = zero_signed (v.blocks g.root) 16 (gid_is g.block_size (root_tree g stamp) (v.blocks g.root) root.inode);
     created = sym (created_is g.block_size (root_tree g stamp) (v.blocks g.root) root.inode);
     modified = sym (modified_is g.block_size (root_tree g stamp) (v.blocks g.root) root.inode);
     changed = sym (changed_is g.block_size (root_tree g stamp) (v.blocks g.root) root.inode);
@@ -203,9 +220,18 @@ module _ (g : Geometry) (stamp : ℤ) (image : List ℕ) (planned : IsPlanned g)
   pub rows_proper : proper_rows v g.indices ≡ index_rows g
   rows_proper = ap (λ rows. filter (λ row. is_proper row.0) rows) indices.rows_of
 
+  some_blocks : 0 < g.indices
+  some_blocks = let a = indices_at g stamp image planned trees in omega (arith, a)
+
+  pub directory_there : index_directory v ≡ Some g.indices
+  directory_there = ap (λ b. cond b None (Some g.indices)) (not_zero g.indices some_blocks)
+
+  pub rows_all : rows_of v (index_directory v) ≡ index_rows g
+  rows_all = ap (rows_of v) directory_there ∙ rows_proper
+
   pub index_row : (name : List ℕ) (value : ℤ) → IsIndexRow v name value
       → ((name ≡ codes "last_modified") × (value ≡ pos (modified_at g))) ⊎ ((name ≡ codes "name") × (value ≡ pos (name_at g))) ⊎ ((name ≡ codes "size") × (value ≡ pos (size_at g)))
-  index_row name value row = first (found_here (codes "last_modified", pos (modified_at g)) ((codes "name", pos (name_at g)) ∷ (codes "size", pos (size_at g)) ∷ []) name value (subst (λ rows. assoc Text rows name ≡ Some value) rows_proper row))
+  index_row name value row = first (found_here (codes "last_modified", pos (modified_at g)) ((codes "name", pos (name_at g)) ∷ (codes "size", pos (size_at g)) ∷ []) name value (subst (λ rows. assoc Text rows name ≡ Some value) rows_all row))
     where
       third : ((name ≡ codes "size") × (value ≡ pos (size_at g))) ⊎ (assoc Text [] name ≡ Some value) → ((name ≡ codes "last_modified") × (value ≡ pos (modified_at g))) ⊎ ((name ≡ codes "name") × (value ≡ pos (name_at g))) ⊎ ((name ≡ codes "size") × (value ≡ pos (size_at g)))
       third (inl p) = inr (inr p)
@@ -219,15 +245,12 @@ module _ (g : Geometry) (stamp : ℤ) (image : List ℕ) (planned : IsPlanned g)
       first (inl p) = inl p
       first (inr more) = second (found_here (codes "name", pos (name_at g)) ((codes "size", pos (size_at g)) ∷ []) name value more)
 
-  plain : IsPlain tree
-  plain = empty-plain g.root stamp
-
   -- each index
   index_at : (t : NewTree) (rows : List Row) (m : ℕ) → Stood v t rows → t.mode ≡ pos m → HasBit m 29 → IsTreeKind t.kind → IsIndex v t.id t.kind
   index_at t rows m s is bit kind = record { owner = s.owner; mode = subst (λ n. HasBit n 29) (sym (s.mode m is)) bit; kind_is = kind; tree = s.tree }
 
-  index_directory : IsIndex v g.indices Text
-  index_directory = index_at (indices_tree g stamp) (index_rows g) 0x210041c0 indices refl refl tt
+  directory_is : IsIndex v g.indices Text
+  directory_is = index_at (indices_tree g stamp) (index_rows g) 0x210041c0 indices refl refl tt
 
   index_of : (name : List ℕ) (value : ℤ) → IsIndexRow v name value → IsIndexOf v tree name value
   index_of name value row = by_row (index_row name value row)
@@ -235,34 +258,35 @@ module _ (g : Geometry) (stamp : ℤ) (image : List ℕ) (planned : IsPlanned g)
       by_row : ((name ≡ codes "last_modified") × (value ≡ pos (modified_at g))) ⊎ ((name ≡ codes "name") × (value ≡ pos (name_at g))) ⊎ ((name ≡ codes "size") × (value ≡ pos (size_at g))) → IsIndexOf v tree name value
       by_row (inl p) = record {
         kind = I64;
-        there = ap (get tree.indices) p.0 ∙ plain.by_time;
+        there = ap (get tree.indices) p.0 ∙ has_built_in.by_time;
         number = p.1 ∙ ap (λ z. pos (natural z)) (sym p.1);
         index = subst (λ z. IsIndex v (natural z) I64) (sym p.1) (index_at (modified_tree g stamp) [] 0x202041c0 (modified_stood g stamp image planned trees) refl refl tt);
       }
       by_row (inr (inl p)) = record {
         kind = Text;
-        there = ap (get tree.indices) p.0 ∙ plain.by_name;
+        there = ap (get tree.indices) p.0 ∙ has_built_in.by_name;
         number = p.1 ∙ ap (λ z. pos (natural z)) (sym p.1);
         index = subst (λ z. IsIndex v (natural z) Text) (sym p.1) (index_at (name_tree g stamp) [] 0x210041c0 (name_stood g stamp image planned trees) refl refl tt);
       }
       by_row (inr (inr p)) = record {
         kind = I64;
-        there = ap (get tree.indices) p.0 ∙ plain.by_size;
+        there = ap (get tree.indices) p.0 ∙ has_built_in.by_size;
         number = p.1 ∙ ap (λ z. pos (natural z)) (sym p.1);
         index = subst (λ z. IsIndex v (natural z) I64) (sym p.1) (index_at (size_tree g stamp) [] 0x202041c0 (size_stood g stamp image planned trees) refl refl tt);
       }
 
   row_for : (name : List ℕ) → (name ≡ codes "last_modified") ⊎ (name ≡ codes "size") ⊎ (name ≡ codes "name") → (value : ℤ) × IsIndexRow v name value
-  row_for name (inl e) = (pos (modified_at g), ap₂ (λ rows k. assoc Text rows k) rows_proper e)
-  row_for name (inr (inl e)) = (pos (size_at g), ap₂ (λ rows k. assoc Text rows k) rows_proper e)
-  row_for name (inr (inr e)) = (pos (name_at g), ap₂ (λ rows k. assoc Text rows k) rows_proper e)
+  row_for name (inl e) = (pos (modified_at g), ap₂ (λ rows k. assoc Text rows k) rows_all e)
+  row_for name (inr (inl e)) = (pos (size_at g), ap₂ (λ rows k. assoc Text rows k) rows_all e)
+  row_for name (inr (inr e)) = (pos (name_at g), ap₂ (λ rows k. assoc Text rows k) rows_all e)
 
   pub new_stands : Stands v tree
   new_stands = record {
     root = refl;
     nodes = λ id node is. let o = only g.root stamp id node is in subst (λ i. HasNode v i node) (sym o.0) (subst (HasNode v g.root) (sym o.1) root_node);
     listings = λ id node is dir. let o = only g.root stamp id node is in subst (λ i. Lists v tree i node) (sym o.0) (subst (Lists v tree g.root) (sym o.1) root_listing);
-    directory = index_directory;
+    directory = subst (HasIndexDirectory v) (sym directory_there) directory_is;
+    none = ((λ e. absurd (let s = some_blocks in omega (arith, s, e))), (λ e. absurd (some_index e)));
     indices = index_of;
     no_more = λ name kind there. row_for name (indexed g.root stamp name kind there);
   }

@@ -12,8 +12,8 @@ use Rattle.bfs_node.specs.Header.{header_at, code_of}
 use Rattle.bfs_node.specs.Page.{Row, HasKeys}
 use Rattle.bfs_txn.specs.Pages.{page_at}
 use Rattle.bfs_pages.specs.Shapes.{entries_in, AscendAll}
-use Rattle.bfs_rows.specs.Rows.{rows_in}
-use Rattle.bfs_rows.specs.Reached.{times_named, chains_in, IsWholeTree}
+use Rattle.bfs_values.specs.Rows.{rows_in}
+use Rattle.bfs_values.specs.Reached.{times_named, chains_in, AllMean, IsWholeTree}
 use Rattle.bfs_sound.specs.Volumes.{Volume}
 use Rattle.bfs_sound.specs.Inodes.{mode_bits, content, inode_blocks, IsOwner}
 use Rattle.bfs_mkfs.specs.Laid.{pages_length, IsNewInode, IsNewTree, IsLeaf, new_header}
@@ -31,6 +31,7 @@ pub record IsPlainLeaf (kind : KeyKind) (rows : List Row) : Type 0 where
   pub few : code_of kind ≤ 4
   pub no_fragment : (at f : ℕ) → times_named at f rows ≡ 0
   pub no_chain : chains_in rows ≡ []
+  pub mean : (bytes : List ℕ) → AllMean bytes rows
 
 -- the tree's inode is one of the volume, and its stream has the tree
 pub record Stood (v : Volume) (t : NewTree) (rows : List Row) : Type 0 where
@@ -109,6 +110,6 @@ module _ (g : Geometry) (image part : List ℕ) (t : NewTree) (rows : List Row) 
     };
     mode = λ m is. ap (λ b. unsigned_at 4 b 20) here ∙ mode_is n t (take n part) new.inode m is;
     rows_of = rows_are t.kind (content v t.id) rows long_content header_is leaf_is leaf.keys leaf.ascend leaf.few;
-    tree = whole_tree t.kind (content v t.id) rows long_content header_is leaf_is leaf.keys leaf.ascend leaf.few leaf.no_fragment leaf.no_chain;
+    tree = whole_tree t.kind (content v t.id) rows long_content header_is leaf_is leaf.keys leaf.ascend leaf.few leaf.no_fragment leaf.no_chain (leaf.mean (content v t.id));
     blocks = inode_blocks_are g (blocks_by n image) t.id size (stream_of ∙ new.inode.stream);
   }

@@ -13,12 +13,15 @@ use crate::volume::{bitmap, superblock, trees};
 use bfs_disk::Disk;
 use bfs_super::Geometry;
 use std::alloc::Global;
+use thiserror::Error;
 
 /// Why a volume could not be formatted.
-#[derive(Clone, Copy, Debug, PartialEq, Eq)]
+#[derive(Clone, Copy, Debug, PartialEq, Eq, Error)]
 pub enum FormatFault {
     /// A disk call failed: the disk's count of faults rose from one number to the other.
+    #[error("a disk call failed")]
     Disk { before: u64, after: u64 },
+    #[error("no memory was found")]
     NoMemory,
 }
 
@@ -51,6 +54,7 @@ pub fn format<D: Disk>(
     // Want of memory leaves the disk as it was. A failed disk has its cause in a count that rose.
     ensures untouched { IfErr result (λ fault. fault ≡ FormatFault.NoMemory → D.state disk.new ≡ D.state disk.old) }
     ensures size { D.size disk.new ≡ D.size disk.old }
+    ensures clock { D.clock disk.old ≤ D.clock disk.new }
     ensures later { D.faults disk.old ≤ D.faults disk.new }
     ensures cause { IfErr result (HasCauseIn (D.faults disk.old) (D.faults disk.new)) }
 {

@@ -13,6 +13,7 @@ use bfs_disk::{Disk, Failed};
 pub fn clear<D: Disk>(disk: &mut D) -> Result<(), Failed>
     requires { HasSectors (D.size disk.old) 2 }
     ensures size { D.size disk.new ≡ D.size disk.old }
+    ensures clock { D.clock disk.old ≤ D.clock disk.new }
     ensures cause { HasCause (D.faults disk.old) (D.faults disk.new) result }
     ensures next { (image : List ℕ) → Tells (D.state disk.old) (Holds image) → OnOk result (Tells (D.state disk.new) (Meets Cleared Cleared)) }
     ensures time { (image : List ℕ) → Tells (D.state disk.old) (Holds image)
@@ -36,6 +37,7 @@ pub fn fill<D: Disk>(
     requires order { at + length first.now / 512 ≤ behind }
     requires range { HasSectors (D.size disk.old) (behind + length second.now / 512) }
     ensures size { D.size disk.new ≡ D.size disk.old }
+    ensures clock { D.clock disk.old ≤ D.clock disk.new }
     ensures cause { HasCause (D.faults disk.old) (D.faults disk.new) result }
     ensures next { Tells (D.state disk.old) (Meets Cleared Cleared) → OnOk result (Tells (D.state disk.new) (Meets (Filled (area at first.now) (area behind second.now)) (Filled (area at first.now) (area behind second.now)))) }
     ensures time { Tells (D.state disk.old) (Meets Cleared Cleared) → Passed (D.clock disk.old) (D.clock disk.new) (D.since disk.old) (D.since disk.new) IsBlank }
@@ -49,6 +51,7 @@ pub fn fill<D: Disk>(
 pub fn open<D: Disk>(disk: &mut D, block: &[u8; 512]) -> Result<(), Failed>
     requires { HasSectors (D.size disk.old) 2 }
     ensures size { D.size disk.new ≡ D.size disk.old }
+    ensures clock { D.clock disk.old ≤ D.clock disk.new }
     ensures cause { HasCause (D.faults disk.old) (D.faults disk.new) result }
     ensures next { (a b : Area) → AreBehind a b → HasSectors (D.size disk.old) (end_of b) → Tells (D.state disk.old) (Meets (Filled a b) (Filled a b))
         → OnOk result (Tells (D.state disk.new) (λ s. IsQuiet s × Meets (Opened block.now a b) (Opened block.now a b) s)) }
@@ -74,6 +77,7 @@ pub fn write_volume<D: Disk>(
     requires order { at + length first.now / 512 ≤ behind }
     requires range { HasSectors (D.size disk.old) (behind + length second.now / 512) }
     ensures size { D.size disk.new ≡ D.size disk.old }
+    ensures clock { D.clock disk.old ≤ D.clock disk.new }
     ensures cause { HasCause (D.faults disk.old) (D.faults disk.new) result }
     ensures done { (image : List ℕ) → Tells (D.state disk.old) (Holds image)
         → OnOk result (Tells (D.state disk.new) (λ s. IsQuiet s × Meets (Opened block.now (area at first.now) (area behind second.now)) (Opened block.now (area at first.now) (area behind second.now)) s)) }

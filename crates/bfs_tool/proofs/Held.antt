@@ -1,5 +1,5 @@
 -- A disk that holds an image, under the calls of `label`.
-use Rattle.std.proofs.Common.{◌≡◌, ◌⊎◌, ℕ, ◌<◌, ◌≤◌, List, [], ◌++◌, length, drop, Option, Some, refl, sym, ◌∙◌, ap, subst, arith, get_or}
+use Rattle.std.proofs.Common.{◌≡◌, ◌⊎◌, ℕ, ◌<◌, ◌≤◌, List, [], ◌++◌, length, drop, Option, Some, refl, sym, ◌∙◌, ap, subst, arith}
 use Rattle.std.specs.Option.{option_map, IfSome}
 use Rattle.std.proofs.lemmas.List.{take_all}
 use Rattle.bfs_base.specs.Images.{sector, overwritten}
@@ -10,7 +10,6 @@ use Rattle.bfs_super.specs.Layout.{super_at}
 use Rattle.bfs_super.specs.Label.{IsLabel, name_of}
 use Rattle.bfs_super.specs.Conditions.{IsRefusal, IsValid}
 use Rattle.bfs_tool.specs.Label.{labelled, IsChanged, RefusedBy, EndsBy, IsGood, label_status}
-use Rattle.bfs_tool.specs.Words.{IsLabelCommand}
 use Rattle.bfs_tool.specs.declared.label.Ending.{Ending}
 use Rattle.bfs_tool.specs.declared.label.Ending.TheVariants as endings
 use Rattle.bfs_tool.proofs.Changed.{labelled_image}
@@ -84,7 +83,3 @@ done_of (endings.Short sectors) is = absurd (omega arith)
 done_of (endings.NotVolume fault) is = absurd (omega arith)
 done_of (endings.LogBusy start end) is = absurd (omega arith)
 done_of endings.DiskFailed is = absurd (omega arith)
-
--- the words have one name
-pub one_name : (words : List (List ℕ)) (name other : List ℕ) → IsLabelCommand words name → IsLabelCommand words other → name ≡ other
-one_name words name other first second = ap (λ (ws : List (List ℕ)). get_or ws 1 []) (sym first.0 ∙ second.0)

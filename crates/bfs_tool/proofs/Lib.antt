@@ -1,7 +1,4 @@
 mod Changed
 mod Held
 mod Made
-mod Numbers
 mod Pieces
-mod TwoItems
-mod Volume

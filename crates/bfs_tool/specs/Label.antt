@@ -42,6 +42,15 @@ EndsBy image (endings.LogBusy start end) =
     (1024 ≤ length image) × IsValid (super_of image) × (start ≡ (super_of image).log_start) × (end ≡ (super_of image).log_end) × ¬ (start ≡ end)
 EndsBy image endings.DiskFailed = Unit {0}
 
+-- why the call ended so over any disk, also one that tells nothing: by its number of sectors, which is known once the disk was
+-- asked, and by a superblock that was read
+abbrev pub LabelsBy : Option ℕ → Ending → Type 0
+LabelsBy size endings.Done = HasSectors size 2
+LabelsBy size (endings.Short sectors) = (size ≡ Some sectors) × (sectors < 2)
+LabelsBy size (endings.NotVolume fault) = HasSectors size 2 × ((s : Super) × IsRefusal s fault)
+LabelsBy size (endings.LogBusy start end) = HasSectors size 2 × ((s : Super) × IsValid s × (start ≡ s.log_start) × (end ≡ s.log_end)) × ¬ (start ≡ end)
+LabelsBy size endings.DiskFailed = Unit {0}
+
 -- an ending that leaves the disk alone
 abbrev pub IsRefusing : Ending → Type 0
 IsRefusing endings.Done = ⊥

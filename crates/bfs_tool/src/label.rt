@@ -7,7 +7,7 @@ ghost use Rattle.bfs_disk.specs.State.{State, ReadsAs, Tells, Holds, settled};
 ghost use Rattle.bfs_disk.specs.Disk.{MayLeave, told_written, HasSectors};
 ghost use Rattle.bfs_super.specs.Label.{IsLabel};
 ghost use Rattle.bfs_super.specs.Layout.{super_at};
-ghost use Rattle.bfs_tool.specs.Label.{IsLoaded, OldOrNew, EndsBy, IsRefusing, IsChanged, RefusedBy, labelled, fault_number, label_status, label_text};
+ghost use Rattle.bfs_tool.specs.Label.{IsLoaded, OldOrNew, EndsBy, LabelsBy, IsRefusing, IsChanged, RefusedBy, labelled, fault_number, label_status, label_text};
 
 use crate::line::Line;
 use bfs_disk::{Disk, Failed};
@@ -58,6 +58,7 @@ fn load<D: Disk>(disk: &mut D) -> Loaded
 fn store<D: Disk>(disk: &mut D, sector: &[u8; 512]) -> Result<(), Failed>
     requires { HasSectors (D.size disk.old) 2 }
     ensures state { OnOk result (D.state disk.new ≡ option_map settled (told_written (D.state disk.old) 1 sector.now)) }
+    ensures size { D.size disk.new ≡ D.size disk.old }
     ensures time { Passed (D.clock disk.old) (D.clock disk.new) (D.since disk.old) (D.since disk.new) (MayLeave (told_written (D.state disk.old) 1 sector.now)) }
     ensures later { D.faults disk.old ≤ D.faults disk.new }
     ensures cause { OnErr result (Rose (D.faults disk.old) (D.faults disk.new)) }
@@ -99,8 +100,12 @@ pub fn relabel<D: Disk>(disk: &mut D, name: &[u8]) -> Ending
     ensures ends { (image : List ℕ) → Tells (D.state disk.old) (λ s. ReadsAs s image) → EndsBy image result }
     ensures failed { result ≡ Ending.DiskFailed → Rose (D.faults disk.old) (D.faults disk.new) }
 
+    // Over any disk the ending has its cause in the number of sectors, or in a superblock.
+    ensures causes { LabelsBy (D.size disk.new) result }
+
     ensures done { (image : List ℕ) → Tells (D.state disk.old) (Holds image) → result ≡ Ending.Done → Tells (D.state disk.new) (Holds (labelled name.now image)) }
     ensures kept { IsRefusing result → D.state disk.new ≡ D.state disk.old }
+    ensures clock { D.clock disk.old ≤ D.clock disk.new }
     ensures later { D.faults disk.old ≤ D.faults disk.new }
 {
     let sector = match load(disk) {

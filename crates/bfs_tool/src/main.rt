@@ -12,14 +12,36 @@ mod output;
 #[cfg(test)]
 mod tests;
 mod tool;
-mod words;
 
 use bfs_disk::FileDisk;
 use bfs_ports::{Mem, NoGate, Output, SystemClock};
+use bfs_words::Argument;
 use std::alloc::{AllocError, Global};
+use std::fs::File;
 use std::process::ExitCode;
 use std::{env, io};
-use words::Argument;
+
+/// Files that keep the descriptors of standard input, output and error taken. Where one of the three is closed when the
+/// program begins, the next file that is opened would get its number, and what is printed would go into the image.
+#[derive(Drop)]
+struct StandardFiles {
+    files: [File; 3],
+}
+
+// Opens a file that can be read and that nothing is written to.
+fn open_idle(rt: &HostRuntime) -> io::Result<File> {
+    match File::open(rt, "/dev/null") {
+        Ok(file) => Ok(file),
+        Err(_) => File::open(rt, "/"),
+    }
+}
+
+impl StandardFiles {
+    fn hold(rt: &HostRuntime) -> io::Result<StandardFiles> {
+        let files = [open_idle(rt)?, open_idle(rt)?, open_idle(rt)?];
+        Ok(StandardFiles { files })
+    }
+}
 
 /// The image's path, and the words behind it. A word that isn't UTF-8 stands for a faulty command line.
 #[derive(Drop)]
@@ -57,12 +79,15 @@ fn main(rt: HostRuntime) -> ExitCode {
         Some(path) => path.as_str(),
         None => "",
     };
+    let Ok(held) = StandardFiles::hold(&rt) else {
+        return ExitCode::from(4);
+    };
     let Ok(disk) = FileDisk::named(&rt, path) else {
         return ExitCode::from(7);
     };
     let mut out = Output::over(io::writer(&rt));
-    let mut script = Mem::source(Vec::new(alloc));
-    let (status, _disk) = tool::bfs(
+    let mut script = Mem::source(alloc, Vec::new(alloc));
+    let (status, disk) = tool::bfs(
         &rt,
         &line.words,
         disk,
@@ -71,5 +96,9 @@ fn main(rt: HostRuntime) -> ExitCode {
         SystemClock::over(&rt),
         &NoGate,
     );
+    if let Some(failure) = disk.failure() {
+        let _ = eprintln!(rt; "bfs: {path}: {failure}");
+    }
+    let StandardFiles { files: _ } = held;
     ExitCode::from(status)
 }

@@ -14,15 +14,6 @@ use bfs_ports::Clock;
 use itoa::Buffer;
 use std::alloc::Global;
 
-/// The volume that is asked for.
-#[derive(Clone, Copy)]
-pub struct NewVolume<'a> {
-    pub blocks: u64,
-    /// In bytes.
-    pub block_size: u32,
-    pub label: &'a [u8],
-}
-
 /// How `mk` ended.
 #[derive(Clone, Copy, Debug, PartialEq, Eq)]
 pub enum Making {
@@ -68,6 +59,7 @@ pub fn make_volume<D: Disk, C: Clock>(
     ensures moments { (image : List ℕ) → Tells (D.state disk.old) (Holds image) → (c : List ℕ) → D.since disk.new (D.clock disk.old) c
         → (c ≡ image) ⊎ (IsRefused c ⊎ IsNewVolume blocks block_size label.now (C.stands clock.old) c) }
     ensures kept { LeavesDisk result → D.state disk.new ≡ D.state disk.old }
+    ensures clock { D.clock disk.old ≤ D.clock disk.new }
 {
     let geometry = match layout_of(blocks, block_size) {
         Ok(geometry) => geometry,

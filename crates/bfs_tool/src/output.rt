@@ -28,6 +28,8 @@ pub fn put_all<W: Sink>(out: &mut W, text: &[u8]) -> Result<(), Failed>
 /// Prints a text. The status stays, but a failed output is 6 where it was 0.
 pub fn report<W: Sink>(out: &mut W, text: &[u8], status: u8) -> u8
     ensures printed { Prints (W.written out.old) (W.written out.new) (W.faults out.old) (W.faults out.new) text.now }
+    // At status 0 all of the text was taken.
+    ensures whole { result ≡ 0 → W.written out.new ≡ appended (W.written out.old) text.now }
     ensures later { W.faults out.old ≤ W.faults out.new }
     ensures status { (result ≡ status) ⊎ ((status ≡ 0) × (result ≡ 6) × Rose (W.faults out.old) (W.faults out.new) × (0 < length text.now)) }
 {

@@ -3,21 +3,22 @@ ghost use Rattle.std.specs.Prelude.{◌≡◌, ◌⊎◌, ◌↔◌, ◌≤◌, 
 ghost use Rattle.bfs_base.specs.Counts.{Rose};
 ghost use Rattle.bfs_disk.specs.State.{State, IsQuiet, ReadsAs, Tells, Holds};
 ghost use Rattle.bfs_mkfs.specs.Format.{IsRefused};
+ghost use Rattle.bfs_ports.specs.Ports.{appended};
 ghost use Rattle.bfs_super.specs.Geometry.{IsBlockSize};
 ghost use Rattle.bfs_super.specs.Label.{IsLabel};
 ghost use Rattle.bfs_tool.specs.declared.label.Ending.{Ending};
-ghost use Rattle.bfs_tool.specs.Label.{EndsBy, OldOrNew, labelled, label_status, label_text};
+ghost use Rattle.bfs_tool.specs.Label.{EndsBy, LabelsBy, OldOrNew, labelled, label_status, label_text};
 ghost use Rattle.bfs_tool.specs.declared.make.Making.{Making};
 ghost use Rattle.bfs_tool.specs.Make.{IsNewVolume, IsMade, MakesBy, making_status, making_text};
 ghost use Rattle.bfs_tool.specs.Tool.{Prints, usage_text};
-ghost use Rattle.bfs_tool.specs.Words.{IsLabelCommand, IsMakeCommand, IsFaulty};
+ghost use Rattle.bfs_words.specs.Words.{IsLabelCommand, IsMakeCommand, IsFaulty};
 
 use crate::label::relabel;
 use crate::make::make_volume;
 use crate::output::report;
-use crate::words::{Argument, Command, read_words};
 use bfs_disk::Disk;
 use bfs_ports::{Clock, Gate, Sink, Source};
+use bfs_words::{Argument, Command, read_words};
 use std::alloc::Global;
 
 const USAGE: &str =
@@ -28,6 +29,7 @@ fn label<D: Disk, W: Sink>(disk: &mut D, name: &[u8], out: &mut W) -> u8
     requires { IsLabel name.now }
     ensures ends { (ending : Ending) × (result ≡ label_status ending)
         × Prints (W.written out.old) (W.written out.new) (W.faults out.old) (W.faults out.new) (label_text ending)
+        × LabelsBy (D.size disk.new) ending × (result ≡ 0 → W.written out.new ≡ appended (W.written out.old) (label_text ending))
         × ((image : List ℕ) → Tells (D.state disk.old) (λ s. ReadsAs s image) → EndsBy image ending) }
     ensures refused { (result ≡ 3) ⊎ (result ≡ 11) → D.state disk.new ≡ D.state disk.old }
     ensures done { (image : List ℕ) → Tells (D.state disk.old) (Holds image) → result ≡ 0 → Tells (D.state disk.new) (Holds (labelled name.now image)) }
@@ -35,6 +37,7 @@ fn label<D: Disk, W: Sink>(disk: &mut D, name: &[u8], out: &mut W) -> u8
     ensures disk_failed { result ≡ 4 → Rose (D.faults disk.old) (D.faults disk.new) }
     ensures others { (result ≡ 2) ⊎ (result ≡ 6) → ⊥ }
     ensures disk_later { D.faults disk.old ≤ D.faults disk.new }
+    ensures clock_later { D.clock disk.old ≤ D.clock disk.new }
     ensures output_later { W.faults out.old ≤ W.faults out.new }
 {
     let ending = relabel(disk, name);
@@ -57,7 +60,7 @@ fn make<D: Disk, C: Clock, W: Sink>(
     requires label { IsLabel name.now }
     ensures ends { (making : Making) × ((result ≡ making_status making) ⊎ (IsMade making × (result ≡ 6)))
         × Prints (W.written out.old) (W.written out.new) (W.faults out.old) (W.faults out.new) (making_text making)
-        × MakesBy (D.size disk.new) blocks block_size making }
+        × MakesBy (D.size disk.new) blocks block_size making × (result ≡ 0 → W.written out.new ≡ appended (W.written out.old) (making_text making)) }
     ensures refused { (result ≡ 7) ⊎ (result ≡ 10) → D.state disk.new ≡ D.state disk.old }
     ensures made { (image : List ℕ) → Tells (D.state disk.old) (Holds image) → (result ≡ 0) ⊎ (result ≡ 6)
         → Tells (D.state disk.new) (λ s. IsQuiet s × ((c : List ℕ) → ReadsAs s c → IsNewVolume blocks block_size name.now (C.stands clock.old) c)) }
@@ -67,6 +70,7 @@ fn make<D: Disk, C: Clock, W: Sink>(
     ensures output_failed { result ≡ 6 → Rose (W.faults out.old) (W.faults out.new) }
     ensures others { (result ≡ 2) ⊎ ((result ≡ 3) ⊎ (result ≡ 11)) → ⊥ }
     ensures disk_later { D.faults disk.old ≤ D.faults disk.new }
+    ensures clock_later { D.clock disk.old ≤ D.clock disk.new }
     ensures output_later { W.faults out.old ≤ W.faults out.new }
 {
     let making = make_volume(alloc, disk, clock, blocks, block_size, name);
@@ -75,23 +79,28 @@ fn make<D: Disk, C: Clock, W: Sink>(
 }
 
 // Runs the command that the words ask for.
-fn run<D: Disk, C: Clock, W: Sink>(
-    alloc: Global,
+fn run<X: AllocGlobal + Eprint, D: Disk, C: Clock, W: Sink>(
+    rt: &X,
     words: &[Argument],
     disk: &mut D,
     clock: &mut C,
     out: &mut W,
 ) -> u8
     ensures usage { words.now ≡ [] → (result ≡ 0) ⊎ (result ≡ 6) }
-    ensures faulty { (result ≡ 2) ↔ IsFaulty words.now }
-    ensures texts { words.now ≡ [] ⊎ IsFaulty words.now → Prints (W.written out.old) (W.written out.new) (W.faults out.old) (W.faults out.new) usage_text }
+    ensures faulty { result ≡ 2 → IsFaulty words.now }
+    ensures refused_words { IsFaulty words.now → (result ≡ 2) ⊎ (result ≡ 7) }
+    ensures texts { words.now ≡ [] ⊎ (result ≡ 2) → Prints (W.written out.old) (W.written out.new) (W.faults out.old) (W.faults out.new) usage_text }
+    ensures whole { words.now ≡ [] → result ≡ 0 → W.written out.new ≡ appended (W.written out.old) usage_text }
     ensures idle { words.now ≡ [] ⊎ IsFaulty words.now → D.state disk.new ≡ D.state disk.old }
-    ensures label { (name : List ℕ) → IsLabelCommand words.now name → (ending : Ending) × (result ≡ label_status ending)
+    ensures silent { result ≡ 7 → W.written out.new ≡ appended (W.written out.old) [] }
+    ensures label { (name : List ℕ) → IsLabelCommand words.now name → (result ≡ 7) ⊎ ((ending : Ending) × (result ≡ label_status ending)
         × Prints (W.written out.old) (W.written out.new) (W.faults out.old) (W.faults out.new) (label_text ending)
-        × ((image : List ℕ) → Tells (D.state disk.old) (λ s. ReadsAs s image) → EndsBy image ending) }
-    ensures make { (blocks size : ℕ) (label : List ℕ) → IsMakeCommand words.now blocks size label
-        → (making : Making) × ((result ≡ making_status making) ⊎ (IsMade making × (result ≡ 6)))
-        × Prints (W.written out.old) (W.written out.new) (W.faults out.old) (W.faults out.new) (making_text making) × MakesBy (D.size disk.new) blocks size making }
+        × LabelsBy (D.size disk.new) ending × (result ≡ 0 → W.written out.new ≡ appended (W.written out.old) (label_text ending))
+        × ((image : List ℕ) → Tells (D.state disk.old) (λ s. ReadsAs s image) → EndsBy image ending)) }
+    ensures make { (blocks size : ℕ) (label : List ℕ) → IsMakeCommand words.now blocks size label → (result ≡ 7) ⊎ ((making : Making)
+        × ((result ≡ making_status making) ⊎ (IsMade making × (result ≡ 6)))
+        × Prints (W.written out.old) (W.written out.new) (W.faults out.old) (W.faults out.new) (making_text making) × MakesBy (D.size disk.new) blocks size making
+        × (result ≡ 0 → W.written out.new ≡ appended (W.written out.old) (making_text making))) }
     ensures refused { (result ≡ 3) ⊎ (result ≡ 11) ⊎ (result ≡ 7) ⊎ (result ≡ 10) → D.state disk.new ≡ D.state disk.old }
     ensures labelled { (name image : List ℕ) → IsLabelCommand words.now name → Tells (D.state disk.old) (Holds image) → result ≡ 0 → Tells (D.state disk.new) (Holds (labelled name image)) }
     ensures made { (blocks size : ℕ) (label image : List ℕ) → IsMakeCommand words.now blocks size label → Tells (D.state disk.old) (Holds image) → (result ≡ 0) ⊎ (result ≡ 6)
@@ -102,14 +111,24 @@ fn run<D: Disk, C: Clock, W: Sink>(
     ensures disk_failed { result ≡ 4 → Rose (D.faults disk.old) (D.faults disk.new) }
     ensures output_failed { result ≡ 6 → Rose (W.faults out.old) (W.faults out.new) }
     ensures disk_later { D.faults disk.old ≤ D.faults disk.new }
+    ensures clock_later { D.clock disk.old ≤ D.clock disk.new }
     ensures output_later { W.faults out.old ≤ W.faults out.new }
 {
-    match read_words(words) {
+    if words.is_empty() {
+        return report(out, USAGE.as_bytes(), 0);
+    }
+    let Ok(command) = read_words(rt.alloc(), words) else {
+        return 7;
+    };
+    match command {
         Command::Usage => report(out, USAGE.as_bytes(), 0),
-        Command::Faulty => report(out, USAGE.as_bytes(), 2),
+        Command::Faulty(complaint) => {
+            let _ = rt.eprint(complaint);
+            report(out, USAGE.as_bytes(), 2)
+        }
         Command::Label(name) => label(disk, name, out),
         Command::Make(volume) => make(
-            alloc,
+            rt.alloc(),
             disk,
             clock,
             volume.blocks,
@@ -120,12 +139,13 @@ fn run<D: Disk, C: Clock, W: Sink>(
     }
 }
 
-/// Runs the command that the words ask for, and hands the disk back with the status.
+/// Runs the command that the words ask for, and hands the disk back with the status. Which word is wrong goes to the standard
+/// error.
 ///
 /// Statuses: 0 done, 2 faulty words, 3 not a volume, 4 the disk failed, 6 the output failed, 7 no memory, 10 too small for
 /// a volume, 11 the log isn't empty. `clock` gives the second at which a new volume is made.
 pub fn bfs<
-    X: AllocGlobal,
+    X: AllocGlobal + Eprint,
     D: Disk + Send,
     R: Source,
     W: Sink,
@@ -140,22 +160,31 @@ pub fn bfs<
     mut clock: C,
     _gate: &G,
 ) -> (u8, D)
-    // No words print the usage text. Words that are no command end with status 2, and only they.
+    // No words print the usage text, all of it at status 0. Status 2 comes only where the words are no command, and there
+    // always, unless memory is wanting.
     ensures usage { words.now ≡ [] → (result.0 ≡ 0) ⊎ (result.0 ≡ 6) }
-    ensures faulty { (result.0 ≡ 2) ↔ IsFaulty words.now }
-    ensures texts { words.now ≡ [] ⊎ IsFaulty words.now → Prints (W.written out.old) (W.written out.new) (W.faults out.old) (W.faults out.new) usage_text }
+    ensures faulty { result.0 ≡ 2 → IsFaulty words.now }
+    ensures refused_words { IsFaulty words.now → (result.0 ≡ 2) ⊎ (result.0 ≡ 7) }
+    ensures texts { words.now ≡ [] ⊎ (result.0 ≡ 2) → Prints (W.written out.old) (W.written out.new) (W.faults out.old) (W.faults out.new) usage_text }
+    ensures whole { words.now ≡ [] → result.0 ≡ 0 → W.written out.new ≡ appended (W.written out.old) usage_text }
     ensures idle { words.now ≡ [] ⊎ IsFaulty words.now → D.state result.1 ≡ D.state disk }
 
-    // `label NAME` ends by what the disk reads, with the status and the text of that ending.
-    ensures label { (name : List ℕ) → IsLabelCommand words.now name → (ending : Ending) × (result.0 ≡ label_status ending)
+    // Where memory is wanting nothing is printed.
+    ensures silent { result.0 ≡ 7 → W.written out.new ≡ appended (W.written out.old) [] }
+
+    // `label NAME` ends by what the disk reads, with the status and the text of that ending, which is printed whole at status 0.
+    // Over a disk that tells nothing it has its cause in the number of sectors, or in a superblock.
+    ensures label { (name : List ℕ) → IsLabelCommand words.now name → (result.0 ≡ 7) ⊎ ((ending : Ending) × (result.0 ≡ label_status ending)
         × Prints (W.written out.old) (W.written out.new) (W.faults out.old) (W.faults out.new) (label_text ending)
-        × ((image : List ℕ) → Tells (D.state disk) (λ s. ReadsAs s image) → EndsBy image ending) }
+        × LabelsBy (D.size result.1) ending × (result.0 ≡ 0 → W.written out.new ≡ appended (W.written out.old) (label_text ending))
+        × ((image : List ℕ) → Tells (D.state disk) (λ s. ReadsAs s image) → EndsBy image ending)) }
 
     // `mk` ends by its numbers and those of the disk, with the status and the text of that ending, or with 6 where it
     // was made and the output failed.
-    ensures make { (blocks size : ℕ) (label : List ℕ) → IsMakeCommand words.now blocks size label
-        → (making : Making) × ((result.0 ≡ making_status making) ⊎ (IsMade making × (result.0 ≡ 6)))
-        × Prints (W.written out.old) (W.written out.new) (W.faults out.old) (W.faults out.new) (making_text making) × MakesBy (D.size result.1) blocks size making }
+    ensures make { (blocks size : ℕ) (label : List ℕ) → IsMakeCommand words.now blocks size label → (result.0 ≡ 7) ⊎ ((making : Making)
+        × ((result.0 ≡ making_status making) ⊎ (IsMade making × (result.0 ≡ 6)))
+        × Prints (W.written out.old) (W.written out.new) (W.faults out.old) (W.faults out.new) (making_text making) × MakesBy (D.size result.1) blocks size making
+        × (result.0 ≡ 0 → W.written out.new ≡ appended (W.written out.old) (making_text making))) }
 
     // At the statuses 3, 7, 10 and 11 the disk is as before. At 0 the label is on the disk, or the new volume.
     ensures refused { (result.0 ≡ 3) ⊎ (result.0 ≡ 11) ⊎ (result.0 ≡ 7) ⊎ (result.0 ≡ 10) → D.state result.1 ≡ D.state disk }
@@ -173,8 +202,9 @@ pub fn bfs<
     ensures disk_failed { result.0 ≡ 4 → Rose (D.faults disk) (D.faults result.1) }
     ensures output_failed { result.0 ≡ 6 → Rose (W.faults out.old) (W.faults out.new) }
     ensures disk_later { D.faults disk ≤ D.faults result.1 }
+    ensures clock_later { D.clock disk ≤ D.clock result.1 }
     ensures output_later { W.faults out.old ≤ W.faults out.new }
 {
-    let status = run(rt.alloc(), words, &mut disk, &mut clock, out);
+    let status = run(rt, words, &mut disk, &mut clock, out);
     (status, disk)
 }

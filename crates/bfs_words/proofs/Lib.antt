@@ -1,0 +1,4 @@
+mod Digits
+mod Found
+mod Plain
+pub mod Callers

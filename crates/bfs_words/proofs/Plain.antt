@@ -1,0 +1,128 @@
+-- The plain spellings, by computing what `clap` makes of them.
+use Rattle.std.proofs.Common.{◌≡◌, ◌≤◌, ◌==◌, ℕ, List, [], ◌∷◌, ◌++◌, false, Option, Some, None, option_map, unwrap_or, codes, refl, sym, ap, subst, arith}
+use Rattle.std.proofs.lemmas.Bool.{ne_eqb}
+use Rattle.bfs_super.specs.Geometry.{IsBlockSize}
+use Rattle.bfs_super.specs.Label.{IsLabel}
+use Rattle.clap.specs.Walk.{Row, Text, first_of}
+use Rattle.clap.specs.Simple.{subcommand_of}
+use Rattle.clap.specs.Faults.{fault_of}
+use Rattle.clap.proofs.OnLiterals.{clap_on_literals}
+use Rattle.bfs_words.specs.Line.{bfs_line}
+use Rattle.bfs_words.specs.Numbers.{IsNumber}
+use Rattle.bfs_words.specs.Words.{IsBlocks, IsSize, IsName, IsNewName, FindsLabel, FindsVolume, IsPlainWord, IsLabelCommand, IsMakeCommand}
+
+-- the subcommand's name and its values
+abbrev Reading : Type 0
+Reading = Text × Option Text × Option Text × Option Text
+
+abbrev reading : Text × List Row → Reading
+reading p = (p.0, first_of (codes "blocks") p.1, first_of (codes "block-size") p.1, first_of (codes "name") p.1)
+
+as_label : (found : Option (Text × List Row)) (blocks size : Option Text) (name : Text) → option_map reading found ≡ Some (codes "label", blocks, size, Some name) → IsLabel name → FindsLabel found name
+as_label None blocks size name e good = cc
+as_label (Some p) blocks size name e good =
+    let same : reading p ≡ (codes "label", blocks, size, Some name) = ap (λ (o : Option Reading). unwrap_or o (reading p)) e in (
+      p.1,
+      ap (λ (r : Reading). Some (r.0, p.1)) same,
+      subst (λ w. IsNewName w name) (sym (ap (λ (r : Reading). r.3) same)) (refl, good),
+    )
+
+as_volume : (found : Option (Text × List Row)) (blocks_word size_word name_word : Option Text) (blocks size : ℕ) (name : Text) → option_map reading found ≡ Some (codes "mk", blocks_word, size_word, name_word)
+    → IsBlocks blocks_word blocks → IsSize size_word size → IsName name_word name → FindsVolume found blocks size name
+as_volume None blocks_word size_word name_word blocks size name e b s n = cc
+as_volume (Some p) blocks_word size_word name_word blocks size name e b s n =
+    let same : reading p ≡ (codes "mk", blocks_word, size_word, name_word) = ap (λ (o : Option Reading). unwrap_or o (reading p)) e in (
+      p.1,
+      ap (λ (r : Reading). Some (r.0, p.1)) same,
+      record {
+        blocks_are = subst (λ w. IsBlocks w blocks) (sym (ap (λ (r : Reading). r.1) same)) b;
+        size_is = subst (λ w. IsSize w size) (sym (ap (λ (r : Reading). r.2) same)) s;
+        label_is = subst (λ w. IsName w name) (sym (ap (λ (r : Reading). r.3) same)) n;
+      },
+    )
+
+-- ---- what `clap` makes of the spellings
+
+label_fault : (x : ℕ) (xs : Text) → (x == 45) ≡ false → fault_of bfs_line (codes "label" ∷ (x ∷ xs) ∷ []) ≡ []
+unfolding clap_on_literals
+label_fault x xs e = rw (e, e) refl
+
+label_found : (x : ℕ) (xs : Text) → (x == 45) ≡ false → option_map reading (subcommand_of bfs_line (codes "label" ∷ (x ∷ xs) ∷ [])) ≡ Some (codes "label", None, None, Some (x ∷ xs))
+unfolding clap_on_literals
+label_found x xs e = rw (e, e) refl
+
+blocks_fault : (x : ℕ) (xs : Text) → (x == 45) ≡ false → fault_of bfs_line (codes "mk" ∷ codes "--blocks" ∷ (x ∷ xs) ∷ []) ≡ []
+unfolding clap_on_literals
+blocks_fault x xs e = rw (e, e) refl
+
+blocks_found : (x : ℕ) (xs : Text) → (x == 45) ≡ false → option_map reading (subcommand_of bfs_line (codes "mk" ∷ codes "--blocks" ∷ (x ∷ xs) ∷ [])) ≡ Some (codes "mk", Some (x ∷ xs), None, None)
+unfolding clap_on_literals
+blocks_found x xs e = rw (e, e) refl
+
+size_fault : (x y : ℕ) (xs ys zs : Text) → (x == 45) ≡ false → (y == 45) ≡ false
+    → fault_of bfs_line (codes "mk" ∷ codes "--blocks" ∷ (x ∷ xs) ∷ codes "--block-size" ∷ (y ∷ ys) ∷ (codes "--name=" ++ zs) ∷ []) ≡ []
+unfolding clap_on_literals
+size_fault x y xs ys zs e f = rw (e, e, f, f) refl
+
+size_found : (x y : ℕ) (xs ys zs : Text) → (x == 45) ≡ false → (y == 45) ≡ false
+    → option_map reading (subcommand_of bfs_line (codes "mk" ∷ codes "--blocks" ∷ (x ∷ xs) ∷ codes "--block-size" ∷ (y ∷ ys) ∷ (codes "--name=" ++ zs) ∷ [])) ≡ Some (codes "mk", Some (x ∷ xs), Some (y ∷ ys), Some zs)
+unfolding clap_on_literals
+size_found x y xs ys zs e f = rw (e, e, f, f) refl
+
+name_fault : (x z : ℕ) (xs ys zs : Text) → (x == 45) ≡ false → (z == 45) ≡ false
+    → fault_of bfs_line (codes "mk" ∷ codes "--name" ∷ (z ∷ zs) ∷ codes "--blocks" ∷ (x ∷ xs) ∷ (codes "--block-size=" ++ ys) ∷ []) ≡ []
+unfolding clap_on_literals
+name_fault x z xs ys zs e g = rw (g, g, e, e) refl
+
+name_found : (x z : ℕ) (xs ys zs : Text) → (x == 45) ≡ false → (z == 45) ≡ false
+    → option_map reading (subcommand_of bfs_line (codes "mk" ∷ codes "--name" ∷ (z ∷ zs) ∷ codes "--blocks" ∷ (x ∷ xs) ∷ (codes "--block-size=" ++ ys) ∷ [])) ≡ Some (codes "mk", Some (x ∷ xs), Some ys, Some (z ∷ zs))
+unfolding clap_on_literals
+name_found x z xs ys zs e g = rw (g, g, e, e) refl
+
+equals_fault : (xs ys zs : Text) → fault_of bfs_line (codes "mk" ∷ (codes "--blocks=" ++ xs) ∷ (codes "--block-size=" ++ ys) ∷ (codes "--name=" ++ zs) ∷ []) ≡ []
+unfolding clap_on_literals
+equals_fault xs ys zs = refl
+
+equals_found : (xs ys zs : Text) → option_map reading (subcommand_of bfs_line (codes "mk" ∷ (codes "--blocks=" ++ xs) ∷ (codes "--block-size=" ++ ys) ∷ (codes "--name=" ++ zs) ∷ [])) ≡ Some (codes "mk", Some xs, Some ys, Some zs)
+unfolding clap_on_literals
+equals_found xs ys zs = refl
+
+-- ---- the commands
+
+digit_first : (x : ℕ) (xs : Text) (n : ℕ) → IsNumber (x ∷ xs) n → (x == 45) ≡ false
+digit_first x xs n is = ne_eqb x 45 (λ e. let low = (is.digits 0 x (omega arith)).0 in omega (arith, e, low))
+
+pub plain_label : (name : Text) → IsPlainWord name → IsLabel name → IsLabelCommand (codes "label" ∷ name ∷ []) name
+plain_label [] plain good = absurd (plain refl)
+plain_label (x ∷ xs) plain good =
+    let e = ne_eqb x 45 plain in
+    (label_fault x xs e, as_label _ None None (x ∷ xs) (label_found x xs e) good)
+
+pub plain_blocks : (number : Text) (n : ℕ) → IsNumber number n → n ≤ 4194304 → IsMakeCommand (codes "mk" ∷ codes "--blocks" ∷ number ∷ []) n 1024 (codes "untitled")
+plain_blocks [] n is few = absurd (omega (arith, is.some))
+plain_blocks (x ∷ xs) n is few =
+    let e = digit_first x xs n is in
+    (blocks_fault x xs e, as_volume _ (Some (x ∷ xs)) None None n 1024 (codes "untitled") (blocks_found x xs e) (is, few) refl refl)
+
+pub plain_size_first : (number bytes name : Text) (n size : ℕ) → IsNumber number n → n ≤ 4194304 → IsNumber bytes size → IsBlockSize size → IsLabel name
+    → IsMakeCommand (codes "mk" ∷ codes "--blocks" ∷ number ∷ codes "--block-size" ∷ bytes ∷ (codes "--name=" ++ name) ∷ []) n size name
+plain_size_first [] bytes name n size is few bs fits good = absurd (omega (arith, is.some))
+plain_size_first (x ∷ xs) [] name n size is few bs fits good = absurd (omega (arith, bs.some))
+plain_size_first (x ∷ xs) (y ∷ ys) name n size is few bs fits good =
+    let e = digit_first x xs n is in
+    let f = digit_first y ys size bs in
+    (size_fault x y xs ys name e f, as_volume _ (Some (x ∷ xs)) (Some (y ∷ ys)) (Some name) n size name (size_found x y xs ys name e f) (is, few) (bs, fits) (refl, good))
+
+pub plain_name_first : (number bytes name : Text) (n size : ℕ) → IsNumber number n → n ≤ 4194304 → IsNumber bytes size → IsBlockSize size → IsPlainWord name → IsLabel name
+    → IsMakeCommand (codes "mk" ∷ codes "--name" ∷ name ∷ codes "--blocks" ∷ number ∷ (codes "--block-size=" ++ bytes) ∷ []) n size name
+plain_name_first [] bytes name n size is few bs fits plain good = absurd (omega (arith, is.some))
+plain_name_first (x ∷ xs) bytes [] n size is few bs fits plain good = absurd (plain refl)
+plain_name_first (x ∷ xs) bytes (z ∷ zs) n size is few bs fits plain good =
+    let e = digit_first x xs n is in
+    let g = ne_eqb z 45 plain in
+    (name_fault x z xs bytes zs e g, as_volume _ (Some (x ∷ xs)) (Some bytes) (Some (z ∷ zs)) n size (z ∷ zs) (name_found x z xs bytes zs e g) (is, few) (bs, fits) (refl, good))
+
+pub plain_equals : (number bytes name : Text) (n size : ℕ) → IsNumber number n → n ≤ 4194304 → IsNumber bytes size → IsBlockSize size → IsLabel name
+    → IsMakeCommand (codes "mk" ∷ (codes "--blocks=" ++ number) ∷ (codes "--block-size=" ++ bytes) ∷ (codes "--name=" ++ name) ∷ []) n size name
+plain_equals number bytes name n size is few bs fits good =
+    (equals_fault number bytes name, as_volume _ (Some number) (Some bytes) (Some name) n size name (equals_found number bytes name) (is, few) (bs, fits) (refl, good))

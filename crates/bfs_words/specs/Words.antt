@@ -1,0 +1,77 @@
+-- What the words of the command line ask for.
+use Rattle.std.specs.Prelude.{◌≡◌, ◌≤◌, ℕ, List, [], Option, None, Some, codes, slice_index_or}
+use Rattle.bfs_super.specs.Geometry.{IsBlockSize}
+use Rattle.bfs_super.specs.Label.{IsLabel}
+use Rattle.clap.specs.Walk.{Row, Text, first_of}
+use Rattle.clap.specs.Simple.{subcommand_of}
+use Rattle.clap.specs.Faults.{fault_of}
+use Rattle.bfs_words.specs.Line.{bfs_line}
+use Rattle.bfs_words.specs.Numbers.{IsNumber}
+use Rattle.bfs_words.specs.declared.command.Command.{Command}
+use Rattle.bfs_words.specs.declared.command.Command.TheVariants as commands
+
+-- the value of `--blocks`
+abbrev pub IsBlocks : Option Text → ℕ → Type 0
+IsBlocks None n = ⊥
+IsBlocks (Some word) n = IsNumber word n × (n ≤ 4194304)
+
+-- the value of `--block-size`, and 1,024 unless it is given
+abbrev pub IsSize : Option Text → ℕ → Type 0
+IsSize None n = n ≡ 1024
+IsSize (Some word) n = IsNumber word n × IsBlockSize n
+
+-- the value of `--name`, and `untitled` unless it is given
+abbrev pub IsName : Option Text → Text → Type 0
+IsName None name = name ≡ codes "untitled"
+IsName (Some word) name = (name ≡ word) × IsLabel word
+
+-- the NAME of `label`
+abbrev pub IsNewName : Option Text → Text → Type 0
+IsNewName None name = ⊥
+IsNewName (Some word) name = (name ≡ word) × IsLabel word
+
+-- the arguments of `mk` describe this volume
+pub record IsVolume (rows : List Row) (blocks size : ℕ) (label : Text) : Type 0 where
+  pub blocks_are : IsBlocks (first_of (codes "blocks") rows) blocks
+  pub size_is : IsSize (first_of (codes "block-size") rows) size
+  pub label_is : IsName (first_of (codes "name") rows) label
+
+-- what was found is `label` with a good name
+abbrev pub FindsLabel : Option (Text × List Row) → Text → Type 0
+FindsLabel found name = (rows : List Row) × (found ≡ Some (codes "label", rows)) × IsNewName (first_of (codes "name") rows) name
+
+-- what was found is `mk` with good numbers and a good label
+abbrev pub FindsVolume : Option (Text × List Row) → ℕ → ℕ → Text → Type 0
+FindsVolume found blocks size label = (rows : List Row) × (found ≡ Some (codes "mk", rows)) × IsVolume rows blocks size label
+
+-- `clap` refuses nothing in the words, and finds `label` with a good name in them
+abbrev pub IsLabelCommand : List Text → Text → Type 0
+IsLabelCommand words name = (fault_of bfs_line words ≡ []) × FindsLabel (subcommand_of bfs_line words) name
+
+-- `clap` refuses nothing in the words, and finds `mk` with good numbers and a good label in them
+abbrev pub IsMakeCommand : List Text → ℕ → ℕ → Text → Type 0
+IsMakeCommand words blocks size label = (fault_of bfs_line words ≡ []) × FindsVolume (subcommand_of bfs_line words) blocks size label
+
+-- a word that begins with no hyphen
+abbrev pub IsPlainWord : Text → Type 0
+IsPlainWord word = ¬ (slice_index_or word 0 45 ≡ 45)
+
+-- words that are no command
+pub record IsFaulty (words : List Text) : Type 0 where
+  pub some : ¬ (words ≡ [])
+  pub no_label : (name : Text) → IsLabelCommand words name → ⊥
+  pub no_volume : (blocks size : ℕ) (label : Text) → IsMakeCommand words blocks size label → ⊥
+
+-- what was found asks for
+abbrev pub Means : Option (Text × List Row) → Command → Type 0
+Means found commands.Usage = ⊥
+Means found (commands.Label name) = FindsLabel found name.now
+Means found (commands.Make volume) = FindsVolume found volume.blocks volume.block_size volume.label.now
+Means found (commands.Faulty complaint) = ((name : Text) → FindsLabel found name → ⊥) × ((blocks size : ℕ) (label : Text) → FindsVolume found blocks size label → ⊥)
+
+-- what the words ask for
+abbrev pub Asks : List Text → Command → Type 0
+Asks words commands.Usage = words ≡ []
+Asks words (commands.Label name) = IsLabelCommand words name.now
+Asks words (commands.Make volume) = IsMakeCommand words volume.blocks volume.block_size volume.label.now
+Asks words (commands.Faulty complaint) = IsFaulty words

@@ -1,0 +1,17 @@
+// The words of the command line, read by `clap`: a command `bfs` with one level of subcommands. `read_words` tells
+// what they ask for, exactly as specs/Words.antt says.
+#![tactic(auto)]
+
+mod argument;
+mod command;
+mod laws;
+mod line;
+mod number;
+mod read;
+#[cfg(test)]
+mod tests;
+
+pub use argument::Argument;
+pub use command::{Command, Complaint, NewVolume};
+pub use laws::plain_spellings;
+pub use read::read_words;

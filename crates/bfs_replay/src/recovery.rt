@@ -28,10 +28,10 @@ pub enum MountFault {
     #[error("the disk has {sectors} sectors where {needed} are needed")]
     Short { sectors: u64, needed: u64 },
     /// The first condition that the superblock breaks.
-    #[error("the superblock is bad")]
+    #[error("{0}")]
     Super(SuperFault),
     /// The first entry of the log that is malformed.
-    #[error("an entry of the log is malformed")]
+    #[error("{0}")]
     Entry(EntryFault),
     /// A disk call failed: the disk's count of faults rose from one number to the other.
     #[error("a disk call failed")]

@@ -195,7 +195,10 @@ impl Changed {
                 false
             }
             Err(at) => {
-                self.move_before(i, at);
+                // A pair that stands in its place stays: a list in order is gone through without a move.
+                if at < i {
+                    self.move_before(i, at);
+                }
                 true
             }
         }

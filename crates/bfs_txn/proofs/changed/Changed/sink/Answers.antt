@@ -26,14 +26,14 @@ returns-in-Ok-clause-sized c = (onto c).sized
 pub returns-in-Ok-clause-len : goal.returns-in-Ok-clause-len
 returns-in-Ok-clause-len c = (onto c).len
 
-pub returns-in-Err-clause-ascends : goal.returns-in-Err-clause-ascends
-returns-in-Err-clause-ascends c = (before c).ascends
+pub returns-then-at-i-clause-ascends : goal.returns-then-at-i-clause-ascends
+returns-then-at-i-clause-ascends c = (before c).ascends
 
-pub returns-in-Err-clause-reads : goal.returns-in-Err-clause-reads
-returns-in-Err-clause-reads c = (before c).reads
+pub returns-then-at-i-clause-reads : goal.returns-then-at-i-clause-reads
+returns-then-at-i-clause-reads c = (before c).reads
 
-pub returns-in-Err-clause-sized : goal.returns-in-Err-clause-sized
-returns-in-Err-clause-sized c = (before c).sized
+pub returns-then-at-i-clause-sized : goal.returns-then-at-i-clause-sized
+returns-then-at-i-clause-sized c = (before c).sized
 
-pub returns-in-Err-clause-len : goal.returns-in-Err-clause-len
-returns-in-Err-clause-len c = (before c).len
+pub returns-then-at-i-clause-len : goal.returns-then-at-i-clause-len
+returns-then-at-i-clause-len c = (before c).len

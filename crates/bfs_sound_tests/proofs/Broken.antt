@@ -1,10 +1,11 @@
 -- What follows where a superblock with blocks is whole with a tree: which blocks are reached, and that a row of the root
 -- directory names a node.
-use Rattle.std.proofs.Common.{◌≡◌, ◌≢◌, ◌≤◌, ◌<◌, ◌⊎◌, inl, inr, ℕ, ℤ, pos, List, [], ◌∷◌, ◌++◌, Some, None, Bool, true, false, cond, T, refl, sym, ap, ◌∙◌, subst, arith, ⊎_elim}
+use Rattle.std.proofs.Common.{◌≡◌, ◌≢◌, ◌≤◌, ◌<◌, ◌⊎◌, inl, inr, ℕ, ℤ, pos, List, [], ◌∷◌, ◌++◌, length, Some, None, Bool, true, false, cond, T, refl, sym, ap, ◌∙◌, subst, arith, ⊎_elim}
 use Rattle.std.proofs.lemmas.Bool.{true≢false}
-use Rattle.std.specs.Prelude.{◌==◌, codes}
+use Rattle.std.specs.Prelude.{◌==◌, codes, unwrap_or}
 use Rattle.std.specs.List.{AllByRecursion, flat_map}
-use Rattle.std.specs.Str.{bytes_eq}
+use Rattle.std.specs.Str.{bytes_eq, is_utf8, chars}
+use Rattle.std.specs.Char.{encode_utf8}
 use Rattle.std.specs.Ordering.{nat_cmp, eq_by_cmp, is_lt}
 use Rattle.std.specs.FinMap.{get, get-empty, entries, entries_sorted, get-entries, find, is_sorted}
 use Rattle.std.specs.FinMap.Entries.{below_all}
@@ -17,14 +18,16 @@ use Rattle.bfs_stream.proofs.Doubles.{times-append}
 use Rattle.bfs_stream.proofs.Frames.{has_left, has_right}
 use Rattle.bfs_super.specs.Conditions.{natural}
 use Rattle.bfs_super.specs.declared.sup.Super.{Super}
-use Rattle.bfs_tree.specs.declared.call.Kind.TheVariants.{Dir}
+use Rattle.bfs_smalldata.specs.Items.{Item}
+use Rattle.bfs_tree.specs.declared.call.Kind.{Kind}
+use Rattle.bfs_tree.specs.declared.call.Kind.TheVariants.{File, Dir, Link}
 use Rattle.bfs_tree.specs.Names.{is_bad_name}
 use Rattle.bfs_tree.specs.Trees.{Node, Tree, IsNode, IsDirectory, HasBuiltIn, HasPlainIndices, LeadsTo, at_top, by_parent}
 use Rattle.bfs_values.specs.Rows.{rows_in}
 use Rattle.bfs_values.specs.Reached.{IsWholeTree}
 use Rattle.bfs_values.specs.Values.{HasValues}
 use Rattle.bfs_sound.specs.Volumes.{Volume, bitmap_blocks, IsMarked}
-use Rattle.bfs_sound.specs.Inodes.{content, inode_blocks}
+use Rattle.bfs_sound.specs.Inodes.{kind_bits, content, inode_blocks}
 use Rattle.bfs_sound.specs.Attributes.{attribute_directory, attribute_inodes}
 use Rattle.bfs_sound.specs.Nodes.{HasNode}
 use Rattle.bfs_sound.specs.Listings.{IsChild, IsRow, IsIndexRow, IsIndexOf, Lists}
@@ -34,6 +37,21 @@ use Rattle.bfs_sound.proofs.Counts.{In, has_member}
 use Rattle.bfs_sound.proofs.Parts.{in_entries, reach_parts}
 use Rattle.bfs_sound_tests.proofs.Finite.{same, itself, both}
 use Rattle.bfs_sound_tests.proofs.Standing.{bit, row_all}
+
+-- the kind of a node, by the bits of its mode
+pub dir_kind : (k : Kind) → 4 ≡ kind_bits k → k ≡ Dir
+dir_kind File e = let bad : 4 ≡ 8 = e in absurd (omega (arith, bad))
+dir_kind Dir e = refl
+dir_kind Link e = let bad : 4 ≡ 10 = e in absurd (omega (arith, bad))
+
+pub link_kind : (k : Kind) → 10 ≡ kind_bits k → k ≡ Link
+link_kind File e = let bad : 10 ≡ 8 = e in absurd (omega (arith, bad))
+link_kind Dir e = let bad : 10 ≡ 4 = e in absurd (omega (arith, bad))
+link_kind Link e = refl
+
+-- the items of small data are those that its bytes say
+pub same_items : (a b : List Item) → Some a ≡ Some b → a ≡ b
+same_items a b e = ap (λ o. unwrap_or o a) e
 
 -- an entry is found by its key
 below_in : (k : ℕ) (es : List (ℕ × Node)) (e : ℕ × Node) → below_all nat_cmp k es ≡ true → In e es → is_lt (nat_cmp k e.0) ≡ true
@@ -115,6 +133,16 @@ module _ (s : Super) (blocks : ℕ → List ℕ) (tree : Tree) (w : Whole s bloc
 
   pub child_of : (rs : List Row) → rows_in Text (content v root) ≡ rs → (name : List ℕ) (id : ℕ) → assoc Text rs name ≡ Some (pos id) → bytes_eq name (codes ".") ≡ false → bytes_eq name (codes "..") ≡ false → IsChild tree root name id
   child_of rs are name id row one two = child_in root root_is.0 root_is.1 root_is.2 rs are name id row one two
+
+  -- a directory's row `.` names the directory itself
+  pub own_row : (d : ℕ) (n : Node) → IsNode tree d n → n.kind ≡ Dir → (rs : List Row) → rows_in Text (content v d) ≡ rs → (id : ℕ) → assoc Text rs (codes ".") ≡ Some (pos id) → id ≡ d
+  unfolding is_utf8 chars encode_utf8
+  own_row d n is dir rs are id row = by ((w.sound.nodes.stands.listings d n is dir (codes ".") (pos id)).0 (subst (λ rows. assoc Text rows (codes ".") ≡ Some (pos id)) (sym are) row))
+    where
+      by : IsRow tree d n (codes ".") (pos id) → id ≡ d
+      by (inl p) = ap natural p.1
+      by (inr (inl p)) = absurd (let bad : 1 ≡ 2 = ap length p.0 in omega (arith, bad))
+      by (inr (inr c)) = absurd (let bad : true ≡ false = subst (λ name. is_bad_name name ≡ false) c.2.named (w.sound.nodes.plain.named c.0 c.2.node c.2.there c.2.not_root) in cc)
 
   pub has_node : (id : ℕ) (n : Node) → IsNode tree id n → HasNode v id n
   has_node id n is = w.sound.nodes.stands.nodes id n is

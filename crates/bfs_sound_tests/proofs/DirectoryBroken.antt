@@ -34,7 +34,7 @@ use Rattle.bfs_sound_tests.proofs.Finite.{low}
 use Rattle.bfs_sound_tests.proofs.Standing.{bit}
 use Rattle.bfs_sound_tests.proofs.DirectoryNodes.{blocks_long}
 use Rattle.bfs_sound_tests.proofs.Supers.{reads_22, full_22, reads_23, full_23}
-use Rattle.bfs_sound_tests.proofs.Images.{from_image, with_long, super_is_made}
+use Rattle.bfs_sound_tests.proofs.Images.{from_image, broken, with_long, super_is_made}
 use Rattle.bfs_sound_tests.proofs.Tallies.{ones, used_is, named_listed}
 use Rattle.bfs_sound_tests.proofs.Broken.{built_in, child_of, inode_reached, bit_set, index_once, not_reached}
 
@@ -98,15 +98,15 @@ unlisted_not_whole tree w = not_reached (super_of_used 22) unlisted tree w few_r
 
 pub unmarked_broken : IsBroken 22 unmarked
 unfolding unsigned_bytes signed32_bytes signed64_bytes run_bytes header_bytes head_bytes bytes_of level_bytes inode_block header_block leaf_block bitmap_block
-unmarked_broken tree image = unmarked_not_whole tree (from_image 22 unmarked (with_long _ _ blocks refl blocks_long) reads_22 full_22 tree image)
+unmarked_broken = broken 22 unmarked (with_long _ _ blocks refl blocks_long) reads_22 full_22 unmarked_not_whole
 
 pub shared_broken : IsBroken 22 shared
 unfolding unsigned_bytes signed32_bytes signed64_bytes run_bytes header_bytes head_bytes bytes_of level_bytes inode_block header_block leaf_block bitmap_block
-shared_broken tree image = shared_not_whole tree (from_image 22 shared (with_long _ _ blocks refl blocks_long) reads_22 full_22 tree image)
+shared_broken = broken 22 shared (with_long _ _ blocks refl blocks_long) reads_22 full_22 shared_not_whole
 
 pub unlisted_broken : IsBroken 22 unlisted
 unfolding unsigned_bytes signed32_bytes signed64_bytes run_bytes header_bytes head_bytes bytes_of level_bytes inode_block header_block leaf_block bitmap_block
-unlisted_broken tree image = unlisted_not_whole tree (from_image 22 unlisted (with_long _ _ blocks refl blocks_long) reads_22 full_22 tree image)
+unlisted_broken = broken 22 unlisted (with_long _ _ blocks refl blocks_long) reads_22 full_22 unlisted_not_whole
 
 abbrev unindexed_volume : Volume
 unindexed_volume = volume_of (super_of_used 22) unindexed
@@ -132,7 +132,7 @@ unindexed_not_whole tree w =
 
 pub unindexed_broken : IsBroken 22 unindexed
 unfolding unsigned_bytes signed32_bytes signed64_bytes run_bytes header_bytes head_bytes bytes_of level_bytes inode_block header_block leaf_block bitmap_block
-unindexed_broken tree image = unindexed_not_whole tree (from_image 22 unindexed (with_long _ _ blocks refl blocks_long) reads_22 full_22 tree image)
+unindexed_broken = broken 22 unindexed (with_long _ _ blocks refl blocks_long) reads_22 full_22 unindexed_not_whole
 
 abbrev miscounted_volume : Volume
 miscounted_volume = volume_of (super_of_used 23) blocks

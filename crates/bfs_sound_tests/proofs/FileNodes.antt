@@ -26,7 +26,7 @@ use Rattle.bfs_sound.specs.Whole.{IsSound}
 use Rattle.bfs_sound_tests.specs.Bytes.{zero_block, level_bytes, inode_block, header_block, leaf_block, bitmap_block}
 use Rattle.bfs_sound_tests.specs.Worked.{index_kinds, root_node, tree_of}
 use Rattle.bfs_sound_tests.specs.Files.{block_list, blocks, root_rows, name_rows, size_rows, time_rows, large_node, empty_node, nodes, FilesAreWhole}
-use Rattle.bfs_sound_tests.proofs.Finite.{low, most, one_named, all_long}
+use Rattle.bfs_sound_tests.proofs.Finite.{most, one_named, all_long}
 use Rattle.bfs_sound_tests.proofs.Plain.{IsTested, is_node}
 use Rattle.bfs_sound_tests.proofs.Streams.{names_of}
 use Rattle.bfs_sound_tests.proofs.Standing.{lists, listing, reached, children_of, apart_by, IsListing, IsCounted, sound}
@@ -36,7 +36,7 @@ use Rattle.bfs_sound_tests.proofs.Images.{to_image}
 
 tested : IsTested 4 nodes index_kinds
 unfolding is_utf8 chars encode_utf8
-tested = record { sorted = tt; in_order = tt; top = root_node; there = refl; dir = refl; unnamed = refl; own = refl; parents = refl; lead = refl; named = refl; apart = refl; by_name = refl; by_size = refl; by_time = refl }
+tested = record { sorted = tt; in_order = tt; top = root_node; there = refl; dir = refl; unnamed = refl; own = refl; parents = refl; lead = refl; named = refl; apart = refl; kinds = inr (refl, refl, refl) }
 
 abbrev called : List ℕ → Item
 called name = record { kind = 0x43535452; name = 19 ∷ []; bytes = name }

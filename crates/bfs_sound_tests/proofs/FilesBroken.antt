@@ -25,11 +25,11 @@ use Rattle.bfs_sound.specs.Listings.{IsChild, IsIndexRow}
 use Rattle.bfs_sound.specs.Whole.{volume_of, Whole}
 use Rattle.bfs_sound_tests.specs.Bytes.{level_bytes, inode_block, header_block, leaf_block, bitmap_block}
 use Rattle.bfs_sound_tests.specs.Worked.{super_of_used, IsBroken}
-use Rattle.bfs_sound_tests.specs.Files.{blocks, root_rows, time_rows, unfilled, unnamed, descending}
+use Rattle.bfs_sound_tests.specs.Files.{blocks, root_rows, time_rows, unfilled, unnamed, descending, uneven}
 use Rattle.bfs_sound_tests.proofs.Finite.{low}
 use Rattle.bfs_sound_tests.proofs.FileNodes.{blocks_long}
 use Rattle.bfs_sound_tests.proofs.Supers.{reads_36, full_36}
-use Rattle.bfs_sound_tests.proofs.Images.{from_image, with_long}
+use Rattle.bfs_sound_tests.proofs.Images.{broken, with_long}
 use Rattle.bfs_sound_tests.proofs.Broken.{child_of, has_node, time_tree, time_values}
 
 file_kind : (k : Kind) → 8 ≡ kind_bits k → k ≡ File
@@ -96,12 +96,30 @@ descending_not_whole tree w = descending_no_values (time_values (super_of_used 3
 
 pub unfilled_broken : IsBroken 36 unfilled
 unfolding unsigned_bytes signed32_bytes signed64_bytes run_bytes header_bytes head_bytes bytes_of level_bytes inode_block header_block leaf_block bitmap_block
-unfilled_broken tree image = unfilled_not_whole tree (from_image 36 unfilled (with_long _ _ blocks refl blocks_long) reads_36 full_36 tree image)
+unfilled_broken = broken 36 unfilled (with_long _ _ blocks refl blocks_long) reads_36 full_36 unfilled_not_whole
 
 pub unnamed_broken : IsBroken 36 unnamed
 unfolding unsigned_bytes signed32_bytes signed64_bytes run_bytes header_bytes head_bytes bytes_of level_bytes inode_block header_block leaf_block bitmap_block
-unnamed_broken tree image = unnamed_not_whole tree (from_image 36 unnamed (with_long _ _ blocks refl blocks_long) reads_36 full_36 tree image)
+unnamed_broken = broken 36 unnamed (with_long _ _ blocks refl blocks_long) reads_36 full_36 unnamed_not_whole
 
 pub descending_broken : IsBroken 36 descending
 unfolding unsigned_bytes signed32_bytes signed64_bytes run_bytes header_bytes head_bytes bytes_of level_bytes inode_block header_block leaf_block bitmap_block
-descending_broken tree image = descending_not_whole tree (from_image 36 descending (with_long _ _ blocks refl blocks_long) reads_36 full_36 tree image)
+descending_broken = broken 36 descending (with_long _ _ blocks refl blocks_long) reads_36 full_36 descending_not_whole
+
+abbrev uneven_volume : Volume
+uneven_volume = volume_of (super_of_used 36) uneven
+
+uneven_row : IsIndexRow uneven_volume (codes "last_modified") (pos 16)
+unfolding unsigned_at signed32_at signed64_at run_in runs_in unsigned_bytes signed32_bytes signed64_bytes run_bytes array_runs level_blocks bytes_at rows_of header_bytes head_bytes bytes_of level_bytes inode_block header_block leaf_block blocks rows_in
+uneven_row = refl
+
+uneven_no_tree : IsWholeTree I64 (content uneven_volume 16) → ⊥
+unfolding unsigned_at signed32_at signed64_at run_in runs_in unsigned_bytes signed32_bytes signed64_bytes run_bytes array_runs level_blocks bytes_at rows_of header_bytes head_bytes bytes_of level_bytes inode_block header_block leaf_block blocks
+uneven_no_tree t = let bad : 512 ≡ 0 = t.whole in omega (arith, bad)
+
+uneven_not_whole : (tree : Tree) → Whole (super_of_used 36) uneven tree → ⊥
+uneven_not_whole tree w = uneven_no_tree (time_tree (super_of_used 36) uneven tree w 16 uneven_row)
+
+pub uneven_broken : IsBroken 36 uneven
+unfolding unsigned_bytes signed32_bytes signed64_bytes run_bytes header_bytes head_bytes bytes_of level_bytes inode_block header_block leaf_block bitmap_block
+uneven_broken = broken 36 uneven (with_long _ _ _ refl (with_long _ _ blocks refl blocks_long)) reads_36 full_36 uneven_not_whole

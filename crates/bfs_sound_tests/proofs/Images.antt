@@ -16,8 +16,8 @@ use Rattle.bfs_sound.specs.Volumes.{log_blocks}
 use Rattle.bfs_sound.specs.Whole.{Whole, IsWhole}
 use Rattle.bfs_sound.proofs.Carried.{whole_carried, volume_is}
 use Rattle.bfs_bytes.specs.declared.Run.{Run}
-use Rattle.bfs_sound_tests.specs.Bytes.{run}
-use Rattle.bfs_sound_tests.specs.Worked.{super_with, super_of_used, image_of, with_block}
+use Rattle.bfs_sound_tests.specs.Bytes.{run, address}
+use Rattle.bfs_sound_tests.specs.Worked.{super_indexed, super_of_used, image_of, with_block, IsBroken}
 use Rattle.bfs_sound_tests.proofs.Supers.{valid}
 
 -- the blocks of a volume with one block changed are as long as before
@@ -47,10 +47,10 @@ super_is_made s blocks again full =
     let tail : List ℕ = flat_map blocks (counted_from 1 63) in
     ap (λ l. super_at (take 512 l)) (behind 512 0 (replicate 512 0) (sector_of s ++ tail) zeros_long) ∙ ap super_at (front 512 (sector_of s) tail full) ∙ again
 
-module _ (log : Run) (start end used : ℕ) (blocks : ℕ → List ℕ) (long : (k : ℕ) → length (blocks k) ≡ 1024) (is_valid : IsValid (super_with log start end used)) (again : super_at (sector_of (super_with log start end used)) ≡ super_with log start end used)
-    (full : length (sector_of (super_with log start end used)) ≡ 512) where
+module _ (indices log : Run) (start end used : ℕ) (blocks : ℕ → List ℕ) (long : (k : ℕ) → length (blocks k) ≡ 1024) (is_valid : IsValid (super_indexed indices log start end used)) (again : super_at (sector_of (super_indexed indices log start end used)) ≡ super_indexed indices log start end used)
+    (full : length (sector_of (super_indexed indices log start end used)) ≡ 512) where
   abbrev s : Super
-  s = super_with log start end used
+  s = super_indexed indices log start end used
 
   abbrev image : List ℕ
   image = image_of s blocks
@@ -122,7 +122,11 @@ module _ (log : Run) (start end used : ℕ) (blocks : ℕ → List ℕ) (long : 
 -- with an empty log in blocks 2 and 3
 module _ (used : ℕ) (blocks : ℕ → List ℕ) (long : (k : ℕ) → length (blocks k) ≡ 1024) (again : super_at (sector_of (super_of_used used)) ≡ super_of_used used) (full : length (sector_of (super_of_used used)) ≡ 512) where
   pub to_image : (tree : Tree) → Whole (super_of_used used) blocks tree → IsWhole (image_of (super_of_used used) blocks) tree
-  to_image tree w = image_whole (run 2 2) 0 0 used blocks long (valid used) again full tree w
+  to_image tree w = image_whole (address 7) (run 2 2) 0 0 used blocks long (valid used) again full tree w
 
   pub from_image : (tree : Tree) → IsWhole (image_of (super_of_used used) blocks) tree → Whole (super_of_used used) blocks tree
-  from_image tree w = blocks_whole (run 2 2) 0 0 used blocks long (valid used) again full tree w
+  from_image tree w = blocks_whole (address 7) (run 2 2) 0 0 used blocks long (valid used) again full tree w
+
+  -- where no tree stands on the blocks, the image is broken
+  pub broken : ((tree : Tree) → Whole (super_of_used used) blocks tree → ⊥) → IsBroken used blocks
+  broken none tree w = none tree (from_image tree w)

@@ -26,3 +26,12 @@ mod LoggedTrees
 mod LoggedNodes
 mod LoggedReplay
 mod LevelsKept
+mod NamesBroken
+mod CirclesBroken
+mod UnreachedBroken
+mod InnerTrees
+mod InnerNodes
+mod AttributeTrees
+mod AttributeNodes
+mod ClaimsBroken
+mod BareNodes

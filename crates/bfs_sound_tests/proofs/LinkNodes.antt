@@ -35,7 +35,7 @@ use Rattle.bfs_sound_tests.proofs.Images.{to_image}
 
 tested : IsTested 4 nodes index_kinds
 unfolding is_utf8 chars encode_utf8
-tested = record { sorted = tt; in_order = tt; top = root_node; there = refl; dir = refl; unnamed = refl; own = refl; parents = refl; lead = refl; named = refl; apart = refl; by_name = refl; by_size = refl; by_time = refl }
+tested = record { sorted = tt; in_order = tt; top = root_node; there = refl; dir = refl; unnamed = refl; own = refl; parents = refl; lead = refl; named = refl; apart = refl; kinds = inr (refl, refl, refl) }
 
 abbrev called : List ℕ → Item
 called name = record { kind = 0x43535452; name = 19 ∷ []; bytes = name }

@@ -1,6 +1,6 @@
 -- The volume with links and attributes is whole with no tree once one thing in it is broken.
-use Rattle.std.proofs.Common.{◌≡◌, ◌<◌, ◌≤◌, ℕ, pos, List, [], ◌∷◌, ◌++◌, Some, length, true, false, refl, sym, ap, subst, arith}
-use Rattle.std.specs.Prelude.{codes, count_by, unwrap_or}
+use Rattle.std.proofs.Common.{◌≡◌, ◌<◌, ◌≤◌, ℕ, pos, List, [], ◌∷◌, ◌++◌, length, true, false, refl, sym, ap, subst, arith}
+use Rattle.std.specs.Prelude.{codes, count_by}
 use Rattle.std.specs.Str.{bytes_eq}
 use Rattle.std.specs.List.{AllByRecursion}
 use Rattle.std.proofs.lemmas.List.Elements.{All-head}
@@ -12,12 +12,11 @@ use Rattle.bfs_node.specs.Page.{rows_of, head_bytes}
 use Rattle.bfs_smalldata.specs.Items.{Item, items_of, bytes_of}
 use Rattle.bfs_stream.specs.Sizes.{IsInVolume}
 use Rattle.bfs_stream.specs.Places.{array_runs, level_blocks, bytes_at, HasStream}
-use Rattle.bfs_tree.specs.declared.call.Kind.{Kind}
-use Rattle.bfs_tree.specs.declared.call.Kind.TheVariants.{File, Dir, Link}
+use Rattle.bfs_tree.specs.declared.call.Kind.TheVariants.{Link}
 use Rattle.bfs_tree.specs.Trees.{Tree, Node}
 use Rattle.bfs_values.specs.Rows.{rows_in}
 use Rattle.bfs_sound.specs.Volumes.{Volume, sizes}
-use Rattle.bfs_sound.specs.Inodes.{content, kind_bits}
+use Rattle.bfs_sound.specs.Inodes.{content}
 use Rattle.bfs_sound.specs.Attributes.{Named, IsAttributeRow, IsAttributeDirectory, attributes_in, attributes_of, attribute_directory}
 use Rattle.bfs_sound.specs.Nodes.{HasNode, HasContent, HasTarget}
 use Rattle.bfs_sound.specs.Listings.{IsChild}
@@ -27,16 +26,8 @@ use Rattle.bfs_sound_tests.specs.Worked.{super_of_used, IsBroken}
 use Rattle.bfs_sound_tests.specs.Links.{blocks, root_rows, small_attribute, unended, outside, repeated, clashing, untyped}
 use Rattle.bfs_sound_tests.proofs.LinkNodes.{blocks_long}
 use Rattle.bfs_sound_tests.proofs.Supers.{reads_29, full_29}
-use Rattle.bfs_sound_tests.proofs.Images.{from_image, with_long}
-use Rattle.bfs_sound_tests.proofs.Broken.{child_of, has_node}
-
-link_kind : (k : Kind) → 10 ≡ kind_bits k → k ≡ Link
-link_kind File e = let bad : 10 ≡ 8 = e in absurd (omega (arith, bad))
-link_kind Dir e = let bad : 10 ≡ 4 = e in absurd (omega (arith, bad))
-link_kind Link e = refl
-
-same_items : (a b : List Item) → Some a ≡ Some b → a ≡ b
-same_items a b e = ap (λ o. unwrap_or o a) e
+use Rattle.bfs_sound_tests.proofs.Images.{broken, with_long}
+use Rattle.bfs_sound_tests.proofs.Broken.{link_kind, same_items, child_of, has_node}
 
 abbrev called : List ℕ → Item
 called name = record { kind = 0x43535452; name = 19 ∷ []; bytes = name }
@@ -159,20 +150,20 @@ untyped_not_whole tree w = let n = untyped_node tree w in untyped_no_node n.0 n.
 
 pub unended_broken : IsBroken 29 unended
 unfolding unsigned_bytes signed32_bytes signed64_bytes run_bytes header_bytes head_bytes bytes_of level_bytes inode_block header_block leaf_block bitmap_block
-unended_broken tree image = unended_not_whole tree (from_image 29 unended (with_long _ _ blocks refl blocks_long) reads_29 full_29 tree image)
+unended_broken = broken 29 unended (with_long _ _ blocks refl blocks_long) reads_29 full_29 unended_not_whole
 
 pub outside_broken : IsBroken 29 outside
 unfolding unsigned_bytes signed32_bytes signed64_bytes run_bytes header_bytes head_bytes bytes_of level_bytes inode_block header_block leaf_block bitmap_block
-outside_broken tree image = outside_not_whole tree (from_image 29 outside (with_long _ _ blocks refl blocks_long) reads_29 full_29 tree image)
+outside_broken = broken 29 outside (with_long _ _ blocks refl blocks_long) reads_29 full_29 outside_not_whole
 
 pub repeated_broken : IsBroken 29 repeated
 unfolding unsigned_bytes signed32_bytes signed64_bytes run_bytes header_bytes head_bytes bytes_of level_bytes inode_block header_block leaf_block bitmap_block
-repeated_broken tree image = repeated_not_whole tree (from_image 29 repeated (with_long _ _ blocks refl blocks_long) reads_29 full_29 tree image)
+repeated_broken = broken 29 repeated (with_long _ _ blocks refl blocks_long) reads_29 full_29 repeated_not_whole
 
 pub clashing_broken : IsBroken 29 clashing
 unfolding unsigned_bytes signed32_bytes signed64_bytes run_bytes header_bytes head_bytes bytes_of level_bytes inode_block header_block leaf_block bitmap_block
-clashing_broken tree image = clashing_not_whole tree (from_image 29 clashing (with_long _ _ blocks refl blocks_long) reads_29 full_29 tree image)
+clashing_broken = broken 29 clashing (with_long _ _ blocks refl blocks_long) reads_29 full_29 clashing_not_whole
 
 pub untyped_broken : IsBroken 29 untyped
 unfolding unsigned_bytes signed32_bytes signed64_bytes run_bytes header_bytes head_bytes bytes_of level_bytes inode_block header_block leaf_block bitmap_block
-untyped_broken tree image = untyped_not_whole tree (from_image 29 untyped (with_long _ _ blocks refl blocks_long) reads_29 full_29 tree image)
+untyped_broken = broken 29 untyped (with_long _ _ blocks refl blocks_long) reads_29 full_29 untyped_not_whole

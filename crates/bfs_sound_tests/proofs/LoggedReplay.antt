@@ -70,14 +70,14 @@ before_long : (k : ℕ) → length (before k) ≡ 1024
 before_long = with_long 21 zero_block blocks refl blocks_long
 
 after : IsWhole (image_of super_after blocks) (tree_of nodes)
-after = image_whole (run 40 8) 2 2 28 blocks blocks_long (valid 2 2 (low 2 8 refl) (low 2 8 refl)) reads_after full_after (tree_of nodes)
+after = image_whole (address 7) (run 40 8) 2 2 28 blocks blocks_long (valid 2 2 (low 2 8 refl) (low 2 8 refl)) reads_after full_after (tree_of nodes)
     (record { valid = record { super = valid 2 2 (low 2 8 refl) (low 2 8 refl); long = λ k _. blocks_long k }; emptied = refl; sound = is_sound })
 
 abbrev image : List ℕ
 image = image_of super_before before
 
 image_is_valid : Valid image
-image_is_valid = image_valid (run 40 8) 0 2 28 before before_long (valid 0 2 (low 0 8 refl) (low 2 8 refl)) reads_before full_before
+image_is_valid = image_valid (address 7) (run 40 8) 0 2 28 before before_long (valid 0 2 (low 0 8 refl) (low 2 8 refl)) reads_before full_before
 
 -- the entry has one run, and the leaf's bytes behind its array block
 abbrev home : Home

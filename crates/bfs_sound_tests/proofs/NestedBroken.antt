@@ -11,12 +11,11 @@ use Rattle.bfs_node.specs.Header.{header_bytes}
 use Rattle.bfs_node.specs.Page.{Row, rows_of, head_bytes}
 use Rattle.bfs_smalldata.specs.Items.{bytes_of}
 use Rattle.bfs_stream.specs.Places.{array_runs, level_blocks, bytes_at}
-use Rattle.bfs_tree.specs.declared.call.Kind.{Kind}
-use Rattle.bfs_tree.specs.declared.call.Kind.TheVariants.{File, Dir, Link}
+use Rattle.bfs_tree.specs.declared.call.Kind.TheVariants.{Dir}
 use Rattle.bfs_tree.specs.Trees.{Tree, Node}
 use Rattle.bfs_values.specs.Rows.{rows_in}
 use Rattle.bfs_sound.specs.Volumes.{Volume}
-use Rattle.bfs_sound.specs.Inodes.{content, kind_bits, mode_bits}
+use Rattle.bfs_sound.specs.Inodes.{content, mode_bits}
 use Rattle.bfs_sound.specs.Nodes.{HasNode}
 use Rattle.bfs_sound.specs.Listings.{IsChild}
 use Rattle.bfs_sound.specs.Whole.{volume_of, Whole}
@@ -25,13 +24,8 @@ use Rattle.bfs_sound_tests.specs.Worked.{super_of_used, IsBroken}
 use Rattle.bfs_sound_tests.specs.Nested.{blocks, root_rows, outer_rows, misplaced, doubled}
 use Rattle.bfs_sound_tests.proofs.NestedNodes.{blocks_long}
 use Rattle.bfs_sound_tests.proofs.Supers.{reads_25, full_25}
-use Rattle.bfs_sound_tests.proofs.Images.{from_image, with_long}
-use Rattle.bfs_sound_tests.proofs.Broken.{child_of, child_in, has_node}
-
-dir_kind : (k : Kind) → 4 ≡ kind_bits k → k ≡ Dir
-dir_kind File e = let bad : 4 ≡ 8 = e in absurd (omega (arith, bad))
-dir_kind Dir e = refl
-dir_kind Link e = let bad : 4 ≡ 10 = e in absurd (omega (arith, bad))
+use Rattle.bfs_sound_tests.proofs.Images.{broken, with_long}
+use Rattle.bfs_sound_tests.proofs.Broken.{dir_kind, child_of, child_in, has_node}
 
 abbrev more_rows : List Row
 more_rows = (codes ".", pos 4) ∷ (codes "..", pos 4) ∷ (codes "d", pos 19) ∷ (codes "e", pos 22) ∷ []
@@ -72,7 +66,7 @@ misplaced_not_whole tree w = let e = misplaced_inner tree w in misplaced_no_node
 
 pub misplaced_broken : IsBroken 25 misplaced
 unfolding unsigned_bytes signed32_bytes signed64_bytes run_bytes header_bytes head_bytes bytes_of level_bytes inode_block header_block leaf_block bitmap_block
-misplaced_broken tree image = misplaced_not_whole tree (from_image 25 misplaced (with_long _ _ blocks refl blocks_long) reads_25 full_25 tree image)
+misplaced_broken = broken 25 misplaced (with_long _ _ blocks refl blocks_long) reads_25 full_25 misplaced_not_whole
 
 abbrev doubled_volume : Volume
 doubled_volume = volume_of (super_of_used 25) doubled
@@ -107,4 +101,4 @@ doubled_not_whole tree w =
 
 pub doubled_broken : IsBroken 25 doubled
 unfolding unsigned_bytes signed32_bytes signed64_bytes run_bytes header_bytes head_bytes bytes_of level_bytes inode_block header_block leaf_block bitmap_block
-doubled_broken tree image = doubled_not_whole tree (from_image 25 doubled (with_long _ _ blocks refl blocks_long) reads_25 full_25 tree image)
+doubled_broken = broken 25 doubled (with_long _ _ blocks refl blocks_long) reads_25 full_25 doubled_not_whole

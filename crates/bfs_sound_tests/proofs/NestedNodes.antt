@@ -36,7 +36,7 @@ inner_items = record { kind = 0x43535452; name = 19 ∷ []; bytes = codes "e" } 
 
 tested : IsTested 4 nodes index_kinds
 unfolding is_utf8 chars encode_utf8
-tested = record { sorted = tt; in_order = tt; top = root_node; there = refl; dir = refl; unnamed = refl; own = refl; parents = refl; lead = refl; named = refl; apart = refl; by_name = refl; by_size = refl; by_time = refl }
+tested = record { sorted = tt; in_order = tt; top = root_node; there = refl; dir = refl; unnamed = refl; own = refl; parents = refl; lead = refl; named = refl; apart = refl; kinds = inr (refl, refl, refl) }
 
 root : HasNode v 4 root_node
 unfolding unsigned_at signed32_at signed64_at run_in unsigned_bytes signed32_bytes signed64_bytes run_bytes bytes_of items_of level_bytes inode_block header_block leaf_block blocks

@@ -1,12 +1,11 @@
 -- The volume with an interior page, duplicates and a free page is whole.
-use Rattle.std.proofs.Common.{◌≡◌, inl, inr, ℕ, List, [], ◌∷◌, ◌≤◌, Some, false, refl, ap, arith, length}
+use Rattle.std.proofs.Common.{◌≡◌, inl, inr, ℕ, List, [], ◌∷◌, Some, false, refl, ap, arith, length}
 use Rattle.std.specs.Prelude.{codes, ◌==◌}
 use Rattle.std.specs.Ordering.{nat_cmp}
 use Rattle.std.specs.FinMap.{find}
 use Rattle.std.specs.Str.{is_utf8, chars}
 use Rattle.std.specs.Char.{encode_utf8}
 use Rattle.bfs_base.specs.Keys.{number_of}
-use Rattle.bfs_base.specs.Lists.{times}
 use Rattle.bfs_base.specs.declared.kind.KeyKind.TheVariants.{Text, I64}
 use Rattle.bfs_bitmap.specs.Bits.{bit_of}
 use Rattle.bfs_bytes.specs.Fields.{unsigned_at, signed32_at, signed64_at, run_in, unsigned_bytes, signed32_bytes, signed64_bytes, run_bytes}
@@ -36,7 +35,7 @@ use Rattle.bfs_sound_tests.proofs.Images.{to_image}
 
 tested : IsTested 4 nodes index_kinds
 unfolding is_utf8 chars encode_utf8
-tested = record { sorted = tt; in_order = tt; top = root_node; there = refl; dir = refl; unnamed = refl; own = refl; parents = refl; lead = refl; named = refl; apart = refl; by_name = refl; by_size = refl; by_time = refl }
+tested = record { sorted = tt; in_order = tt; top = root_node; there = refl; dir = refl; unnamed = refl; own = refl; parents = refl; lead = refl; named = refl; apart = refl; kinds = inr (refl, refl, refl) }
 
 abbrev called : List ℕ → Item
 called name = record { kind = 0x43535452; name = 19 ∷ []; bytes = name }

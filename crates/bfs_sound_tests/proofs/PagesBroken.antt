@@ -26,7 +26,7 @@ use Rattle.bfs_sound_tests.specs.Pages.{blocks, mismeasured, looped}
 use Rattle.bfs_sound_tests.proofs.Finite.{most}
 use Rattle.bfs_sound_tests.proofs.PageNodes.{blocks_long}
 use Rattle.bfs_sound_tests.proofs.Supers.{reads_28, full_28}
-use Rattle.bfs_sound_tests.proofs.Images.{from_image, with_long}
+use Rattle.bfs_sound_tests.proofs.Images.{broken, with_long}
 use Rattle.bfs_sound_tests.proofs.Broken.{time_tree, time_values}
 
 abbrev mismeasured_volume : Volume
@@ -48,7 +48,7 @@ mismeasured_not_whole tree w = mismeasured_no_tree (time_tree (super_of_used 28)
 
 pub mismeasured_broken : IsBroken 28 mismeasured
 unfolding unsigned_bytes signed32_bytes signed64_bytes run_bytes header_bytes head_bytes bytes_of level_bytes inode_block header_block leaf_block bitmap_block
-mismeasured_broken tree image = mismeasured_not_whole tree (from_image 28 mismeasured (with_long _ _ blocks refl blocks_long) reads_28 full_28 tree image)
+mismeasured_broken = broken 28 mismeasured (with_long _ _ blocks refl blocks_long) reads_28 full_28 mismeasured_not_whole
 
 abbrev looped_volume : Volume
 looped_volume = volume_of (super_of_used 28) looped
@@ -77,4 +77,4 @@ looped_not_whole tree w = looped_no_values (time_values (super_of_used 28) loope
 
 pub looped_broken : IsBroken 28 looped
 unfolding unsigned_bytes signed32_bytes signed64_bytes run_bytes header_bytes head_bytes bytes_of level_bytes inode_block header_block leaf_block bitmap_block
-looped_broken tree image = looped_not_whole tree (from_image 28 looped (with_long _ _ blocks refl blocks_long) reads_28 full_28 tree image)
+looped_broken = broken 28 looped (with_long _ _ blocks refl blocks_long) reads_28 full_28 looped_not_whole

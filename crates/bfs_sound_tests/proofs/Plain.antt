@@ -1,20 +1,24 @@
 -- A tree whose nodes and indices are written out is plain, by tests that compute.
-use Rattle.std.proofs.Common.{◌≡◌, ◌≢◌, inr, ℕ, zero, suc, List, [], Option, Some, None, Bool, true, false, not, ◌||◌, T, refl, sym, ◌∙◌, subst, arith, ⊎_elim}
+use Rattle.std.proofs.Common.{◌≡◌, ◌≢◌, ◌⊎◌, inl, inr, ℕ, zero, suc, List, [], length, Option, Some, None, Bool, true, false, not, ◌||◌, T, refl, sym, ap, ◌∙◌, subst, arith, ⊎_elim}
 use Rattle.std.proofs.lemmas.Bool.{true≢false}
 use Rattle.std.specs.Prelude.{◌==◌, codes}
 use Rattle.std.specs.List.{AllByRecursion, list_all}
 use Rattle.std.specs.Option.{option_map_or}
 use Rattle.std.specs.Str.{bytes_eq}
 use Rattle.std.specs.Ordering.{nat_cmp}
-use Rattle.std.specs.FinMap.{find, get, entries, is_sorted, from_sorted, get-from_sorted, entries-from_sorted}
+use Rattle.std.specs.FinMap.{FinMap, find, get, len-entries, empty, empty_of_len, entries, is_sorted, from_sorted, get-from_sorted, entries-from_sorted}
 use Rattle.bfs_base.specs.Keys.{text_cmp}
 use Rattle.bfs_base.specs.declared.kind.KeyKind.{KeyKind}
 use Rattle.bfs_base.specs.declared.kind.KeyKind.TheVariants.{Text, I64}
 use Rattle.bfs_tree.specs.declared.call.Kind.{Kind}
 use Rattle.bfs_tree.specs.declared.call.Kind.TheVariants.{File, Dir, Link}
 use Rattle.bfs_tree.specs.Names.{is_bad_name}
-use Rattle.bfs_tree.specs.Trees.{Node, Tree, is_dir, IsNode, IsDirectory, LeadsTo, at_top, by_parent, IsPlain}
+use Rattle.bfs_tree.specs.Trees.{Node, Tree, is_dir, IsNode, IsDirectory, LeadsTo, at_top, by_parent, HasPlainIndices, IsPlain}
 use Rattle.bfs_sound_tests.proofs.Finite.{either, not_true, same, all_of, all_map, found_all, text_one, number_one, itself}
+
+-- the map without entries
+pub none_sorted : ◌≡◌ {A = FinMap text_cmp KeyKind} (from_sorted []) empty
+none_sorted = empty_of_len (from_sorted []) (len-entries (from_sorted []) ∙ ap length (entries-from_sorted text_cmp [] tt))
 
 module _ (root : ℕ) (nodes : List (ℕ × Node)) (indices : List (List ℕ × KeyKind)) where
   abbrev pub tree : Tree
@@ -40,6 +44,11 @@ module _ (root : ℕ) (nodes : List (ℕ × Node)) (indices : List (List ℕ × 
   climbs zero id = id == root
   climbs (suc n) id = (id == root) || climbs n (up id)
 
+  -- there are no indices, or the three built-in ones are there with their kinds
+  abbrev pub AreBuiltIn : Type 0
+  AreBuiltIn = (indices ≡ [])
+      ⊎ ((find text_cmp (codes "name") indices ≡ Some Text) × (find text_cmp (codes "size") indices ≡ Some I64) × (find text_cmp (codes "last_modified") indices ≡ Some I64))
+
   pub record IsTested : Type 0 where
     pub sorted : T (is_sorted nat_cmp nodes)
     pub in_order : T (is_sorted text_cmp indices)
@@ -52,9 +61,7 @@ module _ (root : ℕ) (nodes : List (ℕ × Node)) (indices : List (List ℕ × 
     pub lead : list_all (λ e. climbs 8 e.0) nodes ≡ true
     pub named : list_all is_named nodes ≡ true
     pub apart : list_all (λ e. list_all (are_other e) nodes) nodes ≡ true
-    pub by_name : find text_cmp (codes "name") indices ≡ Some Text
-    pub by_size : find text_cmp (codes "size") indices ≡ Some I64
-    pub by_time : find text_cmp (codes "last_modified") indices ≡ Some I64
+    pub kinds : AreBuiltIn
 
   module _ (f : IsTested) where
     pub nodes_are : entries tree.nodes ≡ nodes
@@ -126,6 +133,14 @@ module _ (root : ℕ) (nodes : List (ℕ × Node)) (indices : List (List ℕ × 
         let t = each_node (λ id k. is_named (id, k) ≡ true) (all_of _ nodes f.named) id n is in
         ⊎_elim (λ e. absurd (other (same id root e))) (λ e. not_true (is_bad_name n.name) e) (either (id == root) (not (is_bad_name n.name)) t)
 
+    plain_indices : AreBuiltIn → HasPlainIndices tree.indices
+    plain_indices (inl none) = inl (ap from_sorted none ∙ none_sorted)
+    plain_indices (inr three) = inr (record {
+      by_name = index_is (codes "name") Text three.0;
+      by_size = index_is (codes "size") I64 three.1;
+      by_time = index_is (codes "last_modified") I64 three.2;
+    })
+
     pub plain : IsPlain tree
     plain = record {
       nodes = record {
@@ -136,9 +151,5 @@ module _ (root : ℕ) (nodes : List (ℕ × Node)) (indices : List (List ℕ × 
         apart = one;
         named = good;
       };
-      indices = inr (record {
-        by_name = index_is (codes "name") Text f.by_name;
-        by_size = index_is (codes "size") I64 f.by_size;
-        by_time = index_is (codes "last_modified") I64 f.by_time;
-      });
+      indices = plain_indices f.kinds;
     }

@@ -27,9 +27,9 @@ use Rattle.bfs_sound.specs.Listings.{IsChild, IsRow, Lists, IsIndex, HasIndexDir
 use Rattle.bfs_sound.specs.Owners.{node_blocks, index_blocks, fixed_blocks, reach, Accounts}
 use Rattle.bfs_sound.proofs.Parts.{sound_from}
 use Rattle.bfs_sound.specs.Whole.{HasIndices, IsSound}
-use Rattle.bfs_sound_tests.specs.Worked.{index_rows, index_kinds, tree_of}
+use Rattle.bfs_sound_tests.specs.Worked.{index_rows, index_kinds, tree_of, tree_with}
 use Rattle.bfs_sound_tests.proofs.Finite.{both, most, low, same, counted_all, none_above, text_one}
-use Rattle.bfs_sound_tests.proofs.Plain.{IsTested, plain, nodes_are, each_node, each_index, index_is}
+use Rattle.bfs_sound_tests.proofs.Plain.{IsTested, none_sorted, plain, nodes_are, each_node, each_index, index_is}
 use Rattle.bfs_sound_tests.proofs.Leaves.{IsOneLeaf, IsValued, rows_are, whole_tree}
 use Rattle.bfs_sound_tests.proofs.Streams.{IsSmall, has_levels}
 use Rattle.std.specs.declared.cmp.Ordering.{Ordering}
@@ -132,14 +132,15 @@ listing v nodes name id kind rows tested t bit is_kind are = record {
 abbrev pub reach_of : Volume → List (ℕ × Node) → List ℕ
 reach_of v nodes = fixed_blocks v ++ (bitmap_blocks v.geometry ++ (flat_map (node_blocks v) nodes ++ index_blocks v))
 
-pub reached : (v : Volume) (nodes : List (ℕ × Node)) (xs : List ℕ) → IsTested 4 nodes index_kinds → reach_of v nodes ≡ xs → reach v (tree_of nodes) ≡ xs
-reached v nodes xs tested e = ap (reach_of v) (nodes_are 4 nodes index_kinds tested) ∙ e
+pub reached : {indices : List (List ℕ × KeyKind)} (v : Volume) (nodes : List (ℕ × Node)) (xs : List ℕ) → IsTested 4 nodes indices → reach_of v nodes ≡ xs → reach v (tree_with indices nodes) ≡ xs
+reached {indices = indices} v nodes xs tested e = ap (reach_of v) (nodes_are 4 nodes indices tested) ∙ e
 
 -- the children of a directory, by the nodes
-pub children_of : (nodes : List (ℕ × Node)) (d : ℕ) (rs : List Row) → IsTested 4 nodes index_kinds → AllByRecursion (λ e. e.0 ≢ 4 → e.1.parent ≡ d → assoc Text rs e.1.name ≡ Some (pos e.0)) nodes
-    → (name : List ℕ) (id : ℕ) → IsChild (tree_of nodes) d name id → assoc Text rs name ≡ Some (pos id)
-children_of nodes d rs tested all name id c =
-    subst (λ k. assoc Text rs k ≡ Some (pos id)) c.named (each_node 4 nodes index_kinds tested (λ id n. id ≢ 4 → n.parent ≡ d → assoc Text rs n.name ≡ Some (pos id)) all id c.node c.there c.not_root c.parent)
+pub children_of : {indices : List (List ℕ × KeyKind)} (nodes : List (ℕ × Node)) (d : ℕ) (rs : List Row) → IsTested 4 nodes indices
+    → AllByRecursion (λ e. e.0 ≢ 4 → e.1.parent ≡ d → assoc Text rs e.1.name ≡ Some (pos e.0)) nodes
+    → (name : List ℕ) (id : ℕ) → IsChild (tree_with indices nodes) d name id → assoc Text rs name ≡ Some (pos id)
+children_of {indices = indices} nodes d rs tested all name id c =
+    subst (λ k. assoc Text rs k ≡ Some (pos id)) c.named (each_node 4 nodes indices tested (λ id n. id ≢ 4 → n.parent ≡ d → assoc Text rs n.name ≡ Some (pos id)) all id c.node c.there c.not_root c.parent)
 
 pub apart_by : (a b : ℕ) → (a == b) ≡ false → a ≢ b
 apart_by a b e is = grind (arith, e, is)
@@ -225,3 +226,36 @@ module _ (v : Volume) (nodes : List (ℕ × Node)) (root : v.geometry.root ≡ 4
 
   pub sound : IsSound v t
   sound = sound_from v t (plain 4 nodes index_kinds tested) stands listings (subst (Accounts v) (sym reach_is) (accounts_are v xs counted))
+
+-- a volume without an index directory, and a tree without indices
+module _ (v : Volume) (nodes : List (ℕ × Node)) (root : v.geometry.root ≡ 4) (no_directory : v.geometry.indices ≡ 0) (tested : IsTested 4 nodes [])
+    (all_nodes : AllByRecursion (λ e. HasNode v e.0 e.1) nodes) (all_lists : AllByRecursion (λ e. e.1.kind ≡ Dir → Lists v (tree_with [] nodes) e.0 e.1) nodes)
+    (xs : List ℕ) (reach_is : reach v (tree_with [] nodes) ≡ xs) (counted : IsCounted v xs) where
+  abbrev bare : Tree
+  bare = tree_with [] nodes
+
+  none_there : index_directory v ≡ None
+  none_there = ap (λ id. cond (id == 0) None (Some id)) no_directory
+
+  no_rows : rows_of v (index_directory v) ≡ []
+  no_rows = ap (rows_of v) none_there
+
+  no_row : (name : List ℕ) (value : ℤ) → IsIndexRow v name value → ⊥
+  no_row name value row = let bad : None ≡ Some value = subst (λ rs. assoc Text rs name ≡ Some value) no_rows row in cc
+
+  no_index : (name : List ℕ) (kind : KeyKind) → get bare.indices name ≡ Some kind → ⊥
+  no_index name kind there = each_index 4 nodes [] tested (λ _ _. ⊥) tt name kind there
+
+  bare_stands : Stands v bare
+  bare_stands = record {
+    root = sym root;
+    nodes = λ id n is. each_node 4 nodes [] tested (HasNode v) all_nodes id n is;
+    listings = λ id n is dir. each_node 4 nodes [] tested (λ id n. n.kind ≡ Dir → Lists v bare id n) all_lists id n is dir;
+    directory = subst (HasIndexDirectory v) (sym none_there) tt;
+    none = ((λ _. none_sorted), (λ _. no_directory));
+    indices = λ name value row. absurd (no_row name value row);
+    no_more = λ name kind there. absurd (no_index name kind there);
+  }
+
+  pub bare_sound : IsSound v bare
+  bare_sound = sound_from v bare (plain 4 nodes [] tested) bare_stands (λ name value kind row. absurd (no_row name value row)) (subst (Accounts v) (sym reach_is) (accounts_are v xs counted))

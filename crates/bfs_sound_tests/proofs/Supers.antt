@@ -87,3 +87,11 @@ reads_25 = refl
 pub full_25 : length (sector_of (super_of_used 25)) ≡ 512
 unfolding unsigned_bytes signed32_bytes signed64_bytes run_bytes sizes_of groups_of places_of
 full_25 = refl
+
+pub reads_24 : super_at (sector_of (super_of_used 24)) ≡ super_of_used 24
+unfolding unsigned_at signed32_at signed64_at run_in unsigned_bytes signed32_bytes signed64_bytes run_bytes sizes_of groups_of places_of
+reads_24 = refl
+
+pub full_24 : length (sector_of (super_of_used 24)) ≡ 512
+unfolding unsigned_bytes signed32_bytes signed64_bytes run_bytes sizes_of groups_of places_of
+full_24 = refl

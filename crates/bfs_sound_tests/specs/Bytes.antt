@@ -1,10 +1,11 @@
 -- The bytes of blocks of 1,024 bytes, put together from their parts.
-use Rattle.std.specs.Prelude.{ℕ, ◌+◌, ◌-◌, ◌*◌, ◌/◌, ◌%◌, ◌^◌, pos, negsuc, List, [], ◌∷◌, ◌++◌, length, replicate}
+use Rattle.std.specs.Prelude.{ℕ, ℤ, ◌+◌, ◌-◌, ◌*◌, ◌/◌, ◌%◌, ◌^◌, pos, negsuc, List, [], ◌∷◌, ◌++◌, length, replicate}
 use Rattle.std.specs.List.{flat_map}
 use Rattle.bfs_base.specs.declared.kind.KeyKind.{KeyKind}
 use Rattle.bfs_bytes.specs.declared.Run.{Run}
 use Rattle.bfs_bytes.specs.Fields.{unsigned_bytes, run_bytes}
 use Rattle.bfs_node.specs.Header.{header_bytes, code_of}
+use Rattle.bfs_node.specs.declared.header.Header.{Header}
 use Rattle.bfs_node.specs.declared.links.Links.{Links}
 use Rattle.bfs_node.specs.Page.{Row, keys_of, base_of, null_links, head_bytes}
 use Rattle.bfs_node.specs.Written.{ends_of, values_of}
@@ -65,17 +66,28 @@ inode_block id p =
     ++ (unsigned_bytes 8 1000 ++ (unsigned_bytes 8 p.modified ++ (run_bytes (address p.parent) ++ (run_bytes p.attributes ++ (unsigned_bytes 4 p.code
     ++ (unsigned_bytes 4 1024 ++ (replicate 4 0 ++ (p.stream ++ (unsigned_bytes 8 1000 ++ padded 800 (replicate 8 0 ++ p.items))))))))))))))
 
--- the header of a tree with one level, whose root is the page behind it, and without free pages
-unfoldable pub header_block : KeyKind → ℕ → List ℕ
-header_block kind size = padded 1024 (header_bytes (record {
+-- the header of a tree of so many levels, whose root is the page behind it, and without free pages
+abbrev pub tree_header : ℕ → KeyKind → ℕ → Header
+tree_header levels kind size = record {
   magic = 0x69f6c2e8;
   node_size = 1024;
-  levels = 1;
+  levels = levels;
   data_type = code_of kind;
   root_pointer = pos 1024;
   free_pointer = negsuc 0;
   maximum_size = pos size;
-}))
+}
+
+-- its page, with one level
+unfoldable pub header_block : KeyKind → ℕ → List ℕ
+header_block kind size = padded 1024 (header_bytes (tree_header 1 kind size))
+
+-- a page's links, left and right, and the overflow link; -1 is none, and an overflow link of -2 marks a free page
+abbrev pub linked : ℤ → ℤ → ℤ → Links
+linked left right overflow = record { left = left; right = right; overflow = overflow }
+
+abbrev pub none : ℤ
+none = negsuc 0
 
 -- a page with these links and rows
 abbrev pub page_bytes : Links → List Row → List ℕ

@@ -7,7 +7,7 @@ use Rattle.bfs_tree.specs.Trees.{Node, Tree, new_node}
 use Rattle.bfs_sound.specs.Whole.{IsWhole}
 use Rattle.bfs_super.specs.declared.sup.Super.{Super}
 use Rattle.bfs_sound_tests.specs.Bytes.{padded, no_run, stream_bytes, run, inode_block, leaf_block, bitmap_block}
-use Rattle.bfs_sound_tests.specs.Worked.{super_of_used, image_of, blocks_in, with_block, name_item, tree_blocks, directory_mode, long_mode, first_blocks, root_node, tree_of, IsWorked, IsBroken}
+use Rattle.bfs_sound_tests.specs.Worked.{super_of_used, image_of, blocks_in, with_block, name_item, tree_inode, tree_blocks, directory_mode, long_mode, first_blocks, root_node, tree_of, IsWorked, IsBroken}
 
 abbrev pub root_rows : List Row
 root_rows = (codes ".", pos 4) ∷ (codes "..", pos 4) ∷ (codes "d", pos 19) ∷ []
@@ -40,6 +40,34 @@ unlisted = with_block 6 (leaf_block ((codes ".", pos 4) ∷ (codes "..", pos 4) 
 
 abbrev pub UnlistedIsBroken : Type 0
 UnlistedIsBroken = IsBroken 22 unlisted
+
+-- the directory's row `.` names the root directory
+abbrev pub astray_rows : List Row
+astray_rows = (codes ".", pos 4) ∷ (codes "..", pos 4) ∷ []
+
+abbrev pub astray : ℕ → List ℕ
+astray = with_block 21 (leaf_block astray_rows) blocks
+
+abbrev pub AstrayIsBroken : Type 0
+AstrayIsBroken = IsBroken 22 astray
+
+-- the directory's inode, with these items in its small data
+abbrev pub directory_with : List ℕ → List ℕ
+directory_with items = tree_inode 19 directory_mode 4 items
+
+-- it has no item with its own name
+abbrev pub nameless : ℕ → List ℕ
+nameless = with_block 19 (directory_with []) blocks
+
+abbrev pub NamelessIsBroken : Type 0
+NamelessIsBroken = IsBroken 22 nameless
+
+-- it has that item twice
+abbrev pub renamed : ℕ → List ℕ
+renamed = with_block 19 (directory_with (name_item (codes "d") ++ name_item (codes "d"))) blocks
+
+abbrev pub RenamedIsBroken : Type 0
+RenamedIsBroken = IsBroken 22 renamed
 
 -- the index `last_modified` has its stream in the blocks of that of `size`
 abbrev pub shared : ℕ → List ℕ

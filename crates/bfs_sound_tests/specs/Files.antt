@@ -10,8 +10,8 @@ use Rattle.bfs_bytes.specs.Fields.{unsigned_bytes, run_bytes}
 use Rattle.bfs_node.specs.Page.{Row}
 use Rattle.bfs_tree.specs.declared.call.Kind.TheVariants.{File}
 use Rattle.bfs_tree.specs.Trees.{Node, new_node}
-use Rattle.bfs_sound_tests.specs.Bytes.{padded, zero_block, no_run, run, stream_bytes, tree_stream, inode_block, header_block, leaf_block}
-use Rattle.bfs_sound_tests.specs.Worked.{blocks_in, with_block, name_item, long_mode, first_blocks, root_node, tree_of, IsWorked, IsBroken}
+use Rattle.bfs_sound_tests.specs.Bytes.{padded, zero_block, no_run, run, stream_bytes, inode_block, header_block, leaf_block}
+use Rattle.bfs_sound_tests.specs.Worked.{blocks_in, with_block, name_item, paged_inode, long_mode, first_blocks, root_node, tree_of, IsWorked, IsBroken}
 
 abbrev pub root_rows : List Row
 root_rows = (codes ".", pos 4) ∷ (codes "..", pos 4) ∷ (codes "a", pos 20) ∷ (codes "b", pos 35) ∷ []
@@ -37,7 +37,7 @@ fragment one two = padded 64 (flat_map (unsigned_bytes 8) (2 ∷ one ∷ two ∷
 -- the index `last_modified`, with a page of fragments behind its leaf
 abbrev pub time_blocks : List (List ℕ)
 time_blocks =
-    inode_block 16 (record { mode = long_mode; flags = 1; modified = 1000; parent = 7; attributes = no_run; code = 0; stream = tree_stream 16 3; items = [] })
+    paged_inode 3 16 long_mode 7 []
     ∷ header_block I64 3072 ∷ leaf_block time_rows ∷ padded 1024 (fragment 20 35) ∷ []
 
 -- a file's inode
@@ -94,3 +94,13 @@ descending = with_block 19 (padded 1024 (fragment 35 20)) blocks
 
 abbrev pub DescendingIsBroken : Type 0
 DescendingIsBroken = IsBroken 36 descending
+
+-- the index `last_modified` and its header say a stream of 2,560 bytes, which is no number of whole pages
+abbrev pub uneven_inode : List ℕ
+uneven_inode = inode_block 16 (record { mode = long_mode; flags = 1; modified = 1000; parent = 7; attributes = no_run; code = 0; stream = stream_bytes (run 17 3 ∷ []) 3072 no_run 0 2560; items = [] })
+
+abbrev pub uneven : ℕ → List ℕ
+uneven = with_block 16 uneven_inode (with_block 17 (header_block I64 2560) blocks)
+
+abbrev pub UnevenIsBroken : Type 0
+UnevenIsBroken = IsBroken 36 uneven

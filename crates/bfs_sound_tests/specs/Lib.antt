@@ -7,3 +7,6 @@ pub mod Files
 pub mod Pages
 pub mod Logged
 pub mod Levels
+pub mod Inner
+pub mod Attributes
+pub mod Bare

@@ -54,3 +54,29 @@ doubled = with_block 6 (leaf_block ((codes ".", pos 4) ∷ (codes "..", pos 4) �
 
 abbrev pub DoubledIsBroken : Type 0
 DoubledIsBroken = IsBroken 25 doubled
+
+-- the two directories are each other's parents, in their inodes, in their rows `..` and as each other's row, and the root directory
+-- has a row for neither
+abbrev pub no_child_rows : List Row
+no_child_rows = (codes ".", pos 4) ∷ (codes "..", pos 4) ∷ []
+
+abbrev pub outer_circled : List Row
+outer_circled = (codes ".", pos 19) ∷ (codes "..", pos 22) ∷ (codes "e", pos 22) ∷ []
+
+abbrev pub inner_circled : List Row
+inner_circled = (codes ".", pos 22) ∷ (codes "..", pos 19) ∷ (codes "d", pos 19) ∷ []
+
+abbrev pub circle : ℕ → List ℕ
+circle =
+    with_block 19 (tree_inode 19 directory_mode 22 (name_item (codes "d")))
+    (with_block 21 (leaf_block outer_circled) (with_block 24 (leaf_block inner_circled) blocks))
+
+abbrev pub circled : ℕ → List ℕ
+circled = with_block 6 (leaf_block no_child_rows) circle
+
+abbrev pub CircledIsBroken : Type 0
+CircledIsBroken = IsBroken 25 circled
+
+-- the same where the root directory has its row for one of them
+abbrev pub EnteredIsBroken : Type 0
+EnteredIsBroken = IsBroken 25 circle

@@ -5,14 +5,13 @@ use Rattle.std.specs.List.{flat_map}
 use Rattle.std.specs.Int.{w64, cast_signed}
 use Rattle.bfs_base.specs.declared.kind.KeyKind.TheVariants.{I64}
 use Rattle.bfs_bytes.specs.Fields.{unsigned_bytes, signed64_bytes}
-use Rattle.bfs_node.specs.Header.{header_bytes, code_of}
+use Rattle.bfs_node.specs.Header.{header_bytes}
 use Rattle.bfs_node.specs.declared.header.Header.{Header}
-use Rattle.bfs_node.specs.declared.links.Links.{Links}
 use Rattle.bfs_node.specs.Page.{Row}
 use Rattle.bfs_tree.specs.declared.call.Kind.TheVariants.{File}
 use Rattle.bfs_tree.specs.Trees.{Node, new_node}
-use Rattle.bfs_sound_tests.specs.Bytes.{padded, zero_block, no_run, run, stream_bytes, tree_stream, inode_block, page_bytes}
-use Rattle.bfs_sound_tests.specs.Worked.{blocks_in, with_block, name_item, long_mode, first_blocks, root_node, tree_of, IsWorked, IsBroken}
+use Rattle.bfs_sound_tests.specs.Bytes.{padded, zero_block, no_run, run, stream_bytes, inode_block, tree_header, page_bytes, linked, none}
+use Rattle.bfs_sound_tests.specs.Worked.{blocks_in, with_block, name_item, paged_inode, long_mode, first_blocks, root_node, tree_of, IsWorked, IsBroken}
 
 abbrev pub root_rows : List Row
 root_rows = (codes ".", pos 4) ∷ (codes "..", pos 4) ∷ (codes "a", pos 23) ∷ (codes "b", pos 24) ∷ (codes "c", pos 26) ∷ []
@@ -40,22 +39,7 @@ inner_rows = (unsigned_bytes 8 1000, pos 2048) ∷ []
 
 -- the header of a tree of two levels, whose root is at byte 1,024 and whose first free page at byte 5,120
 abbrev pub time_header : ℕ → Header
-time_header size = record {
-  magic = 0x69f6c2e8;
-  node_size = 1024;
-  levels = 2;
-  data_type = code_of I64;
-  root_pointer = pos 1024;
-  free_pointer = pos 5120;
-  maximum_size = pos size;
-}
-
--- a page's links, left and right, and the overflow link; -1 is none, and an overflow link of -2 marks a free page
-abbrev pub linked : ℤ → ℤ → ℤ → Links
-linked left right overflow = record { left = left; right = right; overflow = overflow }
-
-abbrev pub none : ℤ
-none = negsuc 0
+time_header size = record (tree_header 2 I64 size) { free_pointer = pos 5120 }
 
 -- a page of duplicates with these two numbers, and this right link
 abbrev pub duplicates : ℤ → ℕ → ℕ → List ℕ
@@ -64,7 +48,7 @@ duplicates right one two = padded 1024 (signed64_bytes none ++ (signed64_bytes r
 -- the index `last_modified`: inode, header, interior page, two leaves, the page of duplicates, and the free page
 abbrev pub time_blocks : List (List ℕ)
 time_blocks =
-    inode_block 16 (record { mode = long_mode; flags = 1; modified = 1000; parent = 7; attributes = no_run; code = 0; stream = tree_stream 16 6; items = [] })
+    paged_inode 6 16 long_mode 7 []
     ∷ padded 1024 (header_bytes (time_header 6144)) ∷ page_bytes (linked none none (pos 3072)) inner_rows
     ∷ page_bytes (linked none (pos 3072) none) first_rows ∷ page_bytes (linked (pos 2048) none none) last_rows
     ∷ duplicates none 23 24 ∷ page_bytes (linked none none (negsuc 1)) [] ∷ []
@@ -111,3 +95,10 @@ looped = with_block 21 (duplicates (pos 4096) 23 24) blocks
 
 abbrev pub LoopedIsBroken : Type 0
 LoopedIsBroken = IsBroken 28 looped
+
+-- the header names no free page, so that nothing reaches the page at byte 5,120
+abbrev pub unreached : ℕ → List ℕ
+unreached = with_block 17 (padded 1024 (header_bytes (tree_header 2 I64 6144))) blocks
+
+abbrev pub UnreachedIsBroken : Type 0
+UnreachedIsBroken = IsBroken 28 unreached

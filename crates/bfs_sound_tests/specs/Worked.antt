@@ -16,10 +16,10 @@ use Rattle.bfs_smalldata.specs.Items.{bytes_of}
 use Rattle.bfs_sound.specs.Whole.{IsWhole}
 use Rattle.bfs_sound_tests.specs.Bytes.{padded, zero_block, run, address, no_run, tree_stream, inode_block, header_block, leaf_block, bitmap_block}
 
--- 64 blocks of 1,024 bytes in one allocation group: the log's run, where its entries start and end, and how many blocks are used.
--- The root directory's inode is in block 4, the index directory's in block 7.
-abbrev pub super_with : Run → ℕ → ℕ → ℕ → Super
-super_with log start end used = record {
+-- 64 blocks of 1,024 bytes in one allocation group: the index directory's run, the log's run, where its entries start and end, and
+-- how many blocks are used. The root directory's inode is in block 4.
+abbrev pub super_indexed : Run → Run → ℕ → ℕ → ℕ → Super
+super_indexed indices log start end used = record {
   name = padded 32 (codes "worked");
   magic1 = cast_signed w32 0x42465331;
   fs_byte_order = cast_signed w32 0x42494745;
@@ -38,9 +38,13 @@ super_with log start end used = record {
   log_end = pos end;
   magic3 = cast_signed w32 0x15b6830e;
   root_dir = address 4;
-  indices = address 7;
+  indices = indices;
   rest = replicate 380 0;
 }
+
+-- the same with the index directory's inode in block 7
+abbrev pub super_with : Run → ℕ → ℕ → ℕ → Super
+super_with log start end used = super_indexed (address 7) log start end used
 
 -- the same with an empty log in blocks 2 and 3
 abbrev pub super_of_used : ℕ → Super
@@ -54,10 +58,14 @@ blocks_in blocks k = get_or blocks k zero_block
 abbrev pub with_block : ℕ → List ℕ → (ℕ → List ℕ) → ℕ → List ℕ
 with_block at bytes blocks k = if k == at then bytes else blocks k
 
--- an inode with a tree of two pages, without attributes
+-- an inode with a tree of so many pages, without attributes
+abbrev pub paged_inode : ℕ → ℕ → ℕ → ℕ → List ℕ → List ℕ
+paged_inode pages id mode parent items =
+    inode_block id (record { mode = mode; flags = 1; modified = 1000; parent = parent; attributes = no_run; code = 0; stream = tree_stream id pages; items = items })
+
+-- the same with two pages
 abbrev pub tree_inode : ℕ → ℕ → ℕ → List ℕ → List ℕ
-tree_inode id mode parent items =
-    inode_block id (record { mode = mode; flags = 1; modified = 1000; parent = parent; attributes = no_run; code = 0; stream = tree_stream id 2; items = items })
+tree_inode id mode parent items = paged_inode 2 id mode parent items
 
 -- the item with a node's own name
 abbrev pub name_item : List ℕ → List ℕ
@@ -98,12 +106,15 @@ first_blocks used rows names sizes = first_blocks_with (bitmap_block used) rows 
 abbrev pub index_kinds : List (List ℕ × KeyKind)
 index_kinds = (codes "last_modified", I64) ∷ (codes "name", Text) ∷ (codes "size", I64) ∷ []
 
--- the root directory's record, and a tree of these nodes with the three indices
+-- the root directory's record, a tree of these nodes with these indices, and one with the three indices
 abbrev pub root_node : Node
 root_node = new_node Dir [] 4 493 0 [] (pos 1000)
 
+abbrev pub tree_with : List (List ℕ × KeyKind) → List (ℕ × Node) → Tree
+tree_with indices nodes = record { root = 4; nodes = from_sorted nodes; indices = from_sorted indices }
+
 abbrev pub tree_of : List (ℕ × Node) → Tree
-tree_of nodes = record { root = 4; nodes = from_sorted nodes; indices = from_sorted index_kinds }
+tree_of nodes = tree_with index_kinds nodes
 
 -- the image of 64 blocks: block 0 has the superblock behind 512 zeros, and the others stand behind it
 unfoldable pub image_of : Super → (ℕ → List ℕ) → List ℕ

@@ -1,10 +1,11 @@
 // Volumes with one thing broken: that each is whole with no tree is the contract of a function that does nothing.
-ghost use Rattle.bfs_sound_tests.specs.Directory.{LoggedIsBroken, MiscountedIsBroken, OvermarkedIsBroken, SharedIsBroken, TruncatedIsBroken, UnindexedIsBroken, UnlistedIsBroken, UnmarkedIsBroken};
-ghost use Rattle.bfs_sound_tests.specs.Files.{DescendingIsBroken, UnfilledIsBroken, UnnamedIsBroken};
+ghost use Rattle.bfs_sound_tests.specs.Directory.{AstrayIsBroken, LoggedIsBroken, MiscountedIsBroken, NamelessIsBroken, OvermarkedIsBroken, RenamedIsBroken, SharedIsBroken, TruncatedIsBroken, UnindexedIsBroken, UnlistedIsBroken, UnmarkedIsBroken};
+ghost use Rattle.bfs_sound_tests.specs.Files.{DescendingIsBroken, UnevenIsBroken, UnfilledIsBroken, UnnamedIsBroken};
+ghost use Rattle.bfs_sound_tests.specs.Attributes.{ClaimedIsBroken};
 ghost use Rattle.bfs_sound_tests.specs.Levels.{ShortRunIsBroken};
 ghost use Rattle.bfs_sound_tests.specs.Logged.{UnreplayedIsBroken};
-ghost use Rattle.bfs_sound_tests.specs.Nested.{DoubledIsBroken, MisplacedIsBroken};
-ghost use Rattle.bfs_sound_tests.specs.Pages.{LoopedIsBroken, MismeasuredIsBroken};
+ghost use Rattle.bfs_sound_tests.specs.Nested.{CircledIsBroken, DoubledIsBroken, EnteredIsBroken, MisplacedIsBroken};
+ghost use Rattle.bfs_sound_tests.specs.Pages.{LoopedIsBroken, MismeasuredIsBroken, UnreachedIsBroken};
 ghost use Rattle.bfs_sound_tests.specs.Links.{ClashingIsBroken, OutsideIsBroken, RepeatedIsBroken, UnendedIsBroken, UntypedIsBroken};
 
 /// The bit of the directory's inode is clear.
@@ -115,4 +116,44 @@ pub fn unreplayed_is_broken()
 /// A data run under the double indirect level has three blocks.
 pub fn short_run_is_broken()
     ensures { ShortRunIsBroken }
+{}
+
+/// The row `.` of a directory names another directory.
+pub fn astray_is_broken()
+    ensures { AstrayIsBroken }
+{}
+
+/// A directory's inode has no item with its own name.
+pub fn nameless_is_broken()
+    ensures { NamelessIsBroken }
+{}
+
+/// A directory's inode has the item with its own name twice.
+pub fn renamed_is_broken()
+    ensures { RenamedIsBroken }
+{}
+
+/// The stream of a tree has 2,560 bytes.
+pub fn uneven_is_broken()
+    ensures { UnevenIsBroken }
+{}
+
+/// A page of a tree's stream is in the tree as little as in the free list, and no value reaches it.
+pub fn unreached_is_broken()
+    ensures { UnreachedIsBroken }
+{}
+
+/// Two directories are each other's parents, and the root directory doesn't lead to them.
+pub fn circled_is_broken()
+    ensures { CircledIsBroken }
+{}
+
+/// The root directory leads to two directories that are each other's parents.
+pub fn entered_is_broken()
+    ensures { EnteredIsBroken }
+{}
+
+/// Two attribute directories name the same attribute.
+pub fn claimed_is_broken()
+    ensures { ClaimedIsBroken }
 {}

@@ -6,6 +6,9 @@ ghost use Rattle.bfs_sound_tests.specs.Logged.{LoggedRecovers};
 ghost use Rattle.bfs_sound_tests.specs.Nested.{NestedIsWhole};
 ghost use Rattle.bfs_sound_tests.specs.Pages.{PagesAreWhole};
 ghost use Rattle.bfs_sound_tests.specs.Links.{LinksAreWhole};
+ghost use Rattle.bfs_sound_tests.specs.Inner.{KeylessIsWhole, TwinIsWhole, VacantIsWhole};
+ghost use Rattle.bfs_sound_tests.specs.Attributes.{AttributesAreWhole};
+ghost use Rattle.bfs_sound_tests.specs.Bare.{BareIsWhole};
 
 /// A volume whose root directory has one empty directory is whole.
 pub fn directory_is_whole()
@@ -40,4 +43,29 @@ pub fn logged_recovers()
 /// A stream with direct runs, a full indirect table and a double indirect level keeps its format.
 pub fn levels_are_kept()
     ensures { LevelsAreKept }
+{}
+
+/// A volume with a directory whose tree has an interior page without keys is whole.
+pub fn keyless_is_whole()
+    ensures { KeylessIsWhole }
+{}
+
+/// A volume with a directory whose tree has a leaf without rows behind another leaf is whole.
+pub fn vacant_is_whole()
+    ensures { VacantIsWhole }
+{}
+
+/// A volume with a directory whose tree has the same key twice in an interior page is whole.
+pub fn twin_is_whole()
+    ensures { TwinIsWhole }
+{}
+
+/// A volume whose attribute directories have rows `.` and `..` is whole.
+pub fn attributes_are_whole()
+    ensures { AttributesAreWhole }
+{}
+
+/// A volume without an index directory is whole, with a tree without indices.
+pub fn bare_is_whole()
+    ensures { BareIsWhole }
 {}

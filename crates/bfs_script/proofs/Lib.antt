@@ -5,3 +5,6 @@ pub mod Parts
 pub mod Octal
 pub mod BadLines
 pub mod Noted
+mod Goes
+mod Histories
+mod Formed

@@ -1,5 +1,5 @@
 -- What a script says, line by line, and which line is the first that says nothing.
-use Rattle.std.specs.Prelude.{◌≡◌, ℕ, ◌+◌, List, [], ◌∷◌, ◌++◌, length, take, Option, Some, None, Bool, true, false, ◌||◌, ◌==◌, nat_lt, if◌then◌else◌, codes, count_by}
+use Rattle.std.specs.Prelude.{◌≡◌, ℕ, ℤ, pos, ◌+◌, List, [], ◌∷◌, ◌++◌, length, take, Option, Some, None, Bool, true, false, ◌||◌, ◌==◌, nat_lt, if◌then◌else◌, codes, count_by}
 use Rattle.std.specs.Option.{option_map}
 use Rattle.std.specs.Str.{bytes_eq}
 use Rattle.bfs_script.specs.declared.command.Command.{Command}
@@ -38,8 +38,8 @@ verb_of word =
     else None
 
 -- a user or a group is a number below 2^31
-abbrev pub owner_of : List ℕ → Option ℕ
-owner_of word = up_to 2147483647 (number_of word)
+abbrev pub owner_of : List ℕ → Option ℤ
+owner_of word = option_map pos (up_to 2147483647 (number_of word))
 
 -- a piece has at most 65,536 bytes
 abbrev pub length_of : List ℕ → Option ℕ

@@ -5,3 +5,6 @@ pub mod Said
 pub mod Texts
 pub mod Readers
 pub mod Spelled
+pub mod Left
+pub mod SpelledLaws
+pub mod Forms

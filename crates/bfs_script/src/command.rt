@@ -1,7 +1,9 @@
 // The commands of a script, with their words as read.
-ghost use Rattle.std.specs.Prelude.{◌≡◌};
+ghost use Rattle.std.specs.Prelude.{◌≡◌, IfOk};
+ghost use Rattle.bfs_script.specs.Spelled.{folders, last_name};
 
 use bfs_tree::{Bytes, Key, KeyKind};
+use std::alloc::{AllocError, Global};
 use std::marker::Model;
 
 /// A path: the names from the root down. The root has none.
@@ -37,10 +39,30 @@ impl Path {
         let Path { names } = self;
         names
     }
+
+    /// All parts but the last, which lead to the node's folder. The root has none.
+    pub fn folders(&self) -> &[Bytes]
+        ensures { result.now ≡ folders self.now }
+    {
+        match self.names() {
+            [folders @ .., _] => folders,
+            [] => &[],
+        }
+    }
+
+    /// The last part, which is the node's name. That of the root is empty.
+    pub fn last_name(&self, alloc: Global) -> Result<Bytes, AllocError>
+        ensures { IfOk result (λ name. name ≡ last_name self.now) }
+    {
+        match self.names() {
+            [.., name] => name.copy(),
+            [] => Ok(Bytes::new(Vec::new(alloc))),
+        }
+    }
 }
 
 /// A command with its words. Each of `Make` to `Read` names what it works on by a path. Places, sizes and lengths count
-/// in bytes; an attribute's `kind` is its type code; `mode` is at most 0o7777, `uid` and `gid` are below 2^31.
+/// in bytes; an attribute's `kind` is its type code; `mode` is at most 0o7777, `uid` and `gid` are not below 0.
 #[derive(Debug, Drop)]
 pub enum Command {
     Make {
@@ -69,8 +91,8 @@ pub enum Command {
     SetMode {
         path: Path,
         mode: u32,
-        uid: u32,
-        gid: u32,
+        uid: i32,
+        gid: i32,
     },
     SetSize {
         path: Path,

@@ -2,11 +2,14 @@
 // words stand in specs/Words.antt and whose lines in specs/Cutting.antt; the text of a history is that of specs/Texts.antt.
 #![tactic(auto)]
 
+mod calls;
 mod command;
 mod commands;
 mod digits;
+mod due;
 mod escapes;
 mod fault;
+mod laws;
 mod lines;
 mod next;
 mod pieces;
@@ -20,8 +23,14 @@ mod values;
 mod verbs;
 mod words;
 
+pub use calls::Calls;
 pub use command::{Command, Path};
+pub use due::Due;
 pub use fault::ScriptFault;
+pub use laws::{
+    line_is_spelled, lines_are_in_form, nothing_is_spelled, own_entries_are_spelled,
+    stop_is_spelled,
+};
 pub use reading::parse;
 pub use script::{Line, Script};
 pub use texts::{is_quiet, text};

@@ -88,11 +88,11 @@ pub fn next_octal(words: &mut Pieces<'_>) -> Option<u32>
 }
 
 /// A user or a group, below 2^31.
-pub fn next_owner(words: &mut Pieces<'_>) -> Option<u32>
+pub fn next_owner(words: &mut Pieces<'_>) -> Option<i32>
     ensures { option_map (λ n. (n, words.new)) result ≡ reads owner_of words.old }
 {
     match read_number(words.next()?) {
-        Some(number) if number <= 2_147_483_647 => Some(number as u32),
+        Some(number) if number <= 2_147_483_647 => Some(number as i32),
         _ => None,
     }
 }

@@ -1,5 +1,5 @@
 // Scripts in good and bad words, limits, and a reply of every kind.
-use crate::{Command, Line, Path, ScriptFault, parse, text};
+use crate::{Calls, Command, Due, Path, ScriptFault, parse, text};
 use bfs_tree::{
     AttributeRow, Attributes, Bytes, Call, Entry, FoundRow, FoundRows, IndexRow, Indices, Info,
     Key, KeyKind, Kind, Names, Reply,
@@ -434,5 +434,112 @@ fn pieces_have_the_words_of_their_holds(rt: HostRuntime) -> Result<(), Fail> {
     let history = pieces(alloc)?;
     let want = b"7 1 ok 2 6869\n7 2 ok\n7 1 pastend 1\n7 2 diskfault\n".as_slice();
     assert!(rt; text(alloc, &history)?.as_slice() == want);
+    Ok(())
+}
+
+// What a call is, and where it is made.
+fn push_call(out: &mut Vec<u8>, alloc: Global, call: &Call) -> Result<(), AllocError> {
+    match call {
+        Call::Lookup { dir, name } => {
+            out.extend_from_slice(format!(in alloc; "look {dir} ")?.as_bytes())?;
+            out.extend_from_slice(name.as_slice())
+        }
+        Call::Rename {
+            dir,
+            name,
+            to_dir,
+            to_name,
+        } => {
+            out.extend_from_slice(format!(in alloc; "move {dir} ")?.as_bytes())?;
+            out.extend_from_slice(name.as_slice())?;
+            out.extend_from_slice(format!(in alloc; " {to_dir} ")?.as_bytes())?;
+            out.extend_from_slice(to_name.as_slice())
+        }
+        Call::List { dir } => out.extend_from_slice(format!(in alloc; "list {dir}")?.as_bytes()),
+        _ => out.extend_from_slice(b"call"),
+    }
+}
+
+// A lookup finds its part with the directory's number and one more, and anything else is done.
+fn answer_to(call: &Call) -> Reply {
+    match call {
+        Call::Lookup { dir, .. } if *dir < 1000 => Reply::Found {
+            id: dir + 1,
+            kind: Kind::Dir,
+        },
+        _ => Reply::Done,
+    }
+}
+
+fn push_due(out: &mut Vec<u8>, alloc: Global, due: &Due) -> Result<Reply, AllocError> {
+    match due {
+        Due::Call { call } => {
+            push_call(out, alloc, call)?;
+            return Ok(answer_to(call));
+        }
+        Due::Write { id, at, bytes } => {
+            out.extend_from_slice(format!(in alloc; "write {id} {at} ")?.as_bytes())?;
+            out.extend_from_slice(bytes.as_slice())?;
+        }
+        Due::Read { id, at, length } => {
+            out.extend_from_slice(format!(in alloc; "read {id} {at} {length}")?.as_bytes())?;
+        }
+        Due::Sync => out.extend_from_slice(b"sync")?,
+        Due::Nothing => out.extend_from_slice(b"end")?,
+    }
+    Ok(Reply::Done)
+}
+
+// The calls of each command, on a volume whose root is node 5; at most six of each line.
+fn calls_in(alloc: Global, script: &[u8]) -> Result<Vec<u8>, AllocError> {
+    let mut out = Vec::new(alloc);
+    let Ok(script) = parse(alloc, script) else {
+        return Ok(out);
+    };
+    for line in script.lines() {
+        let mut calls = Calls::of(5, &line.command);
+        for _ in 0..6 {
+            let due = calls.due(alloc)?;
+            if let Due::Nothing = &due {
+                break;
+            }
+            let reply = push_due(&mut out, alloc, &due)?;
+            out.push(b';')?;
+            calls.answered(&reply);
+        }
+    }
+    Ok(out)
+}
+
+#[test]
+fn commands_have_their_calls(rt: HostRuntime) -> Result<(), Fail> {
+    let alloc = rt.alloc();
+    let cases: [(&[u8], &[u8]); 7] = [
+        (b"1 ls /", b"list 5;"),
+        (b"1 ls /a/b", b"look 5 a;look 6 b;list 7;"),
+        (
+            b"1 mv /a/b/c /d/e",
+            b"look 5 a;look 6 b;look 5 d;move 7 c 6 e;",
+        ),
+        (b"1 make /a", b"call;"),
+        (b"1 write /a 3 :hi", b"look 5 a;write 6 3 hi;"),
+        (b"1 read /a 3 9", b"look 5 a;read 6 3 9;"),
+        (b"1 sync\n2 indices", b"sync;call;"),
+    ];
+    for (script, want) in cases {
+        assert!(rt; calls_in(alloc, script)?.as_slice() == want);
+    }
+    Ok(())
+}
+
+#[test]
+fn a_held_call_is_due_again(rt: HostRuntime) -> Result<(), Fail> {
+    let alloc = rt.alloc();
+    let command = Command::Sync;
+    let mut calls = Calls::of(5, &command);
+    calls.answered(&Reply::Held { session: 2 });
+    assert!(rt; matches!(calls.due(alloc)?, Due::Sync));
+    calls.answered(&Reply::Synced { upto: 1 });
+    assert!(rt; matches!(calls.due(alloc)?, Due::Nothing));
     Ok(())
 }

@@ -1,5 +1,5 @@
 // The words behind a verb: types, values, keys and paths.
-ghost use Rattle.std.specs.Prelude.{◌≡◌, IfOk, MatchOption, None, Some};
+ghost use Rattle.std.specs.Prelude.{◌≡◌, ◌==◌, IfOk, MatchOption, None, Some, count_by};
 ghost use Rattle.bfs_script.specs.Words.{type_of, is_type_byte, bytes_of, text_bytes, typed_bytes, value_of, key_of, keyed, key_behind, kind_by, kind_of, parts_of, path_of, node_of};
 ghost use Rattle.bfs_script.specs.Cutting.{cut_at};
 
@@ -55,11 +55,24 @@ fn kind_by(code: u32) -> Option<KeyKind>
     }
 }
 
-/// The parts of a path, with slashes between them.
-fn read_parts(alloc: Global, bytes: &[u8]) -> Result<Option<Path>, AllocError>
+/// How many slashes a word has.
+fn count_slashes(word: &[u8]) -> usize
+    ensures { result ≡ count_by (λ b. b == 47) word.now }
+{
+    let mut slashes = 0;
+    'bytes: for at in 0..word.len() {
+        if word[at] == b'/' {
+            slashes += 1;
+        }
+    }
+    slashes
+}
+
+/// The parts of a path, with slashes between them; so many are made room for.
+fn read_parts(alloc: Global, room: usize, bytes: &[u8]) -> Result<Option<Path>, AllocError>
     ensures { IfOk result (λ r. r ≡ parts_of (cut_at 47 bytes.now)) }
 {
-    let mut names = Vec::new(alloc);
+    let mut names = Vec::with_capacity(alloc, room)?;
     let mut parts = Pieces::of(bytes, b'/');
     while let Some(part) = parts.next() {
         let Some(name) = read_name(alloc, part)? else {
@@ -76,7 +89,7 @@ pub fn read_path(alloc: Global, word: &[u8]) -> Result<Option<Path>, AllocError>
 {
     match word {
         [b'/'] => Ok(Some(Path::new(Vec::new(alloc)))),
-        [b'/', behind @ ..] => read_parts(alloc, behind),
+        [b'/', behind @ ..] => read_parts(alloc, count_slashes(word), behind),
         _ => Ok(None),
     }
 }

@@ -1,2 +1,3 @@
 pub mod Workload
 pub mod Summary
+pub mod WorkloadLaws

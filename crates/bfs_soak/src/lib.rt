@@ -2,9 +2,11 @@
 #![tactic(auto)]
 
 mod draws;
+mod laws;
 mod summary;
 mod workload;
 
+pub use laws::workload_is_in_form;
 pub use summary::summarize;
 pub use workload::make_workload;
 

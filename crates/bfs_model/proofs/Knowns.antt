@@ -1,23 +1,18 @@
--- What is known, as a list and as a finite map.
-use Rattle.std.proofs.Common.{◌≡◌, ℕ, List, [], ◌∷◌, ◌++◌, Option, Some, None, Bool, true, false, cond, refl, ap, sym, ◌∙◌, map as each, reverse, arith}
-use Rattle.std.specs.Prelude.{◌==◌, ◌&&◌, if◌then◌else◌}
-use Rattle.std.specs.Option.{option_or}
-use Rattle.std.specs.List.{filter}
-use Rattle.std.proofs.lemmas.List.{reverse-append}
-use Rattle.std.specs.Ordering.{nat_cmp, ordering_then, is_eq}
+-- What is known, as the entries of the program's map and as a finite map.
+use Rattle.std.proofs.Common.{◌≡◌, ◌≤◌, ◌<◌, ◌+◌, ◌-◌, ◌↔◌, ℕ, List, [], ◌∷◌, Option, Some, None, Bool, true, false, cond, IsTrue, length, refl, ap, sym, ◌∙◌, arith}
+use Rattle.std.specs.Prelude.{◌==◌, ◌&&◌, nat_le, nat_lt, slice_index}
+use Rattle.std.specs.List.{filter, list_all, All, AllByRecursion}
+use Rattle.std.specs.Map.{lookup}
+use Rattle.std.specs.Ordering.{nat_cmp, ordering_then, is_eq, eq_by_cmp}
 use Rattle.std.specs.declared.cmp.Ordering.{Ordering}
 use Rattle.std.specs.declared.cmp.Ordering.TheVariants.{Less, Equal, Greater}
-use Rattle.std.specs.Cmp.{IsTotalOrder, nat_cmp_total}
+use Rattle.std.specs.Cmp.{IsTotalOrder, nat_cmp_total, eq_by_cmp_equiv}
 use Rattle.std.proofs.lemmas.Cmp.{then_total, on_total}
-use Rattle.std.specs.FinMap.{find, get, retain_keys, IsAntisymmetric, same_map, get-from_entries, get-retain_keys, nat_cmp-IsAntisymmetric}
+use Rattle.std.proofs.lemmas.List.Elements.{recursion_from_All}
+use Rattle.std.specs.FinMap.{find, get, insert, retain_keys, IsAntisymmetric, same_map, get-from_entries, get-insert, get-retain_keys, nat_cmp-IsAntisymmetric}
 use Rattle.std.specs.FinMap.Entries.{where_key, find-where_key}
-use Rattle.bfs_model.specs.declared.model.KnownByte.{KnownByte}
-use Rattle.bfs_model.specs.declared.known.Places.{Places}
-use Rattle.bfs_tree.specs.States.{place_cmp}
-use Rattle.bfs_model.specs.Kept.{known_of, known_entry, stays}
-
-abbrev pub stays_at : ℕ → Places → KnownByte → Bool
-stays_at id places k = stays id places (k.id, k.place)
+use Rattle.bfs_tree.specs.States.{AgreesWith, place_cmp, is_in}
+use Rattle.bfs_model.specs.Kept.{known_of, fits_at}
 
 pub place_cmp_total : IsTotalOrder place_cmp
 place_cmp_total = then_total (on_total (λ (p : ℕ × ℕ). p.0) nat_cmp_total) (on_total (λ (p : ℕ × ℕ). p.1) nat_cmp_total)
@@ -33,102 +28,102 @@ place_cmp-same x y e =
 alike : (p : ℕ × ℕ → Bool) (q x : ℕ × ℕ) → place_cmp q x ≡ Equal → p x ≡ p q
 alike p q x e = ap p (sym (place_cmp-same q x e))
 
-kept : (p : ℕ × ℕ → Bool) (ks : List KnownByte) → each known_entry (filter (λ k. p (k.id, k.place)) ks) ≡ where_key place_cmp p (each known_entry ks)
+-- what a look-up finds
+find-known : (q : ℕ × ℕ) (es : List ((ℕ × ℕ) × ℕ)) → find place_cmp q es ≡ lookup (λ k. is_eq (place_cmp q k)) es
+find-known q [] = refl
+find-known q (e ∷ es) = ap (λ o. cond (is_eq (place_cmp q e.0)) (Some e.1) o) (find-known q es)
+
+pub known-at : (q : ℕ × ℕ) (es : List ((ℕ × ℕ) × ℕ)) → get (known_of es) q ≡ lookup (λ k. is_eq (place_cmp q k)) es
+known-at q es = get-from_entries place_cmp_total es q ∙ find-known q es
+
+-- the entries of places that pass a test
+kept : (p : ℕ × ℕ → Bool) (es : List ((ℕ × ℕ) × ℕ)) → filter (λ e. p e.0) es ≡ where_key place_cmp p es
 kept p [] = refl
-kept p (k ∷ ks) =
-    elim (p (k.id, k.place)) as (λ b. each known_entry (cond b (k ∷ filter (λ k. p (k.id, k.place)) ks) (filter (λ k. p (k.id, k.place)) ks)) ≡ cond b (known_entry k ∷ where_key place_cmp p (each known_entry ks)) (where_key place_cmp p (each known_entry ks))) [
-      | true ↦ ap (λ l. known_entry k ∷ l) (kept p ks)
-      | false ↦ kept p ks
-    ]
+kept p (e ∷ es) = ap (λ l. cond (p e.0) (e ∷ l) l) (kept p es)
 
-reverse-cons : {A : Type 0} (x : A) (xs : List A) → reverse (x ∷ xs) ≡ reverse xs ++ (x ∷ [])
-reverse-cons x xs = reverse-append (x ∷ []) xs
+pub known-kept : (p : ℕ × ℕ → Bool) (es fs : List ((ℕ × ℕ) × ℕ)) → fs ≡ filter (λ e. p e.0) es → known_of fs ≡ retain_keys (known_of es) p
+known-kept p es fs is =
+    ap known_of is
+    ∙ same_map place_cmp_total place_cmp-same _ _ (λ q.
+    get-from_entries place_cmp_total (filter (λ e. p e.0) es) q
+    ∙ ap (find place_cmp q) (kept p es)
+    ∙ find-where_key place_cmp p q (λ x e. alike p q x e) es
+    ∙ ap (λ o. cond (p q) o None) (sym (get-from_entries place_cmp_total es q))
+    ∙ sym (get-retain_keys (known_of es) p q (λ x e. alike p q x e)))
 
-filter-end : {A : Type 0} (p : A → Bool) (xs : List A) (x : A) → filter p (xs ++ (x ∷ [])) ≡ cond (p x) (filter p xs ++ (x ∷ [])) (filter p xs)
-filter-end p [] x = refl
-filter-end p (y ∷ ys) x =
-    ap (λ l. cond (p y) (y ∷ l) l) (filter-end p ys x) ∙ swap (p y) (p x)
-  where
-    swap : (a b : Bool) → cond a (y ∷ cond b (filter p ys ++ (x ∷ [])) (filter p ys)) (cond b (filter p ys ++ (x ∷ [])) (filter p ys)) ≡ cond b (cond a (y ∷ filter p ys) (filter p ys) ++ (x ∷ [])) (cond a (y ∷ filter p ys) (filter p ys))
-    swap true true = refl
-    swap true false = refl
-    swap false true = refl
-    swap false false = refl
-
-reverse-filter : {A : Type 0} (p : A → Bool) (xs : List A) → reverse (filter p xs) ≡ filter p (reverse xs)
-reverse-filter p [] = refl
-reverse-filter p (x ∷ xs) =
-    by (p x) ∙ ap (λ l. cond (p x) (l ++ (x ∷ [])) l) (reverse-filter p xs) ∙ sym (filter-end p (reverse xs) x) ∙ sym (ap (filter p) (reverse-cons x xs))
-  where
-    by : (b : Bool) → reverse (cond b (x ∷ filter p xs) (filter p xs)) ≡ cond b (reverse (filter p xs) ++ (x ∷ [])) (reverse (filter p xs))
-    by true = reverse-cons x (filter p xs)
-    by false = refl
-
-pub known-kept : (p : ℕ × ℕ → Bool) (ks : List KnownByte) → known_of (filter (λ k. p (k.id, k.place)) ks) ≡ retain_keys (known_of ks) p
-known-kept p ks =
+-- a byte that is put at a place
+pub known-put : (k : ℕ × ℕ) (v : ℕ) (es fs : List ((ℕ × ℕ) × ℕ))
+    → ((q : ℕ × ℕ) → lookup (λ x. is_eq (place_cmp q x)) fs ≡ cond (is_eq (place_cmp k q)) (Some v) (lookup (λ x. is_eq (place_cmp q x)) es))
+    → known_of fs ≡ insert (known_of es) k v
+known-put k v es fs put =
     same_map place_cmp_total place_cmp-same _ _ (λ q.
-    get-from_entries place_cmp_total (each known_entry (reverse (filter (λ k. p (k.id, k.place)) ks))) q
-    ∙ ap (λ l. find place_cmp q (each known_entry l)) (reverse-filter (λ k. p (k.id, k.place)) ks)
-    ∙ ap (find place_cmp q) (kept p (reverse ks))
-    ∙ find-where_key place_cmp p q (λ x e. alike p q x e) (each known_entry (reverse ks))
-    ∙ ap (λ o. cond (p q) o None) (sym (get-from_entries place_cmp_total (each known_entry (reverse ks)) q))
-    ∙ sym (get-retain_keys (known_of ks) p q (λ x e. alike p q x e)))
+    known-at q fs ∙ put q
+    ∙ ap (λ b. cond b (Some v) (lookup (eq_by_cmp place_cmp q) es)) ((eq_by_cmp_equiv place_cmp_total).symm k q)
+    ∙ ap (λ o. cond (eq_by_cmp place_cmp q k) (Some v) o) (sym (known-at q es))
+    ∙ sym (get-insert place_cmp_total (known_of es) k v q))
 
--- the byte that is found at a place, looking through the list from the front
-abbrev pub is_at : ℕ × ℕ → KnownByte → Bool
-is_at q k = (k.id == q.0) && (k.place == q.1)
+both : (a b : Bool) → (a && b) ≡ true → (a ≡ true) × (b ≡ true)
+both true true e = (refl, refl)
+both true false e = cc
+both false b e = cc
 
-abbrev pub seen : ℕ × ℕ → Option ℕ → List KnownByte → Option ℕ
-seen q found [] = found
-seen q found (k ∷ ks) = seen q (if is_at q k then Some k.byte else found) ks
+is-equal : (o : Ordering) → is_eq o ≡ true → o ≡ Equal
+is-equal Less e = cc
+is-equal Equal e = refl
+is-equal Greater e = cc
 
-tie-at : (a b c d : ℕ) → is_eq (place_cmp (a, b) (c, d)) ≡ ((c == a) && (d == b))
-tie-at a b c d =
-    elim (c == a) as (λ t. (c == a) ≡ t → is_eq (place_cmp (a, b) (c, d)) ≡ (t && (d == b))) [
-      | true ↦ λ e. let same : nat_cmp a c ≡ Equal = grind (arith, e) in ap (λ o. is_eq (ordering_then o (nat_cmp b d))) same ∙ last b d
-      | false ↦ λ e. other (nat_cmp a c) (nat_cmp b d) (apart a c e)
-    ] refl
-  where
-    last : (b d : ℕ) → is_eq (nat_cmp b d) ≡ (d == b)
-    last b d = grind arith
+same-number : (a b : ℕ) → (a == b) ≡ true → a ≡ b
+same-number a b e = grind (arith, e)
 
-    apart : (a c : ℕ) → (c == a) ≡ false → is_eq (nat_cmp a c) ≡ false
-    apart a c e = grind (arith, e)
+is-same : (a b : ℕ) → a ≡ b → (a == b) ≡ true
+is-same a b e = grind (arith, e)
 
-    other : (o r : Ordering) → is_eq o ≡ false → is_eq (ordering_then o r) ≡ false
-    other Less r e = refl
-    other Equal r e = cc
-    other Greater r e = refl
+in-piece : (id at k n : ℕ) → k < n → is_in id at n (id, at + k) ≡ true
+in-piece id at k n short = grind (arith, short)
 
-find-end : (q : ℕ × ℕ) (es : List ((ℕ × ℕ) × ℕ)) (e : (ℕ × ℕ) × ℕ) → find place_cmp q (es ++ (e ∷ [])) ≡ option_or (find place_cmp q es) (cond (is_eq (place_cmp q e.0)) (Some e.1) None)
-find-end q [] e = refl
-find-end q (x ∷ xs) e =
-    elim (is_eq (place_cmp q x.0)) as (λ b. cond b (Some x.1) (find place_cmp q (xs ++ (e ∷ []))) ≡ option_or (cond b (Some x.1) (find place_cmp q xs)) (cond (is_eq (place_cmp q e.0)) (Some e.1) None)) [
-      | true ↦ refl
-      | false ↦ find-end q xs e
-    ]
+out-of-piece : (id at n : ℕ) (q : ℕ × ℕ) → is_in id at n q ≡ true → (at ≤ q.1) × (q.1 - at < n) × (q.0 ≡ id)
+out-of-piece id at n q e = (grind (arith, e), grind (arith, e), grind (arith, e))
 
-each-end : (ks : List KnownByte) (k : KnownByte) → each known_entry (ks ++ (k ∷ [])) ≡ each known_entry ks ++ (known_entry k ∷ [])
-each-end [] k = refl
-each-end (x ∷ xs) k = ap (λ l. known_entry x ∷ l) (each-end xs k)
+module _ (id at : ℕ) (bytes : List ℕ) where
+  abbrev tested : (ℕ × ℕ) × ℕ → Bool → Bool
+  tested e c = cond c (slice_index bytes (e.0.1 - at) == e.1) true
 
-seen-or : (q : ℕ × ℕ) (ks : List KnownByte) (found : Option ℕ) → seen q found ks ≡ option_or (find place_cmp q (each known_entry (reverse ks))) found
-seen-or q [] found = refl
-seen-or q (k ∷ ks) found =
-    seen-or q ks (cond (is_at q k) (Some k.byte) found) ∙ by (find place_cmp q (each known_entry (reverse ks))) (is_at q k)
-    ∙ sym (ap (λ l. option_or (find place_cmp q (each known_entry l)) found) (reverse-cons k ks) ∙ ap (λ l. option_or (find place_cmp q l) found) (each-end (reverse ks) k)
-    ∙ ap (λ o. option_or o found) (find-end q (each known_entry (reverse ks)) (known_entry k))
-    ∙ ap (λ b. option_or (option_or (find place_cmp q (each known_entry (reverse ks))) (cond b (Some k.byte) None)) found) (tie-at q.0 q.1 k.id k.place))
-  where
-    by : (o : Option ℕ) (b : Bool) → option_or o (cond b (Some k.byte) found) ≡ option_or (option_or o (cond b (Some k.byte) None)) found
-    by (Some x) b = refl
-    by None true = refl
-    by None false = refl
+  fits-known : (q : ℕ × ℕ) (b : ℕ) (es : List ((ℕ × ℕ) × ℕ)) → list_all (fits_at id at bytes) es ≡ true → lookup (λ k. is_eq (place_cmp q k)) es ≡ Some b → fits_at id at bytes (q, b) ≡ true
+  fits-known q b [] all e = cc
+  fits-known q b (x ∷ xs) all e =
+      by (is_eq (place_cmp q x.0)) refl e (fits-known q b xs (both (fits_at id at bytes x) (list_all (fits_at id at bytes) xs) all).1)
+    where
+      by : (c : Bool) → is_eq (place_cmp q x.0) ≡ c → cond c (Some x.1) (lookup (λ k. is_eq (place_cmp q k)) xs) ≡ Some b → (lookup (λ k. is_eq (place_cmp q k)) xs ≡ Some b → fits_at id at bytes (q, b) ≡ true) → fits_at id at bytes (q, b) ≡ true
+      by true tie s later =
+          let place : q ≡ x.0 = place_cmp-same q x.0 (is-equal (place_cmp q x.0) tie) in
+          let byte : b ≡ x.1 = cc in
+          let pair : (q, b) ≡ x = λ i. (place i, byte i) in
+          ap (fits_at id at bytes) pair ∙ (both (fits_at id at bytes x) (list_all (fits_at id at bytes) xs) all).0
+      by false tie s later = later s
 
-or-none : (o : Option ℕ) → option_or o None ≡ o
-or-none None = refl
-or-none (Some x) = refl
+  module _ (es : List ((ℕ × ℕ) × ℕ)) where
+    fit-agrees : list_all (fits_at id at bytes) es ≡ true → AgreesWith (known_of es) id at bytes
+    fit-agrees all k b short found =
+        let fits : fits_at id at bytes ((id, at + k), b) ≡ true = fits-known (id, at + k) b es all (sym (known-at (id, at + k) es) ∙ found) in
+        let same : (slice_index bytes (at + k - at) == b) ≡ true = sym (ap (tested ((id, at + k), b)) (in-piece id at k (length bytes) short)) ∙ fits in
+        let there : k ≡ at + k - at = omega arith in
+        ap (slice_index bytes) there ∙ same-number (slice_index bytes (at + k - at)) b same
 
--- it is the byte that is known there
-pub seen-known : (q : ℕ × ℕ) (ks : List KnownByte) → seen q None ks ≡ get (known_of ks) q
-seen-known q ks = seen-or q ks None ∙ or-none (find place_cmp q (each known_entry (reverse ks))) ∙ sym (get-from_entries place_cmp_total (each known_entry (reverse ks)) q)
+    one-fits : AgreesWith (known_of es) id at bytes → (x : (ℕ × ℕ) × ℕ) → lookup (λ k. is_eq (place_cmp x.0 k)) es ≡ Some x.1 → fits_at id at bytes x ≡ true
+    one-fits agrees x found = by (is_in id at (length bytes) x.0) refl
+      where
+        by : (c : Bool) → is_in id at (length bytes) x.0 ≡ c → fits_at id at bytes x ≡ true
+        by false e = ap (tested x) e
+        by true e =
+            let parts : (at ≤ x.0.1) × (x.0.1 - at < length bytes) × (x.0.0 ≡ id) = out-of-piece id at (length bytes) x.0 e in
+            let there : at + (x.0.1 - at) ≡ x.0.1 = omega (arith, parts.0) in
+            let place : (id, at + (x.0.1 - at)) ≡ x.0 = λ i. (sym parts.2 i, there i) in
+            ap (tested x) e ∙ is-same (slice_index bytes (x.0.1 - at)) x.1 (agrees (x.0.1 - at) x.1 parts.1 (ap (get (known_of es)) place ∙ known-at x.0 es ∙ found))
+
+    all-fit : AgreesWith (known_of es) id at bytes → (xs : List ((ℕ × ℕ) × ℕ)) → AllByRecursion (λ x. lookup (λ k. is_eq (place_cmp x.0 k)) es ≡ Some x.1) xs → list_all (fits_at id at bytes) xs ≡ true
+    all-fit agrees [] found = refl
+    all-fit agrees (x ∷ xs) found = ap (λ c. c && list_all (fits_at id at bytes) xs) (one-fits agrees x found.0) ∙ all-fit agrees xs found.1
+
+    -- each entry fits just where the bytes are those that are known
+    pub known-fits : All (λ x. lookup (λ k. is_eq (place_cmp x.0 k)) es ≡ Some x.1) es → IsTrue (list_all (fits_at id at bytes) es) ↔ AgreesWith (known_of es) id at bytes
+    known-fits found = (fit-agrees, λ agrees. all-fit agrees es (recursion_from_All (λ x. lookup (λ k. is_eq (place_cmp x.0 k)) es ≡ Some x.1) es found))

@@ -1,12 +1,11 @@
 -- What the program `Model` keeps, as a state of the plain tree.
-use Rattle.std.specs.Prelude.{ℕ, ℤ, Bool, true, false, not, ◌&&◌, ◌==◌, ◌-◌, nat_le, nat_lt, reverse, List, map as each}
+use Rattle.std.specs.Prelude.{ℕ, ℤ, Bool, true, false, not, ◌&&◌, ◌==◌, ◌-◌, nat_le, nat_lt, if◌then◌else◌, length, slice_index, List, map as each}
 use Rattle.std.specs.Global.{Vec}
 use Rattle.bfs_base.specs.declared.kind.KeyKind.{KeyKind}
 use Rattle.std.specs.FinMap.{FinMap, from_entries, insert, remove}
 use Rattle.bfs_base.specs.Keys.{text_cmp}
 use Rattle.bfs_model.specs.declared.model.Attribute as kept_attribute
 use Rattle.bfs_model.specs.declared.model.Node as kept_node
-use Rattle.bfs_model.specs.declared.model.KnownByte.{KnownByte}
 use Rattle.bfs_model.specs.declared.model.Model.{Model}
 use Rattle.bfs_model.specs.declared.sorts.Pair.{Pair}
 use Rattle.bfs_model.specs.declared.known.Places.{Places}
@@ -14,7 +13,7 @@ use Rattle.bfs_model.specs.declared.known.Places.TheVariants.{All, From, Piece}
 use Rattle.bfs_model.specs.declared.nodes.NodeChange.{NodeChange}
 use Rattle.bfs_model.specs.declared.nodes.NodeChange.TheVariants.{Touch, Content, Size, Mode, Name}
 use Rattle.bfs_tree.specs.Trees.{Attribute, Attributes, Node, Nodes}
-use Rattle.bfs_tree.specs.States.{State, Known}
+use Rattle.bfs_tree.specs.States.{State, Known, is_in}
 use Rattle.bfs_tree.specs.Steps.{Step}
 use Rattle.bfs_tree.specs.declared.call.Call.{Call}
 use Rattle.bfs_tree.specs.declared.call.Call.TheVariants as calls
@@ -57,12 +56,8 @@ index_entry e = (e.0.items, e.1)
 abbrev pub indices_of : List (Vec ℕ × KeyKind) → FinMap text_cmp KeyKind
 indices_of es = from_entries (each index_entry es)
 
-abbrev pub known_entry : KnownByte → (ℕ × ℕ) × ℕ
-known_entry k = ((k.id, k.place), k.byte)
-
--- the byte that is kept last counts
-abbrev pub known_of : List KnownByte → Known
-known_of ks = from_entries (each known_entry (reverse ks))
+abbrev pub known_of : List ((ℕ × ℕ) × ℕ) → Known
+known_of es = from_entries es
 
 -- the place is one of these
 abbrev pub is_among : Places → ℕ → Bool
@@ -74,11 +69,16 @@ is_among (Piece at count) place = nat_le at place && nat_lt (place - at) count
 abbrev pub stays : ℕ → Places → ℕ × ℕ → Bool
 stays id places place = not (is_among places place.1 && (place.0 == id))
 
+-- the place stands outside these bytes of the file from `at` on, or the byte there is this one
+abbrev pub fits_at : ℕ → ℕ → List ℕ → (ℕ × ℕ) × ℕ → Bool
+fits_at id at bytes known =
+    if is_in id at (length bytes) known.0 then slice_index bytes (known.0.1 - at) == known.1 else true
+
 abbrev pub state_of : Model → State
 state_of m = record {
   tree = record { root = m.root; nodes = nodes_of m.nodes.entries; indices = indices_of m.indices.entries };
   holds = m.holds.items;
-  known = known_of m.known.items;
+  known = known_of m.known.entries;
 }
 
 abbrev pub pair_of : Pair → List ℕ × ℕ

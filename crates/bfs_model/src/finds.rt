@@ -3,20 +3,19 @@ ghost use Rattle.std.specs.Prelude.{◌≡◌, ◌&&◌, ◌∷◌, ◌++◌, []
 ghost use Rattle.std.specs.List.{filter};
 ghost use Rattle.std.specs.Option.{option_map_or};
 ghost use Rattle.std.specs.FinMap.{entries};
-ghost use Rattle.bfs_tree.specs.Orders.{placed};
-ghost use Rattle.bfs_tree.specs.Listings.{key_in, pair_cmp, listed_among, is_between, found_row, name_of};
+ghost use Rattle.bfs_tree.specs.Listings.{key_in, listed_among, is_between, found_row, name_of};
 ghost use Rattle.bfs_tree.specs.Steps.{Reads};
 ghost use Rattle.bfs_model.specs.Kept.{node_of, nodes_of, pair_of, state_of};
 ghost use Rattle.bfs_tree.specs.declared.call.Call.TheVariants.{IndexFind};
 
 use crate::model::{Model, Node, index_at};
 use crate::reads::node_at;
-use crate::sorts::{Pair, place_pair};
+use crate::sorts::{Pair, sort_pairs};
 use bfs_tree::{Bytes, FoundRow, FoundRows, Key, KeyKind, Reply, is_kind, key_order};
 use std::alloc::{AllocError, Global};
 use std::collections::BTreeMap;
 
-/// Puts a node's key and id in their place, if the index lists it.
+/// Adds a node's key and id, if the index lists it.
 fn visit_pair(
     alloc: Global,
     pairs: &mut Vec<Pair>,
@@ -26,11 +25,14 @@ fn visit_pair(
     index: &[u8],
     kind: KeyKind,
 ) -> Result<(), AllocError>
-    ensures { OnOk result (each pair_of pairs.new.items ≡ option_map_or (λ key. placed (pair_cmp kind) (each pair_of pairs.old.items) (key, id)) (key_in root index.now kind id (node_of node.now)) (each pair_of pairs.old.items)) }
+    ensures { OnOk result (each pair_of pairs.new.items ≡ option_map_or (λ key. each pair_of pairs.old.items ++ ((key, id) ∷ [])) (key_in root index.now kind id (node_of node.now)) (each pair_of pairs.old.items)) }
 {
     match node.key_in(alloc, root, index, kind, id)? {
         None => Ok(()),
-        Some(key) => place_pair(kind, pairs, Pair { key, id }),
+        Some(key) => {
+            pairs.push(Pair { key, id })?;
+            Ok(())
+        }
     }
 }
 
@@ -48,6 +50,7 @@ fn pairs_at(
     for (id, node) in nodes.iter() {
         visit_pair(alloc, &mut pairs, *id, node, root, index, kind)?;
     }
+    sort_pairs(kind, &mut pairs)?;
     Ok(pairs)
 }
 

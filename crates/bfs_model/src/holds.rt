@@ -13,10 +13,11 @@ ghost use Rattle.bfs_tree.specs.declared.call.Call.TheVariants as calls;
 ghost use Rattle.bfs_tree.specs.declared.reply.Reply.TheVariants.{Synced};
 
 use crate::known::{Places, agrees, byte_at, forget, learn};
-use crate::model::{KnownByte, Model};
+use crate::model::Model;
 use crate::nodes::{NodeChange, change_node};
 use bfs_tree::{Hold, Reply};
-use std::alloc::{AllocError, Global};
+use std::alloc::AllocError;
+use std::collections::BTreeMap;
 
 /// The piece goes past the end of the file.
 pub(crate) fn is_past(size: u64, at: u64, length: u64) -> bool
@@ -31,22 +32,21 @@ fn is_hold_of(hold: &Hold, session: u32, id: u64) -> bool
     hold.session == session && hold.id == id
 }
 
-/// What is known after a hold: the bytes of a whole write too.
-fn known_after(
-    alloc: Global,
-    known: &[KnownByte],
+/// What a session wrote is known where its hold for writing ends whole.
+fn learn_whole(
+    known: &mut BTreeMap<(u64, u64), u8>,
     id: u64,
     hold: Hold,
     bytes: &[u8],
     whole: bool,
-) -> Result<Vec<KnownByte>, AllocError>
-    ensures { IfOk result (λ v. known_of v.items ≡ (if whole && hold.write then learn (known_of known.now) id hold.at bytes.now else known_of known.now)) }
+) -> Result<(), AllocError>
+    ensures ok { OnOk result (known_of known.new.entries ≡ (if whole && hold.write then learn (known_of known.old.entries) id hold.at bytes.now else known_of known.old.entries)) }
+    ensures err { OnErr result (known.new.entries ≡ known.old.entries) }
 {
     if whole && hold.write {
-        learn(alloc, known, id, hold.at, bytes)
-    } else {
-        Vec::from_slice(alloc, known)
+        *known = learn(known, id, hold.at, bytes)?;
     }
+    Ok(())
 }
 
 /// Where the session's last hold on a node stands in the list.
@@ -85,7 +85,7 @@ impl Model {
         ensures { IsTrue result ↔ Ends (state_of self.now) hold bytes.now }
     {
         bytes.len() as u64 == hold.length
-            && (hold.write || agrees(self.known.as_slice(), hold.id, hold.at, bytes))
+            && (hold.write || agrees(&self.known, hold.id, hold.at, bytes))
     }
 
     /// A session may release a file so: it has a hold there, and where the release is whole, the bytes may be
@@ -103,7 +103,7 @@ impl Model {
     pub fn known_at(&self, id: u64, place: u64) -> Option<u8>
         ensures { result ≡ get (state_of self.now).known (id, place) }
     {
-        byte_at(self.known.as_slice(), id, place, 0)
+        byte_at(&self.known, id, place)
     }
 
     /// Holds a piece of a file, for writing or for reading.
@@ -158,9 +158,8 @@ impl Model {
             at: hold.at,
             count: hold.length,
         };
-        let known = forget(self.alloc, self.known.as_slice(), hold.id, piece)?;
         self.holds.push(hold)?;
-        self.known = known;
+        forget(&mut self.known, hold.id, piece);
         change_node(&mut self.nodes, hold.id, NodeChange::Content, stamp);
         Ok(())
     }
@@ -198,8 +197,7 @@ impl Model {
             return Ok(());
         };
         let at = last_hold_at(&self.holds, session, id);
-        let known = known_after(self.alloc, self.known.as_slice(), id, hold, bytes, whole)?;
-        self.known = known;
+        learn_whole(&mut self.known, id, hold, bytes, whole)?;
         let _ = self.holds.remove(at);
         Ok(())
     }

@@ -1,11 +1,11 @@
-// The bytes of files that are known.
-ghost use Rattle.std.specs.Prelude.{◌≡◌, ◌↔◌, ◌&&◌, ◌==◌, ◌<◌, ◌^◌, ◌+◌, ◌≤◌, not, ℕ, Some, IfOk, IsTrue, length, reverse};
-ghost use Rattle.std.specs.FinMap.{get, retain_keys};
+// The bytes of files that are known, each at the id of its file and its place there.
+ghost use Rattle.std.specs.Prelude.{◌≡◌, ◌↔◌, IfOk, OnOk, IsTrue};
+ghost use Rattle.std.specs.FinMap.{get, insert, retain_keys};
 ghost use Rattle.bfs_tree.specs.States.{AgreesWith, learn};
-ghost use Rattle.bfs_model.specs.Kept.{known_of, is_among, stays};
+ghost use Rattle.bfs_model.specs.Kept.{known_of, is_among, stays, fits_at};
 
-use crate::model::KnownByte;
-use std::alloc::{AllocError, Global};
+use std::alloc::AllocError;
+use std::collections::BTreeMap;
 
 /// Places of a file: all of them, those from one on, or so many from one on.
 #[derive(Clone, Copy)]
@@ -27,91 +27,76 @@ impl Places {
     }
 }
 
-fn does_stay(id: u64, places: Places, known: &KnownByte) -> bool
-    ensures { result ≡ stays id places (known.now.id, known.now.place) }
+fn does_stay(id: u64, places: Places, place: (u64, u64)) -> bool
+    ensures { result ≡ stays id places place }
 {
-    !(places.has(known.place) && known.id == id)
+    !(places.has(place.1) && place.0 == id)
 }
 
-/// What is known but for these places of a file.
-pub(crate) fn forget(
-    alloc: Global,
-    known: &[KnownByte],
-    id: u64,
-    places: Places,
-) -> Result<Vec<KnownByte>, AllocError>
-    ensures { IfOk result (λ v. known_of v.items ≡ retain_keys (known_of known.now) (stays id places)) }
+/// These places of a file are known no more.
+pub(crate) fn forget(known: &mut BTreeMap<(u64, u64), u8>, id: u64, places: Places)
+    ensures { known_of known.new.entries ≡ retain_keys (known_of known.old.entries) (stays id places) }
 {
-    let mut kept = Vec::new(alloc);
-    for byte in known {
-        if does_stay(id, places, byte) {
-            kept.push(*byte)?;
-        }
+    known.retain(|place, _| does_stay(id, places, *place));
+}
+
+fn put_byte(
+    known: &mut BTreeMap<(u64, u64), u8>,
+    place: (u64, u64),
+    byte: u8,
+) -> Result<(), AllocError>
+    ensures { OnOk result (known_of known.new.entries ≡ insert (known_of known.old.entries) place byte) }
+{
+    match known.insert(place, byte) {
+        Ok(_) => Ok(()),
+        Err(_) => Err(AllocError),
     }
-    Ok(kept)
 }
 
 /// What is known, and these bytes of a file from a place on. Places end at 2^64 - 1, and what would go past
 /// them finds no memory.
 pub(crate) fn learn(
-    alloc: Global,
-    known: &[KnownByte],
+    known: &BTreeMap<(u64, u64), u8>,
     id: u64,
     at: u64,
     bytes: &[u8],
-) -> Result<Vec<KnownByte>, AllocError>
-    ensures { IfOk result (λ v. known_of v.items ≡ learn (known_of known.now) id at bytes.now) }
+) -> Result<BTreeMap<(u64, u64), u8>, AllocError>
+    ensures { IfOk result (λ m. known_of m.entries ≡ learn (known_of known.now.entries) id at bytes.now) }
 {
-    let mut all = Vec::from_slice(alloc, known)?;
+    let mut all = known.clone()?;
     for (i, byte) in bytes.iter().enumerate() {
         let Some(place) = at.checked_add(i as u64) else {
             return Err(AllocError);
         };
-        all.push(KnownByte {
-            id,
-            place,
-            byte: *byte,
-        })?;
+        put_byte(&mut all, (id, place), *byte)?;
     }
     Ok(all)
 }
 
-/// It is the byte at the place `at + i` of a file.
-fn is_at(known: &KnownByte, id: u64, at: u64, i: usize) -> bool
-    ensures { result ≡ ((known.now.id == id) && (known.now.place == at + i)) }
+/// The byte that is known at a place of a file.
+pub(crate) fn byte_at(known: &BTreeMap<(u64, u64), u8>, id: u64, place: u64) -> Option<u8>
+    ensures { result ≡ get (known_of known.now.entries) (id, place) }
 {
-    known.id == id && known.place >= at && known.place - at == i as u64
+    known.get(&(id, place)).copied()
 }
 
-/// The byte that is known at the place `at + i` of a file: the one that is kept last.
-pub(crate) fn byte_at(known: &[KnownByte], id: u64, at: u64, i: usize) -> Option<u8>
-    ensures { result ≡ get (known_of known.now) (id, at + i) }
+/// The place lies outside these bytes of a file from a place on, or the byte there is this one.
+fn fits(place: (u64, u64), byte: u8, id: u64, at: u64, bytes: &[u8]) -> bool
+    ensures { result ≡ fits_at id at bytes.now (place, byte) }
 {
-    let mut found = None;
-    for byte in known {
-        if is_at(byte, id, at, i) {
-            found = Some(byte.byte);
-        }
-    }
-    found
-}
-
-/// Nothing is known, or just this byte.
-fn may_be(known: Option<u8>, byte: u8) -> bool
-    ensures { IsTrue result ↔ ((b : ℕ) → known ≡ Some b → byte ≡ b) }
-{
-    match known {
-        None => true,
-        Some(b) => b == byte,
+    if place.1 >= at && place.1 - at < bytes.len() as u64 && place.0 == id {
+        bytes[(place.1 - at) as usize] == byte
+    } else {
+        true
     }
 }
 
 /// The bytes are those that are known, wherever one is known.
-pub(crate) fn agrees(known: &[KnownByte], id: u64, at: u64, bytes: &[u8]) -> bool
-    ensures { IsTrue result ↔ AgreesWith (known_of known.now) id at bytes.now }
+pub(crate) fn agrees(known: &BTreeMap<(u64, u64), u8>, id: u64, at: u64, bytes: &[u8]) -> bool
+    ensures { IsTrue result ↔ AgreesWith (known_of known.now.entries) id at bytes.now }
 {
-    for (i, byte) in bytes.iter().enumerate() {
-        if !may_be(byte_at(known, id, at, i), *byte) {
+    for (place, byte) in known.iter() {
+        if !fits(*place, *byte, id, at, bytes) {
             return false;
         }
     }

@@ -19,4 +19,4 @@ mod start;
 mod tests;
 mod writes;
 
-pub use model::{Attribute, KnownByte, Model, Node};
+pub use model::{Attribute, Model, Node};

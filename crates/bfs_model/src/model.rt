@@ -37,15 +37,8 @@ pub struct Node {
     pub attributes: BTreeMap<Vec<u8>, Attribute>,
 }
 
-/// A byte of a file that is known, at its place.
-#[derive(Clone, Copy)]
-pub struct KnownByte {
-    pub id: u64,
-    pub place: u64,
-    pub byte: u8,
-}
-
-/// A plain tree with the holds on it and the bytes of files that are known.
+/// A plain tree with the holds on it and the bytes of files that are known, each at the id of its file and its
+/// place there.
 #[derive(Drop)]
 pub struct Model {
     pub(crate) alloc: Global,
@@ -53,7 +46,7 @@ pub struct Model {
     pub(crate) nodes: BTreeMap<u64, Node>,
     pub(crate) indices: BTreeMap<Vec<u8>, KeyKind>,
     pub(crate) holds: Vec<Hold>,
-    pub(crate) known: Vec<KnownByte>,
+    pub(crate) known: BTreeMap<(u64, u64), u8>,
     pub(crate) answered: u64,
 }
 

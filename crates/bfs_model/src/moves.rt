@@ -100,7 +100,7 @@ impl Model {
         ensures err { OnErr result (state_of self.new ≡ state_of self.old) }
         ensures kept { self.new.answered ≡ self.old.answered }
     {
-        self.known = forget(self.alloc, self.known.as_slice(), id, Places::All)?;
+        forget(&mut self.known, id, Places::All);
         take_node(&mut self.nodes, id);
         change_node(&mut self.nodes, dir, NodeChange::Touch, stamp);
         Ok(())
@@ -138,7 +138,7 @@ impl Model {
         ensures err { OnErr result (state_of self.new ≡ state_of self.old) }
         ensures kept { self.new.answered ≡ self.old.answered }
     {
-        self.known = forget(self.alloc, self.known.as_slice(), there, Places::All)?;
+        forget(&mut self.known, there, Places::All);
         take_node(&mut self.nodes, there);
         self.move_node(dir, to_dir, to_name, id, stamp);
         Ok(())
@@ -231,12 +231,7 @@ impl Model {
         ensures err { OnErr result (state_of self.new ≡ state_of self.old) }
         ensures kept { self.new.answered ≡ self.old.answered }
     {
-        self.known = forget(
-            self.alloc,
-            self.known.as_slice(),
-            id,
-            Places::From { place: size },
-        )?;
+        forget(&mut self.known, id, Places::From { place: size });
         change_node(&mut self.nodes, id, NodeChange::Size { size }, stamp);
         Ok(())
     }

@@ -1,16 +1,14 @@
 // The calls that read.
-ghost use Rattle.std.specs.Prelude.{◌≡◌, ◌&&◌, ◌==◌, not, Some, None, IfOk, OnOk, MatchOption, if◌then◌else◌};
+ghost use Rattle.std.specs.Prelude.{◌≡◌, ◌&&◌, ◌==◌, ◌++◌, ◌∷◌, [], not, Some, None, IfOk, OnOk, MatchOption, if◌then◌else◌};
 ghost use Rattle.std.specs.FinMap.{get, entries};
 ghost use Rattle.bfs_tree.specs.Trees.{child_in};
-ghost use Rattle.bfs_base.specs.Keys.{text_cmp};
-ghost use Rattle.bfs_tree.specs.Orders.{placed};
 ghost use Rattle.bfs_tree.specs.Answers.{names_among, rows_of_attributes, rows_of_indices};
 ghost use Rattle.bfs_tree.specs.Steps.{Reads};
 ghost use Rattle.bfs_model.specs.Kept.{node_of, nodes_of, attributes_of, indices_of, state_of};
 ghost use Rattle.bfs_tree.specs.declared.call.Call.TheVariants.{Lookup, List, Stat, ReadLink, AttrRead, AttrList, IndexList};
 
 use crate::model::{Attribute, Model, Node, attribute_at};
-use crate::sorts::place_name;
+use crate::sorts::sort_names;
 use bfs_tree::{AttributeRow, Attributes, Bytes, IndexRow, Indices, KeyKind, Names, Reply};
 use std::alloc::{AllocError, Global};
 use std::collections::BTreeMap;
@@ -85,10 +83,11 @@ fn names_at(
     for (id, node) in nodes.iter() {
         visit_child(&mut names, *id, node, root, dir)?;
     }
+    sort_names(&mut names)?;
     Ok(names)
 }
 
-/// Puts a node's name in its place, if it is a child of the directory.
+/// Adds a node's name, if it is a child of the directory.
 fn visit_child(
     names: &mut Vec<Bytes>,
     id: u64,
@@ -96,10 +95,10 @@ fn visit_child(
     root: u64,
     dir: u64,
 ) -> Result<(), AllocError>
-    ensures { OnOk result (names.new.items ≡ (if not (id == root) && (node.now.parent == dir) then placed text_cmp names.old.items node.now.name else names.old.items)) }
+    ensures { OnOk result (names.new.items ≡ (if not (id == root) && (node.now.parent == dir) then names.old.items ++ (node.now.name ∷ []) else names.old.items)) }
 {
     if node.is_child(id, root, dir) {
-        place_name(names, node.name.copy()?)?;
+        names.push(node.name.copy()?)?;
     }
     Ok(())
 }

@@ -4,7 +4,7 @@ ghost use Rattle.std.specs.FinMap.{empty};
 ghost use Rattle.bfs_tree.specs.Trees.{IsPlain, empty_tree, built_in};
 ghost use Rattle.bfs_model.specs.Kept.{indices_of, known_of, nodes_of, state_of};
 
-use crate::model::{KnownByte, Model, Node};
+use crate::model::{Model, Node};
 use crate::named::put_index;
 use crate::nodes::put_node;
 use crate::writes::made_node;
@@ -34,11 +34,11 @@ impl Model {
         root: u64,
         nodes: BTreeMap<u64, Node>,
         indices: BTreeMap<Vec<u8>, KeyKind>,
-        known: Vec<KnownByte>,
+        known: BTreeMap<(u64, u64), u8>,
     ) -> Model
         ensures tree { (state_of result).tree ≡ record { root = root; nodes = nodes_of nodes.entries; indices = indices_of indices.entries } }
         ensures held { (state_of result).holds ≡ [] }
-        ensures known { (state_of result).known ≡ known_of known.items }
+        ensures known { (state_of result).known ≡ known_of known.entries }
         ensures counted { result.answered ≡ 0 }
     {
         Model {
@@ -69,7 +69,7 @@ impl Model {
             nodes,
             indices: built_in_indices(alloc)?,
             holds: Vec::new(alloc),
-            known: Vec::new(alloc),
+            known: BTreeMap::new(alloc),
             answered: 0,
         })
     }

@@ -1,11 +1,10 @@
-use Rattle.std.proofs.Common.{◌≡◌, ap, ◌∙◌, arith}
-use Rattle.std.specs.List.{filter}
-use Rattle.std.proofs.lemmas.Grind.{common_steps}
-use Rattle.bfs_model.specs.Kept.{known_of, stays}
-use Rattle.bfs_model.proofs.Knowns.{stays_at, known-kept}
+use Rattle.std.proofs.Common.{rules}
+use Rattle.std.proofs.lemmas.Map.Made.{filter_same_pairs}
+use Rattle.bfs_model.specs.Kept.{stays}
+use Rattle.bfs_model.proofs.Knowns.{known-kept}
 use Rattle.bfs_model.proofs.known.forget.Goals as goal
 
 pub returns : goal.returns
 returns c =
-    let all : c.loop-byte.kept.items ≡ filter (stays_at c.args.id c.args.places) c.args.known.now = grind (arith, common_steps, c.loop-byte.invariant) in
-    ap known_of all ∙ known-kept (stays c.args.id c.args.places) c.args.known.now
+    known-kept (stays c.args.id c.args.places) c.args.known.now.entries c.retain.new.self.entries
+    (filter_same_pairs _ (λ e. stays c.args.id c.args.places e.0) _ (λ k v b w f' t. search rules) _ _ c.retain.ensures.filtered)

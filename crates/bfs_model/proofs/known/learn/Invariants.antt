@@ -4,4 +4,4 @@ use Rattle.bfs_model.specs.Kept.{known_of}
 use Rattle.bfs_model.proofs.known.learn.Given as goal
 
 abbrev pub invariant-loop-i : goal.invariant-loop-i
-invariant-loop-i l = learn (known_of l.all.items) l.id (l.at + l.i) (drop l.i l.bytes) ≡ learn (known_of l.known) l.id l.at l.bytes
+invariant-loop-i l = learn (known_of l.all.entries) l.id (l.at + l.i) (drop l.i l.bytes) ≡ learn (known_of l.known.entries) l.id l.at l.bytes

@@ -1,11 +1,10 @@
 -- Each line of a workload is in form.
-use Rattle.std.proofs.Common.{◌<◌, ◌≤◌, ◌+◌, ◌%◌, ℕ, zero, suc, List, [], ◌∷◌, length, get_or, Bool, true, false, ◌==◌, if◌then◌else◌, arith}
+use Rattle.std.proofs.Common.{◌<◌, ◌+◌, ℕ, zero, suc, List, ◌∷◌, length, get_or, Bool, true, false, ◌==◌, if◌then◌else◌, arith}
 use Rattle.std.specs.List.{All}
 use Rattle.bfs_script.specs.declared.command.Command.{Command}
-use Rattle.bfs_script.specs.declared.command.Command.TheVariants as commands
 use Rattle.bfs_script.specs.declared.script.Line.{Line}
 use Rattle.bfs_script.specs.Forms.{InForm, IsLineInForm}
-use Rattle.bfs_soak.specs.Workload.{next_state, drawn, folder, file_in, folder_in, command_drawn, session_of, line_drawn, lines_drawn, first_line, workload}
+use Rattle.bfs_soak.specs.Workload.{next_state, drawn, command_drawn, session_of, line_drawn, lines_drawn, first_line, workload}
 
 either : (t : Bool) (a b : Command) → InForm a → InForm b → InForm (if t then a else b)
 either true a b one other = one
@@ -30,7 +29,8 @@ drawn_form x i (suc n) = one_more (line_drawn x i) (lines_drawn (next_state (nex
 
 pub workload_form : (seed count : ℕ) → All IsLineInForm (workload seed count)
 workload_form seed count =
-    one_more (first_line 1) _ (omega arith, omega arith, tt)
-      (one_more (first_line 2) _ (omega arith, omega arith, tt)
-        (one_more (first_line 3) _ (omega arith, omega arith, tt)
-          (one_more (first_line 4) _ (omega arith, omega arith, tt) (drawn_form seed 1 count))))
+    let behind : List Line = lines_drawn seed 1 count in
+    let four = one_more (first_line 4) behind (omega arith, omega arith, tt) (drawn_form seed 1 count) in
+    let three = one_more (first_line 3) (first_line 4 ∷ behind) (omega arith, omega arith, tt) four in
+    let two = one_more (first_line 2) (first_line 3 ∷ first_line 4 ∷ behind) (omega arith, omega arith, tt) three in
+    one_more (first_line 1) (first_line 2 ∷ first_line 3 ∷ first_line 4 ∷ behind) (omega arith, omega arith, tt) two

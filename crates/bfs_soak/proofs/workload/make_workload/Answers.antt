@@ -1,4 +1,4 @@
-use Rattle.std.proofs.Common.{arith, rules, ◌<◌}
+use Rattle.std.proofs.Common.{rules, ◌<◌}
 use Rattle.bfs_soak.proofs.Drawn.{line_more}
 use Rattle.bfs_soak.proofs.workload.make_workload.Goals as goal
 

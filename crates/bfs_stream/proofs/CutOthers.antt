@@ -1,5 +1,5 @@
 -- A stream beside one that has been cut.
-use Rattle.std.proofs.Common.{◌≡◌, ◌≤◌, ◌<◌, ◌-◌, ◌*◌, ◌∙◌, ℕ, List, [], ◌∷◌, ◌++◌, Bool, false, Option, unwrap_or, sym, ap, subst, arith}
+use Rattle.std.proofs.Common.{◌≡◌, ◌≤◌, ◌<◌, ◌-◌, ◌*◌, ◌∙◌, ℕ, zero, suc, List, [], ◌∷◌, ◌++◌, Bool, false, Option, unwrap_or, refl, sym, ap, subst, arith}
 use Rattle.std.specs.Prelude.{IsSome}
 use Rattle.bfs_base.specs.Lists.{times, Has, Agree}
 use Rattle.bfs_bitmap.specs.Runs.{Room, is_free, per_block}
@@ -16,7 +16,14 @@ module _ (o p : Origin) (v now : Room) (m : ℕ → Option (List ℕ)) (gone : L
   frame_apart k has = let none = apart k has in let parts = times-append k (frame_at o.sizes (contents m) o.id) (places_at o.sizes (contents m) o.id) in omega (arith, none, parts)
 
   same : (k : ℕ) → Has (whole_at p.sizes (contents m) p.id) k → trimmed.map k ≡ m k
-  same k has = trimmed.others k (owns.outside k has) (frame_apart k has)
+  same k has = trimmed.others k (owns.outside k has) (by_count (times k trimmed.touched) refl)
+    where
+      by_count : (n : ℕ) → times k trimmed.touched ≡ n → times k trimmed.touched ≡ 0
+      by_count zero e = e
+      by_count (suc n) e =
+          let some : 0 < times k (frame_at o.sizes (contents m) o.id) = trimmed.keeps k (trimmed.still k (let h : 0 < times k trimmed.touched = omega (arith, e) in h)) in
+          let none = frame_apart k has in
+          absurd (omega (arith, some, none))
 
   agree : Agree (contents m) (contents trimmed.map) (whole_at p.sizes (contents m) p.id)
   agree k has = ap (λ (x : Option (List ℕ)). unwrap_or x []) (same k has)

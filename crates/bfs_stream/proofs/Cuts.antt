@@ -2,11 +2,9 @@
 use Rattle.std.proofs.Common.{◌≡◌, ◌≤◌, ◌<◌, ◌+◌, ◌-◌, ◌*◌, ◌∙◌, ◌⊎◌, inl, inr, ℕ, zero, suc, List, [], ◌∷◌, ◌++◌, Bool, true, false, cond, not, ◌&&◌, ◌||◌, Option, unwrap_or, refl, sym, ap, ap₂, subst, arith}
 use Rattle.std.specs.Prelude.{◌==◌, nat_lt, IsSome}
 use Rattle.bfs_base.specs.Lists.{times, Has, AreSame}
-use Rattle.bfs_bytes.specs.declared.Run.{Run}
 use Rattle.bfs_bitmap.specs.Runs.{Room, Fits, per_block, marked, is_free, is_reserved}
-use Rattle.bfs_bitmap.specs.Fills.{IsBitmapBlock}
 use Rattle.bfs_stream.specs.Sizes.{Origin}
-use Rattle.bfs_stream.specs.Places.{Levels, run_blocks, levels_at, places_of, arrays_of, places_at, frame_at, whole_at, HasLevels}
+use Rattle.bfs_stream.specs.Places.{Levels, levels_at, places_of, arrays_of, places_at, frame_at, whole_at, HasLevels}
 use Rattle.bfs_stream.specs.Told.{contents, AreTold}
 use Rattle.bfs_stream.specs.Grown.{IsOutside, Owns, AreWritten, KeepsRest}
 use Rattle.bfs_stream.specs.Trimmed.{Gave, Trimmed}
@@ -47,7 +45,7 @@ free_of t mark mark' res res' (suc h) used marks reserved =
     none true false = refl
     none false b = refl
 
-module _ (o : Origin) (v now : Room) (run : Run) (m m1 : ℕ → Option (List ℕ)) (told : Option (ℕ → Option (List ℕ))) (ws gone : List ℕ) (l : Levels) (owns : Owns o v [] m)
+module _ (o : Origin) (v now : Room) (hand : List ℕ) (m m1 : ℕ → Option (List ℕ)) (told : Option (ℕ → Option (List ℕ))) (ws gone : List ℕ) (l : Levels) (owns : Owns o v [] m)
     (written : (k : ℕ) → times k ws ≡ 0 → m1 k ≡ m k) (inside : (k : ℕ) → Has ws k → Has (frame_at o.sizes (contents m) o.id) k) where
   abbrev whole : List ℕ
   whole = whole_at o.sizes (contents m) o.id
@@ -67,12 +65,9 @@ module _ (o : Origin) (v now : Room) (run : Run) (m m1 : ℕ → Option (List �
   fits_written = fits_same v m m1 bits_stay owns.fits
 
   module _ (levels1 : levels_at o.sizes (contents m1) o.id ≡ l) (sound : HasLevels o.sizes l) (places : places_at o.sizes (contents m) o.id ≡ places_of o.sizes l ++ gone)
-      (same : AreSame (whole_at o.sizes (contents m) o.id) (run_blocks o.sizes run ++ ((o.id ∷ arrays_of o.sizes l) ++ places_of o.sizes l)))
+      (same : AreSame (whole_at o.sizes (contents m) o.id) (hand ++ ((o.id ∷ arrays_of o.sizes l) ++ places_of o.sizes l)))
       (keeps : (k : ℕ) → Has (o.id ∷ arrays_of o.sizes l) k → Has (frame_at o.sizes (contents m) o.id) k) (are_told : AreTold m1 (o.id ∷ arrays_of o.sizes l))
-      (rest_kept : KeepsRest (contents m o.id) (contents m1 o.id)) (gave : Gave o.sizes v now run m1 told) (rest : now ≡ record v { given = now.given; tally = now.tally }) where
-    abbrev hand : List ℕ
-    hand = run_blocks o.sizes run
-
+      (rest_kept : KeepsRest (contents m o.id) (contents m1 o.id)) (gave : Gave v now hand m1 told) (rest : now ≡ record v { given = now.given; tally = now.tally }) where
     abbrev left : List ℕ
     left = (o.id ∷ arrays_of o.sizes l) ++ places_of o.sizes l
 
@@ -142,8 +137,8 @@ module _ (o : Origin) (v now : Room) (run : Run) (m m1 : ℕ → Option (List �
       fits = gave.fits;
     }
 
-    pub trimmed_is : (old new : ℕ → Bool) → AreWritten v old new ws → Trimmed o v now m gone told old new
-    trimmed_is old new changed = record {
+    pub trimmed_is : ((k : ℕ) → Has ws k → Has (o.id ∷ arrays_of o.sizes l) k) → (old new : ℕ → Bool) → AreWritten v old new ws → Trimmed o v now m gone told old new
+    trimmed_is still old new changed = record {
       map = gave.map;
       is = gave.is;
       owns = owns_now;
@@ -153,23 +148,17 @@ module _ (o : Origin) (v now : Room) (run : Run) (m m1 : ℕ → Option (List �
       reserved = λ k. reserved_now k ∙ ap (λ (x : Levels). is_reserved v.given k || ((times k ((o.id ∷ arrays_of o.sizes x) ++ places_of o.sizes x) == 0) && not (times k whole == 0))) (sym levels_now);
       marks = λ k low. marks_now k low ∙ ap (λ (x : Levels). cond ((times k ((o.id ∷ arrays_of o.sizes x) ++ places_of o.sizes x) == 0) && not (times k whole == 0)) 0 (marked (per_block v) m k)) (sym levels_now);
       free = free_given;
-      others = λ k out none. gave.others k out ∙ written k (none_of k none);
-      first = λ none. gave.first ∙ written 0 (none_of 0 none);
-      written = λ k e. by_side k (changed k e);
+      touched = ws;
+      still = λ k has. subst (λ (x : Levels). Has (o.id ∷ arrays_of o.sizes x) k) (sym levels_now) (still k has);
+      others = λ k out none. gave.others k out ∙ written k none;
+      first = λ none. gave.first ∙ written 0 none;
+      written = changed;
       kept = subst (λ (x : Option (List ℕ)). KeepsRest (contents m o.id) (unwrap_or x [])) (sym (stays o.id (frame_left o.id own))) rest_kept;
     }
       where
         own : Has (o.id ∷ arrays_of o.sizes l) o.id
         own = has_first o.id (arrays_of o.sizes l)
 
-        none_of : (k : ℕ) → times k (frame_at o.sizes (contents m) o.id) ≡ 0 → times k ws ≡ 0
-        none_of k none = by_count (times k ws) refl
-          where
-            by_count : (n : ℕ) → times k ws ≡ n → times k ws ≡ 0
-            by_count zero e = e
-            by_count (suc n) e = let some : 0 < times k (frame_at o.sizes (contents m) o.id) = inside k (let h : 0 < times k ws = omega (arith, e) in h) in absurd (omega (arith, some, none))
-
-        by_side : (k : ℕ) → (old k ≡ true) ⊎ (IsBitmapBlock v k ⊎ Has ws k) → (old k ≡ true) ⊎ (IsBitmapBlock v k ⊎ Has (frame_at o.sizes (contents m) o.id) k)
-        by_side k (inl before) = inl before
-        by_side k (inr (inl bits)) = inr (inl bits)
-        by_side k (inr (inr has)) = inr (inr (inside k has))
+    pub touched_is : (still : (k : ℕ) → Has ws k → Has (o.id ∷ arrays_of o.sizes l) k) (old new : ℕ → Bool) (changed : AreWritten v old new ws) → (trimmed_is still old new changed).touched ≡ ws
+    unfolding trimmed_is
+    touched_is still old new changed = refl

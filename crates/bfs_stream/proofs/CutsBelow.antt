@@ -12,7 +12,7 @@ use Rattle.bfs_stream.specs.Sizes.{Origin, IsWhole, first_block}
 use Rattle.bfs_stream.specs.Places.{Levels, run_blocks, blocks_of, used_runs, array_runs, level_blocks, level_end, arrays_of, fields, second_arrays, levels_at, arrays_at, places_at, frame_at, whole_at}
 use Rattle.bfs_stream.specs.Told.{contents, AreTold}
 use Rattle.bfs_stream.specs.Grown.{Owns, HasFields, HasTables, HasPutBelow, table_runs, AreWritten, KeepsRest}
-use Rattle.bfs_stream.specs.Trimmed.{Gave, Trimmed}
+use Rattle.bfs_stream.specs.Trimmed.{Gave, Trimmed, KeepsLevels}
 use Rattle.bfs_stream.proofs.Doubles.{times-append}
 use Rattle.bfs_stream.proofs.Levels.{length-counted}
 use Rattle.bfs_stream.proofs.Placed.{length-places}
@@ -179,13 +179,17 @@ module _ (o : Origin) (v : Room) (array : Run) (m : ℕ → Option (List ℕ)) (
         inside_none some = absurd (omega (arith, some, zero_len))
 
         pub fits_now : Fits v (with_block o.id wrote.bytes put.map)
-        fits_now = fits_before o v now last m m1 told3 ws next owns written inside_frame
+        fits_now = fits_before o v now (run_blocks o.sizes last) m m1 told3 ws next owns written inside_frame
 
         arrays_stay : arrays_of o.sizes next ≡ arrays_at o.sizes (contents m) o.id
         unfolding arrays_of
         arrays_stay = refl
 
-        pub cut : (old new : ℕ → Bool) → Gave o.sizes v now last (with_block o.id wrote.bytes put.map) told3 → now ≡ record v { given = now.given; tally = now.tally } → AreWritten v old new (o.id ∷ listed_blocks o m) → Trimmed o v now m (run_blocks o.sizes last) told3 old new
+        next_keeps : KeepsLevels (levels_at o.sizes (contents m) o.id) next
+        next_keeps = record { indirect = refl; double = refl; arrays = refl; direct = λ some. refl; table = λ some. refl }
+
+        pub cut : (old new : ℕ → Bool) → Gave v now (run_blocks o.sizes last) (with_block o.id wrote.bytes put.map) told3 → now ≡ record v { given = now.given; tally = now.tally } → AreWritten v old new (o.id ∷ listed_blocks o m)
+            → (t : Trimmed o v now m (run_blocks o.sizes last) told3 old new) × KeepsLevels (levels_at o.sizes (contents m) o.id) (levels_at o.sizes (contents t.map) o.id)
         cut old new gave rest changes =
-            blocks_cut o v now last m m1 told3 ws next owns written inside_frame levels_are (runs_sound o.sizes l front last none last owns.stands.sound is_now parts inside_none size) told_ws rest_now
-            (runs_places o.sizes l front last none last owns.stands.sound is_now parts inside_none size) arrays_stay old new gave rest changes
+            blocks_cut o v now (run_blocks o.sizes last) m m1 told3 ws next owns written inside_frame levels_are (runs_sound o.sizes l front last none last owns.stands.sound is_now parts inside_none size) told_ws rest_now
+            (runs_places o.sizes l front last none last owns.stands.sound is_now parts inside_none size) arrays_stay next_keeps old new gave rest changes

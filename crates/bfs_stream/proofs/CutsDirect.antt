@@ -1,5 +1,5 @@
 -- The last direct run was shortened or ended, and what is gone of it given back.
-use Rattle.std.proofs.Common.{◌≡◌, ◌≤◌, ◌<◌, ◌+◌, ◌-◌, ◌*◌, ◌∙◌, ℕ, zero, suc, pos, List, [], ◌∷◌, ◌++◌, length, take, set, get_or, Bool, true, cond, Option, Some, unwrap_or, refl, sym, ap, subst, arith, length-append}
+use Rattle.std.proofs.Common.{◌≡◌, ◌≤◌, ◌<◌, ◌+◌, ◌-◌, ◌*◌, ◌∙◌, ◌⊎◌, inl, inr, ℕ, zero, suc, pos, List, [], ◌∷◌, ◌++◌, length, take, set, get_or, Bool, true, cond, Option, Some, unwrap_or, refl, sym, ap, subst, arith, length-append}
 use Rattle.std.specs.Prelude.{◌==◌, IsSome, All, slice_get}
 use Rattle.std.specs.List.{flat_map}
 use Rattle.std.proofs.lemmas.Option.{get_or_from_slice_get}
@@ -13,7 +13,7 @@ use Rattle.bfs_stream.specs.Sizes.{Origin, IsInVolume, first_block}
 use Rattle.bfs_stream.specs.Places.{Levels, run_blocks, blocks_of, used_runs, array_runs, level_blocks, arrays_of, places_of, fields, second_arrays, levels_at, arrays_at, places_at, frame_at, whole_at, HasLevels}
 use Rattle.bfs_stream.specs.Told.{contents, AreTold}
 use Rattle.bfs_stream.specs.Grown.{Owns, AreWritten, KeepsRest}
-use Rattle.bfs_stream.specs.Trimmed.{Gave, Trimmed, HasNoArrays}
+use Rattle.bfs_stream.specs.Trimmed.{Gave, Trimmed, KeepsLevels, HasNoArrays}
 use Rattle.bfs_stream.proofs.Levels.{length-counted}
 use Rattle.bfs_stream.proofs.Placed.{length-places}
 use Rattle.bfs_stream.proofs.Appends.{appended_blocks}
@@ -21,7 +21,7 @@ use Rattle.bfs_stream.proofs.Doubles.{times-append, used_at, all_at}
 use Rattle.bfs_stream.proofs.Frames.{has_left, levels_but}
 use Rattle.bfs_stream.proofs.AddsDirect.{apart_test, same_test, is_test, no_runs_in}
 use Rattle.bfs_stream.proofs.AddsIndirect.{inode_apart}
-use Rattle.bfs_stream.proofs.Cuts.{fits_written, trimmed_is}
+use Rattle.bfs_stream.proofs.Cutting.{fits_before, blocks_cut}
 use Rattle.bfs_stream.proofs.Shorter.{split_last, used_some, cut_direct, cut_places, cut_arrays, cut_sound}
 
 -- a stream without arrays has the blocks of its direct runs alone
@@ -92,34 +92,29 @@ module _ (o : Origin) (v now : Room) (last r gone : Run) (front : List Run) (m :
   next_arrays : arrays_of o.sizes next ≡ arrays_at o.sizes (contents m) o.id
   next_arrays = cut_arrays o.sizes l front last r gone owns.stands.sound is parts inside (no_table o m none) (no_runs o m none) none.0 none.1 size
 
-  same : AreSame (whole_at o.sizes (contents m) o.id) (run_blocks o.sizes gone ++ ((o.id ∷ arrays_of o.sizes next) ++ places_of o.sizes next))
-  same k =
-      let frame : List ℕ = frame_at o.sizes (contents m) o.id in
-      let a : times k (whole_at o.sizes (contents m) o.id) ≡ times k frame + times k (places_at o.sizes (contents m) o.id) = times-append k frame (places_at o.sizes (contents m) o.id) in
-      let b : times k (places_at o.sizes (contents m) o.id) ≡ times k (places_of o.sizes next) + times k (run_blocks o.sizes gone) = ap (times k) next_places ∙ times-append k (places_of o.sizes next) (run_blocks o.sizes gone) in
-      let c : times k (o.id ∷ arrays_of o.sizes next) ≡ times k frame = ap (λ (x : List ℕ). times k (o.id ∷ x)) next_arrays in
-      let d : times k (run_blocks o.sizes gone ++ ((o.id ∷ arrays_of o.sizes next) ++ places_of o.sizes next)) ≡ times k (run_blocks o.sizes gone) + (times k (o.id ∷ arrays_of o.sizes next) + times k (places_of o.sizes next)) =
-      times-append k (run_blocks o.sizes gone) ((o.id ∷ arrays_of o.sizes next) ++ places_of o.sizes next) ∙ ap (λ (n : ℕ). times k (run_blocks o.sizes gone) + n) (times-append k (o.id ∷ arrays_of o.sizes next) (places_of o.sizes next)) in
-      a ∙ (let e : times k frame + times k (places_at o.sizes (contents m) o.id) ≡ times k (run_blocks o.sizes gone) + (times k (o.id ∷ arrays_of o.sizes next) + times k (places_of o.sizes next)) = omega (arith, b, c) in e) ∙ sym d
-
-  keeps : (k : ℕ) → Has (o.id ∷ arrays_of o.sizes next) k → Has (frame_at o.sizes (contents m) o.id) k
-  keeps k has = subst (λ (x : List ℕ). Has (o.id ∷ x) k) next_arrays has
-
-  told_now : AreTold m1 (o.id ∷ arrays_of o.sizes next)
-  told_now k has = by_count (times k (o.id ∷ [])) refl
+  told_ws : (k : ℕ) → Has (o.id ∷ []) k → IsSome (m1 k)
+  told_ws k has = by_count (times k (o.id ∷ [])) refl
     where
       by_count : (n : ℕ) → times k (o.id ∷ []) ≡ n → IsSome (m1 k)
-      by_count zero e = subst (λ (x : Option (List ℕ)). IsSome x) (sym (written k e)) (owns.stands.told k (keeps k has))
+      by_count zero e = let some : 0 < times k (o.id ∷ []) = has in absurd (omega (arith, some, e))
       by_count (suc n) e = subst (λ (x : Option (List ℕ)). IsSome x) (sym (ap (λ (b : Bool). cond b (Some bytes2) (m k)) (is_test k o.id n e))) refl
+
+  no_array : (0 < (fields o.sizes (contents m) o.id).indirect.len) ⊎ (0 < (fields o.sizes (contents m) o.id).double_indirect.len) → ⊥
+  no_array (inl some) = let e : (fields o.sizes (contents m) o.id).indirect.len ≡ 0 = none.0 in omega (arith, some, e)
+  no_array (inr some) = let e : (fields o.sizes (contents m) o.id).double_indirect.len ≡ 0 = none.1 in omega (arith, some, e)
+
+  next_keeps : KeepsLevels (levels_at o.sizes (contents m) o.id) next
+  next_keeps = record { indirect = refl; double = refl; arrays = refl; direct = λ some. absurd (no_array some); table = λ some. absurd (no_array (inr some)) }
 
   -- the bitmap fits when the run is given back
   pub fits_now : Fits v (with_block o.id bytes2 m)
-  fits_now = fits_written o v now gone m m1 told2 (o.id ∷ []) (run_blocks o.sizes gone) next owns written inside_frame
+  fits_now = fits_before o v now (run_blocks o.sizes gone) m m1 told2 (o.id ∷ []) next owns written inside_frame
 
-  pub cut : (old new : ℕ → Bool) → Gave o.sizes v now gone (with_block o.id bytes2 m) told2 → now ≡ record v { given = now.given; tally = now.tally } → AreWritten v old new (o.id ∷ []) → Trimmed o v now m (run_blocks o.sizes gone) told2 old new
+  pub cut : (old new : ℕ → Bool) → Gave v now (run_blocks o.sizes gone) (with_block o.id bytes2 m) told2 → now ≡ record v { given = now.given; tally = now.tally } → AreWritten v old new (o.id ∷ [])
+      → (t : Trimmed o v now m (run_blocks o.sizes gone) told2 old new) × KeepsLevels (levels_at o.sizes (contents m) o.id) (levels_at o.sizes (contents t.map) o.id)
   cut old new gave rest changes =
-      trimmed_is o v now gone m m1 told2 (o.id ∷ []) (run_blocks o.sizes gone) next owns written inside_frame levels_are next_sound next_places same keeps told_now
-      (subst (λ (b : List ℕ). KeepsRest (contents m o.id) b) (sym here) kept) gave rest old new changes
+      blocks_cut o v now (run_blocks o.sizes gone) m m1 told2 (o.id ∷ []) next owns written inside_frame levels_are next_sound told_ws (subst (λ (b : List ℕ). KeepsRest (contents m o.id) b) (sym here) kept)
+      next_places next_arrays next_keeps old new gave rest changes
 
 -- the last direct run as it was read
 module _ (o : Origin) (m : ℕ → Option (List ℕ)) (bytes : List ℕ) (used : ℕ) (last : Run) (read : bytes ≡ contents m o.id) (used_is : used ≡ length (used_runs (stream_at bytes).direct)) (one : 1 ≤ used) (is : last ≡ get_or (stream_at bytes).direct (used - 1) last) where

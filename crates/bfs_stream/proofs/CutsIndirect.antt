@@ -12,7 +12,7 @@ use Rattle.bfs_stream.specs.Sizes.{Sizes, Origin, IsInVolume, first_block}
 use Rattle.bfs_stream.specs.Places.{Levels, run_blocks, blocks_of, used_runs, array_runs, level_blocks, level_end, arrays_of, fields, second_arrays, levels_at, arrays_at, places_at, frame_at}
 use Rattle.bfs_stream.specs.Told.{contents}
 use Rattle.bfs_stream.specs.Grown.{Owns, HasPut, HasFields, AreWritten, KeepsRest}
-use Rattle.bfs_stream.specs.Trimmed.{Gave, Trimmed}
+use Rattle.bfs_stream.specs.Trimmed.{Gave, Trimmed, KeepsLevels}
 use Rattle.bfs_stream.proofs.Levels.{length-counted}
 use Rattle.bfs_stream.proofs.Placed.{length-places}
 use Rattle.bfs_stream.proofs.Appends.{appended_blocks}
@@ -205,14 +205,18 @@ module _ (o : Origin) (v now : Room) (last r gone array : Run) (front : List Run
     rest_now = subst (λ (x : Option (List ℕ)). KeepsRest (unwrap_or x []) (contents m1 o.id)) inode_same (subst (λ (b : List ℕ). KeepsRest (contents put.map o.id) b) (sym here) wrote.kept)
 
     pub fits_now : Fits v (with_block o.id wrote.bytes put.map)
-    fits_now = fits_before o v now gone m m1 told3 ws next owns written inside_frame
+    fits_now = fits_before o v now (run_blocks o.sizes gone) m m1 told3 ws next owns written inside_frame
 
     arrays_stay : arrays_of o.sizes next ≡ arrays_at o.sizes (contents m) o.id
     unfolding arrays_of
     arrays_stay = refl
 
-    pub cut : (old new : ℕ → Bool) → Gave o.sizes v now gone (with_block o.id wrote.bytes put.map) told3 → now ≡ record v { given = now.given; tally = now.tally } → AreWritten v old new (o.id ∷ run_blocks o.sizes array) → Trimmed o v now m (run_blocks o.sizes gone) told3 old new
+    next_keeps : KeepsLevels (levels_at o.sizes (contents m) o.id) next
+    next_keeps = record { indirect = refl; double = refl; arrays = refl; direct = λ some. refl; table = λ some. absurd (omega (arith, some, none)) }
+
+    pub cut : (old new : ℕ → Bool) → Gave v now (run_blocks o.sizes gone) (with_block o.id wrote.bytes put.map) told3 → now ≡ record v { given = now.given; tally = now.tally } → AreWritten v old new (o.id ∷ run_blocks o.sizes array)
+        → (t : Trimmed o v now m (run_blocks o.sizes gone) told3 old new) × KeepsLevels (levels_at o.sizes (contents m) o.id) (levels_at o.sizes (contents t.map) o.id)
     cut old new gave rest changes =
-        blocks_cut o v now gone m m1 told3 ws next owns written inside_frame levels_are
+        blocks_cut o v now (run_blocks o.sizes gone) m m1 told3 ws next owns written inside_frame levels_are
         (table_sound o.sizes l front last r gone owns.stands.sound is parts inside (nothing_second o m none) none size) told_ws rest_now
-        (table_places o.sizes l front last r gone owns.stands.sound is parts inside (nothing_second o m none) none size) arrays_stay old new gave rest changes
+        (table_places o.sizes l front last r gone owns.stands.sound is parts inside (nothing_second o m none) none size) arrays_stay next_keeps old new gave rest changes

@@ -51,7 +51,7 @@ reserved_more [] g k = or_none (in_run g.first g.len k)
 reserved_more (h ∷ gs) g k = ap (λ (b : Bool). in_run h.first h.len k || b) (reserved_more gs g k) ∙ or_assoc (in_run h.first h.len k) (is_reserved gs k) (in_run g.first g.len k)
 
 pub gave_is : (s : Sizes) (v now : Room) (run : Run) (m : ℕ → Option (List ℕ)) (told : Option (ℕ → Option (List ℕ))) → IsOfVolume s v → now.given ≡ v.given ++ (record { first = first_of v run; len = run.len; group = None; kept = false }) ∷ []
-    → IsMarked v now (first_of v run) run.len 0 m told → Gave s v now run m told
+    → IsMarked v now (first_of v run) run.len 0 m told → Gave v now (run_blocks s run) m told
 gave_is s v now run m told volume given mark =
     let first : first_block s run ≡ first_of v run = ap (λ (n : ℕ). natural run.group * n + run.start) (sym volume.group_blocks) in
     let blocks : run_blocks s run ≡ counted_from (first_of v run) run.len = ap (λ (n : ℕ). counted_from n run.len) first in record {

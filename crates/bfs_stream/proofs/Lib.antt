@@ -37,6 +37,11 @@ pub mod Shrinks
 pub mod Cutting
 pub mod CutsIndirect
 pub mod CutsBelow
-pub mod Closes
+pub mod Gives
+pub mod Handed
+pub mod Drops
+pub mod Dropping
 pub mod CutTwice
 pub mod CutOthers
+pub mod Emptied
+pub mod Lasts

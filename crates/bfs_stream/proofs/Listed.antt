@@ -36,7 +36,7 @@ module _ (o : Origin) (m : ℕ → Option (List ℕ)) (stands : Stands o m) wher
       let parts = frame_parts o m k in
       stands.told k (let h : 0 < times k (frame_at o.sizes (contents m) o.id) = omega (arith, some, parts) in h)
 
-  double_long : length (double_blocks o.sizes (contents m) o.id) ≡ array_length o.sizes * length (double_runs o.sizes (contents m) o.id)
+  pub double_long : length (double_blocks o.sizes (contents m) o.id) ≡ array_length o.sizes * length (double_runs o.sizes (contents m) o.id)
   unfolding level_blocks
   double_long = length-flat (run_blocks o.sizes) (array_length o.sizes) (double_runs o.sizes (contents m) o.id) (λ i d h. length-counted (first_block o.sizes (get_or (double_runs o.sizes (contents m) o.id) i d)) (get_or (double_runs o.sizes (contents m) o.id) i d).len ∙ (stands.sound.in_double i d h).long)
 

@@ -2,7 +2,7 @@
 ghost use Rattle.std.specs.Prelude.{◌≡◌, ◌<◌, ◌≤◌, ◌⊎◌, ◌+◌, ◌-◌, ◌*◌, ◌/◌, ◌^◌, ℕ, pos, List, [], length, slice_set, slice_get, Option, Some, OnOk, IfOk, IfErr, true};
 ghost use Rattle.bfs_inode.specs.Inode.{stream_at};
 ghost use Rattle.bfs_txn.specs.Faults.{AreLater, IsCaused};
-ghost use Rattle.bfs_bitmap.specs.Runs.{Fits};
+ghost use Rattle.bfs_bitmap.specs.Runs.{Fits, as_kept};
 ghost use Rattle.bfs_bitmap.specs.Fills.{IsBitmapBlock};
 ghost use Rattle.bfs_stream.specs.Sizes.{IsInVolume, IsWhole, array_length, runs_per_block, first_block};
 ghost use Rattle.bfs_stream.specs.Places.{fields, run_blocks, array_runs, used_runs};
@@ -10,7 +10,7 @@ ghost use Rattle.bfs_stream.specs.Told.{contents, AreTold};
 ghost use Rattle.bfs_stream.specs.Scans.{IsDamage};
 ghost use Rattle.bfs_stream.specs.Faults.{IsCauseIn};
 ghost use Rattle.bfs_stream.specs.Grown.{IsOfVolume, Owns, KeepsRest, IsTable, AreTables, HasTables, table_runs};
-ghost use Rattle.bfs_stream.specs.Trimmed.{Gave, HasTrimmed, HasNoArrays, MayLose};
+ghost use Rattle.bfs_stream.specs.Trimmed.{Gave, HasCut, HasNoArrays, MayLose};
 
 use crate::Stream;
 use crate::grow::{MOST_BLOCKS, NO_RUN, Table, Tables};
@@ -31,8 +31,9 @@ impl Stream {
         requires size { E.size edits.old ≡ bitmap.old.block_size }
         requires volume { IsOfVolume self.now.sizes bitmap.old }
         requires inside { IsInVolume self.now.sizes run }
-        ensures gave { (m : ℕ → Option (List ℕ)) → E.told edits.old ≡ Some m → Fits bitmap.old m → OnOk result (Gave self.now.sizes bitmap.old bitmap.new run m (E.told edits.new)) }
+        ensures gave { (m : ℕ → Option (List ℕ)) → E.told edits.old ≡ Some m → Fits bitmap.old m → OnOk result (Gave bitmap.old bitmap.new (run_blocks self.now.sizes run) m (E.told edits.new)) }
         ensures rest { bitmap.new ≡ record bitmap.old { given = bitmap.new.given; tally = bitmap.new.tally } }
+        ensures kept { as_kept bitmap.new ≡ as_kept bitmap.old }
         ensures changed { (k : ℕ) → E.changed edits.new k ≡ true → (E.changed edits.old k ≡ true) ⊎ IsBitmapBlock bitmap.old k }
         ensures size { E.size edits.new ≡ E.size edits.old }
         ensures frame { E.frame edits.new ≡ E.frame edits.old }
@@ -103,11 +104,12 @@ impl Stream {
         requires volume { IsOfVolume self.now.sizes bitmap.old }
         requires used { (1 ≤ used) × (used ≤ 12) }
         requires some { 1 ≤ most }
-        ensures trimmed { (m : ℕ → Option (List ℕ)) → E.told edits.old ≡ Some m → Owns self.now bitmap.old [] m → bytes.old ≡ contents m self.now.id → used ≡ length (used_runs (stream_at bytes.old).direct) → HasNoArrays self.now m → MayLose self.now m most → IfOk result (λ n. HasTrimmed self.now bitmap.old bitmap.new m n (E.told edits.new) (E.changed edits.old) (E.changed edits.new)) }
+        ensures trimmed { (m : ℕ → Option (List ℕ)) → E.told edits.old ≡ Some m → Owns self.now bitmap.old [] m → bytes.old ≡ contents m self.now.id → used ≡ length (used_runs (stream_at bytes.old).direct) → HasNoArrays self.now m → MayLose self.now m most → IfOk result (λ n. HasCut self.now bitmap.old bitmap.new m n (E.told edits.new) (E.changed edits.old) (E.changed edits.new)) }
         ensures sound { (m : ℕ → Option (List ℕ)) → E.told edits.old ≡ Some m → Owns self.now bitmap.old [] m → bytes.old ≡ contents m self.now.id → used ≡ length (used_runs (stream_at bytes.old).direct) → IfErr result (λ fault. ¬ IsDamage fault) }
         ensures some { IfOk result (λ n. 1 ≤ n) }
         ensures most { IfOk result (λ n. n ≤ most) }
         ensures rest { bitmap.new ≡ record bitmap.old { given = bitmap.new.given; tally = bitmap.new.tally } }
+        ensures kept { as_kept bitmap.new ≡ as_kept bitmap.old }
         ensures changed { (k : ℕ) → E.changed edits.new k ≡ true → (E.changed edits.old k ≡ true) ⊎ (IsBitmapBlock bitmap.old k ⊎ (k < self.now.sizes.blocks)) }
         ensures size { E.size edits.new ≡ E.size edits.old }
         ensures frame { E.frame edits.new ≡ E.frame edits.old }
@@ -141,7 +143,7 @@ impl Stream {
 
 impl Stream {
     /// The run at a place of an array.
-    fn run_in<B: Blocks>(
+    pub(crate) fn run_in<B: Blocks>(
         &self,
         under: &mut B,
         bytes: &mut [u8],
@@ -185,12 +187,13 @@ impl Stream {
         requires used { (1 ≤ table.used) × (table.used ≤ table.array.len * runs_per_block self.now.sizes) }
         requires few { table.blocks ≤ 2 ^ 44 }
         requires some { 1 ≤ most }
-        ensures trimmed { (m : ℕ → Option (List ℕ)) → E.told edits.old ≡ Some m → Owns self.now bitmap.old [] m → IsTable self.now m table → (fields self.now.sizes (contents m) self.now.id).double_indirect.len ≡ 0 → MayLose self.now m most → IfOk result (λ n. HasTrimmed self.now bitmap.old bitmap.new m n (E.told edits.new) (E.changed edits.old) (E.changed edits.new)) }
+        ensures trimmed { (m : ℕ → Option (List ℕ)) → E.told edits.old ≡ Some m → Owns self.now bitmap.old [] m → IsTable self.now m table → (fields self.now.sizes (contents m) self.now.id).double_indirect.len ≡ 0 → MayLose self.now m most → IfOk result (λ n. HasCut self.now bitmap.old bitmap.new m n (E.told edits.new) (E.changed edits.old) (E.changed edits.new)) }
         ensures sound { (m : ℕ → Option (List ℕ)) → E.told edits.old ≡ Some m → Owns self.now bitmap.old [] m → IsTable self.now m table → IfErr result (λ fault. ¬ IsDamage fault) }
         ensures some { IfOk result (λ n. 1 ≤ n) }
         ensures most { IfOk result (λ n. n ≤ most) }
         ensures length { length bytes.new ≡ self.now.sizes.block_size }
         ensures rest { bitmap.new ≡ record bitmap.old { given = bitmap.new.given; tally = bitmap.new.tally } }
+        ensures kept { as_kept bitmap.new ≡ as_kept bitmap.old }
         ensures changed { (k : ℕ) → E.changed edits.new k ≡ true → (E.changed edits.old k ≡ true) ⊎ (IsBitmapBlock bitmap.old k ⊎ (k < self.now.sizes.blocks)) }
         ensures size { E.size edits.new ≡ E.size edits.old }
         ensures frame { E.frame edits.new ≡ E.frame edits.old }
@@ -228,7 +231,7 @@ impl Stream {
 
 impl Stream {
     /// The run at a place of the tables that an array lists.
-    fn run_below<B: Blocks>(
+    pub(crate) fn run_below<B: Blocks>(
         &self,
         under: &mut B,
         bytes: &mut [u8],
@@ -276,11 +279,12 @@ impl Stream {
         requires listed { tables.listed ≤ array_length self.now.sizes * runs_per_block self.now.sizes }
         requires used { (1 ≤ tables.used) × (tables.used ≤ tables.listed * (array_length self.now.sizes * runs_per_block self.now.sizes)) }
         requires few { tables.blocks ≤ 2 ^ 44 }
-        ensures trimmed { (m : ℕ → Option (List ℕ)) → E.told edits.old ≡ Some m → Owns self.now bitmap.old [] m → AreTables self.now m tables → MayLose self.now m (array_length self.now.sizes) → IfOk result (λ n. HasTrimmed self.now bitmap.old bitmap.new m n (E.told edits.new) (E.changed edits.old) (E.changed edits.new)) }
+        ensures trimmed { (m : ℕ → Option (List ℕ)) → E.told edits.old ≡ Some m → Owns self.now bitmap.old [] m → AreTables self.now m tables → MayLose self.now m (array_length self.now.sizes) → IfOk result (λ n. HasCut self.now bitmap.old bitmap.new m n (E.told edits.new) (E.changed edits.old) (E.changed edits.new)) }
         ensures sound { (m : ℕ → Option (List ℕ)) → E.told edits.old ≡ Some m → Owns self.now bitmap.old [] m → AreTables self.now m tables → IfErr result (λ fault. ¬ IsDamage fault) }
         ensures long { IfOk result (λ n. n ≡ array_length self.now.sizes) }
         ensures length { length bytes.new ≡ self.now.sizes.block_size }
         ensures rest { bitmap.new ≡ record bitmap.old { given = bitmap.new.given; tally = bitmap.new.tally } }
+        ensures kept { as_kept bitmap.new ≡ as_kept bitmap.old }
         ensures changed { (k : ℕ) → E.changed edits.new k ≡ true → (E.changed edits.old k ≡ true) ⊎ (IsBitmapBlock bitmap.old k ⊎ (k < self.now.sizes.blocks)) }
         ensures size { E.size edits.new ≡ E.size edits.old }
         ensures frame { E.frame edits.new ≡ E.frame edits.old }

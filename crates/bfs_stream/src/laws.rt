@@ -1,12 +1,13 @@
 // What a stream is made of stays where its blocks do.
-ghost use Rattle.std.specs.Prelude.{◌≡◌, ℕ, List, [], Bool, Option};
+ghost use Rattle.std.specs.Prelude.{◌≡◌, ◌<◌, ℕ, List, [], ◌∷◌, length, Bool, Option};
 ghost use Rattle.bfs_base.specs.Lists.{Agree};
 ghost use Rattle.bfs_bitmap.specs.Runs.{Room};
 ghost use Rattle.bfs_inode.specs.Inode.{stream_at};
 ghost use Rattle.bfs_stream.specs.Sizes.{Sizes, Origin};
-ghost use Rattle.bfs_stream.specs.Places.{levels_at, arrays_at, frame_at, whole_at, bytes_at};
+ghost use Rattle.bfs_stream.specs.Places.{levels_at, places_at, arrays_at, frame_at, whole_at, bytes_at};
 ghost use Rattle.bfs_stream.specs.Grown.{Owns, Grown, AreApart, HasStayed};
-ghost use Rattle.bfs_stream.specs.Trimmed.{Trimmed};
+ghost use Rattle.bfs_stream.specs.Trimmed.{Trimmed, HasTrimmedTo};
+ghost use Rattle.bfs_stream.specs.Told.{contents};
 
 /// Where two volumes agree at the inode and the array blocks of a stream, its levels are the same, and so are its blocks,
 /// its array blocks and whether it keeps the format. It is enough that they agree at the array blocks and at the stream's
@@ -25,4 +26,10 @@ pub fn others_stay()
 /// So does a stream that is cut.
 pub fn others_stay_cut()
     ensures { (o p : Origin) (v now : Room) (m : ℕ → Option (List ℕ)) (gone : List ℕ) (told : Option (ℕ → Option (List ℕ))) (old new : ℕ → Bool) (trimmed : Trimmed o v now m gone told old new) → now ≡ record v { given = now.given; tally = now.tally } → Owns p v [] m → AreApart o p m → HasStayed o p now m trimmed.map }
+{}
+
+/// A stream that was cut to nothing has its inode alone, and no arrays: so the inode is all that the cut wrote beside bits of
+/// the bitmap.
+pub fn emptied_streams()
+    ensures { (o : Origin) (v now : Room) (m : ℕ → Option (List ℕ)) (told : Option (ℕ → Option (List ℕ))) (old new : ℕ → Bool) (to : HasTrimmedTo o v now m 0 told old new) → 0 < length (places_at o.sizes (contents m) o.id) → frame_at o.sizes (contents to.trimmed.map) o.id ≡ o.id ∷ [] }
 {}

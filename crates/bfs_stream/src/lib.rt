@@ -2,9 +2,9 @@
 // bytes are, and when it keeps the format, stands in specs/Places.antt.
 #![tactic(auto)]
 
-mod close;
 mod count;
 mod cut;
+mod drop;
 mod fault;
 mod grow;
 mod laws;
@@ -15,7 +15,7 @@ mod stream;
 mod trim;
 
 pub use fault::{GrowFault, StreamFault};
-pub use laws::{others_stay, others_stay_cut, streams_stay};
+pub use laws::{emptied_streams, others_stay, others_stay_cut, streams_stay};
 pub use stream::Stream;
 
 #[cfg(test)]

@@ -392,6 +392,7 @@ impl Stream {
     /// The runs that an array has room for.
     pub(crate) fn table_length(&self) -> u64
         ensures value { result ≡ table_length self.now.sizes }
+        ensures some { 1 ≤ result }
         ensures few { result ≤ 4096 }
     {
         self.array_length() * self.runs_per_block()

@@ -6,7 +6,7 @@ use Rattle.bfs_txn.specs.Told.{AreOfBlock}
 use Rattle.bfs_stream.specs.Sizes.{Origin}
 use Rattle.bfs_stream.specs.Places.{fields}
 use Rattle.bfs_stream.specs.Told.{contents}
-use Rattle.bfs_stream.specs.Trimmed.{HasTrimmed}
+use Rattle.bfs_stream.specs.Trimmed.{HasCut}
 use Rattle.bfs_stream.proofs.Arrays.{read_is}
 use Rattle.bfs_stream.proofs.Placed.{told_inode}
 use Rattle.bfs_stream.proofs.stream.Stream.cut.Goals as goal
@@ -23,7 +23,7 @@ returns-then-double_indirect-eq0-clause-trimmed g c m is owns may =
     let e : c.double_indirect.result.len ≡ (fields o.sizes (contents m) o.id).double_indirect.len = ap (λ (r : Run). r.len) array_is in
     let zero = c.if-double_indirect-eq0.true in
     let empty : (fields o.sizes (contents m) o.id).double_indirect.len ≡ 0 = omega (arith, e, zero) in
-    subst (λ (f : ℕ → Bool). IfOk c.cut_front.result (λ k. HasTrimmed o v c.cut_front.new.bitmap m k (g.E.Blocks.told c.cut_front.new.edits) f (g.E.Blocks.changed c.cut_front.new.edits))) c.in-Ok.ensures.changed
+    subst (λ (f : ℕ → Bool). IfOk c.cut_front.result (λ k. HasCut o v c.cut_front.new.bitmap m k (g.E.Blocks.told c.cut_front.new.edits) f (g.E.Blocks.changed c.cut_front.new.edits))) c.in-Ok.ensures.changed
     (c.cut_front.ensures.trimmed m now_is owns empty may)
 
 pub returns-clause-trimmed : goal.returns-clause-trimmed
@@ -38,5 +38,5 @@ returns-clause-trimmed g c m is owns may =
     let e : c.double_indirect.result.len ≡ (fields o.sizes (contents m) o.id).double_indirect.len = ap (λ (r : Run). r.len) array_is in
     let zero = c.if-double_indirect-eq0.false in
     let some : 0 < (fields o.sizes (contents m) o.id).double_indirect.len = omega (arith, e, zero) in
-    subst (λ (f : ℕ → Bool). IfOk c.cut_tables.result (λ k. HasTrimmed o v c.cut_tables.new.bitmap m k (g.E.Blocks.told c.cut_tables.new.edits) f (g.E.Blocks.changed c.cut_tables.new.edits))) c.in-Ok.ensures.changed
+    subst (λ (f : ℕ → Bool). IfOk c.cut_tables.result (λ k. HasCut o v c.cut_tables.new.bitmap m k (g.E.Blocks.told c.cut_tables.new.edits) f (g.E.Blocks.changed c.cut_tables.new.edits))) c.in-Ok.ensures.changed
     (c.cut_tables.ensures.trimmed m now_is owns some may)

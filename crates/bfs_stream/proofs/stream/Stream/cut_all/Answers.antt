@@ -1,7 +1,7 @@
 use Rattle.std.proofs.Common.{◌≡◌, ◌∙◌, inl, ℕ, ap, sym, subst, refl}
 use Rattle.bfs_bitmap.specs.Runs.{Room}
 use Rattle.bfs_stream.specs.Grown.{IsOfVolume}
-use Rattle.bfs_stream.specs.Trimmed.{HasTrimmed}
+use Rattle.bfs_stream.specs.Trimmed.{HasCut}
 use Rattle.bfs_stream.proofs.Arrays.{later_twice}
 use Rattle.bfs_stream.proofs.Writes.{later_none}
 use Rattle.bfs_stream.proofs.CutTwice.{trimmed_so_none, trimmed_so_more, trimmed_so_far, changed_again}
@@ -13,8 +13,9 @@ loop-gone-init g c = record {
   size = refl;
   frame = refl;
   rest = refl;
+  kept = refl;
   volume = c.requires.volume;
-  trimmed = λ m is owns may. trimmed_so_none c.args.self.now c.args.bitmap.now m c.args.blocks (g.E.Blocks.told c.args.edits.now) (g.E.Blocks.changed c.args.edits.now) owns is may;
+  trimmed = λ m is owns may spare. trimmed_so_none c.args.self.now c.args.bitmap.now m c.args.blocks (g.E.Blocks.told c.args.edits.now) (g.E.Blocks.changed c.args.edits.now) owns is may spare;
   later = later_none (g.E.Blocks.counts c.args.edits.now);
   changed = λ k e. inl e;
 }
@@ -27,9 +28,10 @@ loop-gone-preserved g c =
       size = c.in-Ok.ensures.size ∙ c.loop-gone.invariant.size;
       frame = c.in-Ok.ensures.frame ∙ c.loop-gone.invariant.frame;
       rest = rest;
+      kept = c.in-Ok.ensures.kept ∙ c.loop-gone.invariant.kept;
       volume = subst (IsOfVolume c.args.self.now.sizes) (sym rest) (record { block_size = c.requires.volume.block_size; blocks = c.requires.volume.blocks; group_blocks = c.requires.volume.group_blocks });
-      trimmed = λ m is owns may.
-          let so_far = c.loop-gone.invariant.trimmed m is owns may in
+      trimmed = λ m is owns may spare.
+          let so_far = c.loop-gone.invariant.trimmed m is owns may spare in
           let step = c.in-Ok.ensures.trimmed so_far.trimmed.2.map so_far.trimmed.2.is so_far.trimmed.2.owns so_far.may in
           trimmed_so_more c.args.self.now c.args.bitmap.now c.loop-gone.bitmap c.cut.new.bitmap m c.args.blocks c.loop-gone.left c.less-left.result c.in-Ok.gone (g.E.Blocks.told c.loop-gone.edits) (g.E.Blocks.told c.cut.new.edits) (g.E.Blocks.changed c.args.edits.now) (g.E.Blocks.changed c.loop-gone.edits) (g.E.Blocks.changed c.cut.new.edits) so_far c.loop-gone.invariant.rest
           step c.less-left.ensures c.in-Ok.ensures.most;
@@ -38,11 +40,16 @@ loop-gone-preserved g c =
     }
 
 pub returns-then-gone-eq0-clause-trimmed : goal.returns-then-gone-eq0-clause-trimmed
-returns-then-gone-eq0-clause-trimmed g c m is owns may le =
+returns-then-gone-eq0-clause-trimmed g c m is owns may spare le =
     let o = c.args.self.now in
-    let so_far = c.loop-gone.invariant.trimmed m is owns may in
+    let so_far = c.loop-gone.invariant.trimmed m is owns may spare in
     let zero : c.in-Ok.gone ≡ 0 = c.if-gone-eq0.true in
-    let step = subst (λ (n : ℕ). HasTrimmed o c.loop-gone.bitmap c.cut.new.bitmap so_far.trimmed.2.map n (g.E.Blocks.told c.cut.new.edits) (g.E.Blocks.changed c.loop-gone.edits) (g.E.Blocks.changed c.cut.new.edits)) zero
+    let step = subst (λ (n : ℕ). HasCut o c.loop-gone.bitmap c.cut.new.bitmap so_far.trimmed.2.map n (g.E.Blocks.told c.cut.new.edits) (g.E.Blocks.changed c.loop-gone.edits) (g.E.Blocks.changed c.cut.new.edits)) zero
     (c.in-Ok.ensures.trimmed so_far.trimmed.2.map so_far.trimmed.2.is so_far.trimmed.2.owns so_far.may) in
-    let end = c.in-Ok.ensures.done so_far.trimmed.2.map so_far.trimmed.2.is so_far.trimmed.2.owns step.2.map step.2.is zero in
+    let end = c.in-Ok.ensures.done so_far.trimmed.2.map so_far.trimmed.2.is so_far.trimmed.2.owns so_far.spare step.0.2.map step.0.2.is zero in
     trimmed_so_far o c.args.bitmap.now c.loop-gone.bitmap c.cut.new.bitmap m c.args.blocks c.loop-gone.left (g.E.Blocks.told c.loop-gone.edits) (g.E.Blocks.told c.cut.new.edits) (g.E.Blocks.changed c.args.edits.now) (g.E.Blocks.changed c.loop-gone.edits) (g.E.Blocks.changed c.cut.new.edits) so_far c.loop-gone.invariant.rest step end le
+
+pub returns-in-Err-clause-sound : goal.returns-in-Err-clause-sound
+returns-in-Err-clause-sound g c m is owns may spare =
+    let so_far = c.loop-gone.invariant.trimmed m is owns may spare in
+    c.in-Err.ensures.sound so_far.trimmed.2.map so_far.trimmed.2.is so_far.trimmed.2.owns

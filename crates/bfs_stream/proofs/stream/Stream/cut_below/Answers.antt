@@ -75,14 +75,13 @@ returns-in-Ok-give-clause-trimmed g c m is owns tables may =
     let size = larger (natural (fields s (contents m) o.id).size) s.block_size (length (places_at s (contents m) o.id) - array_length s) (before + (length (blocks_of s front) + NO_RUN.len)) may (omega (arith, long, all, zero_len)) in
     let wrote = c.in-Ok-put_double_range.ensures.put put.map put.is (inode_told o v array m owns tables.0 front last split c.give.new.bitmap NO_RUN told1 told2 told3 left put) in
     let fits = fits_now o v array m owns tables.0 front last split c.give.new.bitmap NO_RUN told1 told2 told3 left put wrote zero_len left_is size in
-    let gave = c.in-Ok-give.ensures.gave (with_block o.id wrote.bytes put.map) wrote.is fits in (
-      run_blocks s last,
-      length-counted (first_block s last) last.len ∙ sym taken,
-      cut o v array m owns tables.0 front last split c.give.new.bitmap NO_RUN told1 told2 told3 left put wrote zero_len left_is size old new gave c.in-Ok-give.ensures.rest
-          (wrote_four v old (g.E.Blocks.changed c.run_below.new.under) (g.E.Blocks.changed c.put_below.new.edits) (g.E.Blocks.changed c.put_double_range.new.edits) new (o.id ∷ listed_blocks o m)
-          (wrote_none v old (g.E.Blocks.changed c.run_below.new.under) (o.id ∷ listed_blocks o m) c.in-Ok.ensures.changed)
-          (wrote_behind v (g.E.Blocks.changed c.run_below.new.under) (g.E.Blocks.changed c.put_below.new.edits) o.id (listed_blocks o m)
-          (λ k e. subst (λ (l : List Run). (g.E.Blocks.changed c.run_below.new.under k ≡ true) ⊎ Has (blocks_of s (used_runs l)) k) (arrays_are o v array m owns tables.0) (c.in-Ok-put_below.ensures.written m (c.in-Ok.ensures.told ∙ is) has inside k e)))
-          (wrote_first v (g.E.Blocks.changed c.put_below.new.edits) (g.E.Blocks.changed c.put_double_range.new.edits) o.id (listed_blocks o m) c.in-Ok-put_double_range.ensures.written)
-          (wrote_bits v (g.E.Blocks.changed c.put_double_range.new.edits) new (o.id ∷ listed_blocks o m) c.in-Ok-give.ensures.changed)),
-    )
+    let gave = c.in-Ok-give.ensures.gave (with_block o.id wrote.bytes put.map) wrote.is fits in
+    let done =
+    cut o v array m owns tables.0 front last split c.give.new.bitmap NO_RUN told1 told2 told3 left put wrote zero_len left_is size old new gave c.in-Ok-give.ensures.rest
+    (wrote_four v old (g.E.Blocks.changed c.run_below.new.under) (g.E.Blocks.changed c.put_below.new.edits) (g.E.Blocks.changed c.put_double_range.new.edits) new (o.id ∷ listed_blocks o m)
+    (wrote_none v old (g.E.Blocks.changed c.run_below.new.under) (o.id ∷ listed_blocks o m) c.in-Ok.ensures.changed)
+    (wrote_behind v (g.E.Blocks.changed c.run_below.new.under) (g.E.Blocks.changed c.put_below.new.edits) o.id (listed_blocks o m)
+    (λ k e. subst (λ (l : List Run). (g.E.Blocks.changed c.run_below.new.under k ≡ true) ⊎ Has (blocks_of s (used_runs l)) k) (arrays_are o v array m owns tables.0) (c.in-Ok-put_below.ensures.written m (c.in-Ok.ensures.told ∙ is) has inside k e)))
+    (wrote_first v (g.E.Blocks.changed c.put_below.new.edits) (g.E.Blocks.changed c.put_double_range.new.edits) o.id (listed_blocks o m) c.in-Ok-put_double_range.ensures.written)
+    (wrote_bits v (g.E.Blocks.changed c.put_double_range.new.edits) new (o.id ∷ listed_blocks o m) c.in-Ok-give.ensures.changed)) in
+    ((run_blocks s last, length-counted (first_block s last) last.len ∙ sym taken, done.0), done.1)

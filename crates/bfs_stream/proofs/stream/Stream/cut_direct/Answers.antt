@@ -72,12 +72,11 @@ returns-in-Ok-give-clause-trimmed g c m is owns read used none may =
     let now : g.E.Blocks.told c.set.new.self ≡ Some (with_block o.id c.put_last_direct.new.bytes m) =
     c.in-Ok.ensures.told ∙ ap (option_map (with_block c.self.inside.inode c.put_last_direct.new.bytes)) is ∙ ap (λ (k : ℕ). Some (with_block k c.put_last_direct.new.bytes m)) id in
     let fits = fits_now o c.args.bitmap.now c.give.new.bitmap c.direct-last.result part gone first m (g.E.Blocks.told c.give.new.edits) c.put_last_direct.new.bytes owns runs parts c.first_part-part.ensures.inside none size put kept in
-    let gave = c.in-Ok-give.ensures.gave (with_block o.id c.put_last_direct.new.bytes m) now fits in (
-      run_blocks s gone,
-      length-counted (first_block s gone) gone.len ∙ sym c.from-in-Ok-give.ensures,
-      cut o c.args.bitmap.now c.give.new.bitmap c.direct-last.result part gone first m (g.E.Blocks.told c.give.new.edits) c.put_last_direct.new.bytes owns runs parts c.first_part-part.ensures.inside none size put kept
-          (g.E.Blocks.changed c.args.edits.now) (g.E.Blocks.changed c.give.new.edits) gave c.in-Ok-give.ensures.rest
-          (wrote_twice c.args.bitmap.now (g.E.Blocks.changed c.args.edits.now) (g.E.Blocks.changed c.set.new.self) (g.E.Blocks.changed c.give.new.edits) (o.id ∷ [])
-          (wrote_set c.args.bitmap.now (g.E.Blocks.changed c.args.edits.now) (g.E.Blocks.changed c.set.new.self) c.self.inside.inode o.id id c.in-Ok.ensures.changed)
-          (wrote_bits c.args.bitmap.now (g.E.Blocks.changed c.set.new.self) (g.E.Blocks.changed c.give.new.edits) (o.id ∷ []) c.in-Ok-give.ensures.changed)),
-    )
+    let gave = c.in-Ok-give.ensures.gave (with_block o.id c.put_last_direct.new.bytes m) now fits in
+    let done =
+    cut o c.args.bitmap.now c.give.new.bitmap c.direct-last.result part gone first m (g.E.Blocks.told c.give.new.edits) c.put_last_direct.new.bytes owns runs parts c.first_part-part.ensures.inside none size put kept
+    (g.E.Blocks.changed c.args.edits.now) (g.E.Blocks.changed c.give.new.edits) gave c.in-Ok-give.ensures.rest
+    (wrote_twice c.args.bitmap.now (g.E.Blocks.changed c.args.edits.now) (g.E.Blocks.changed c.set.new.self) (g.E.Blocks.changed c.give.new.edits) (o.id ∷ [])
+    (wrote_set c.args.bitmap.now (g.E.Blocks.changed c.args.edits.now) (g.E.Blocks.changed c.set.new.self) c.self.inside.inode o.id id c.in-Ok.ensures.changed)
+    (wrote_bits c.args.bitmap.now (g.E.Blocks.changed c.set.new.self) (g.E.Blocks.changed c.give.new.edits) (o.id ∷ []) c.in-Ok-give.ensures.changed)) in
+    ((run_blocks s gone, length-counted (first_block s gone) gone.len ∙ sym c.from-in-Ok-give.ensures, done.0), done.1)

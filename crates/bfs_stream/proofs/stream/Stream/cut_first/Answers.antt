@@ -1,24 +1,23 @@
-use Rattle.std.proofs.Common.{◌≡◌, ◌∙◌, inl, inr, ℕ, List, [], Bool, ap, sym, subst, arith, Option}
+use Rattle.std.proofs.Common.{◌≡◌, ◌∙◌, inl, inr, ℕ, List, [], Bool, ap, sym, subst, arith}
 use Rattle.std.specs.Prelude.{length}
 use Rattle.std.proofs.lemmas.List.{append-nil}
 use Rattle.bfs_bytes.specs.declared.Run.{Run}
 use Rattle.bfs_inode.specs.Inode.{stream_at, runs_in}
 use Rattle.bfs_txn.specs.Told.{AreOfBlock}
-use Rattle.bfs_stream.proofs.AddsArray.{same_map}
 use Rattle.bfs_stream.specs.Sizes.{Origin}
 use Rattle.bfs_stream.specs.Places.{fields, used_runs}
 use Rattle.bfs_stream.specs.Told.{contents}
-use Rattle.bfs_stream.specs.Trimmed.{HasTrimmed, HasNoEmpty}
+use Rattle.bfs_stream.specs.Trimmed.{HasCut}
 use Rattle.bfs_stream.proofs.Arrays.{read_is}
 use Rattle.bfs_stream.proofs.Placed.{told_inode}
-use Rattle.bfs_stream.proofs.CutTwice.{has_trimmed_none, no_places, count_is, no_empty_none}
+use Rattle.bfs_stream.proofs.CutTwice.{has_cut_none, no_places, count_is}
 use Rattle.bfs_stream.proofs.stream.Stream.cut_first.Goals as goal
 
 pub returns-then-used-eq0-clause-trimmed : goal.returns-then-used-eq0-clause-trimmed
-returns-then-used-eq0-clause-trimmed g c m is owns none may = has_trimmed_none c.args.self.now c.args.bitmap.now m (g.E.Blocks.told c.get.new.self) (g.E.Blocks.changed c.args.edits.now) (g.E.Blocks.changed c.get.new.self) owns (c.in-Ok.ensures.told ∙ is) c.in-Ok.ensures.changed
+returns-then-used-eq0-clause-trimmed g c m is owns none may = has_cut_none c.args.self.now c.args.bitmap.now m (g.E.Blocks.told c.get.new.self) (g.E.Blocks.changed c.args.edits.now) (g.E.Blocks.changed c.get.new.self) owns (c.in-Ok.ensures.told ∙ is) c.in-Ok.ensures.changed
 
 pub returns-then-most-eq0-clause-trimmed : goal.returns-then-most-eq0-clause-trimmed
-returns-then-most-eq0-clause-trimmed g c m is owns none may = has_trimmed_none c.args.self.now c.args.bitmap.now m (g.E.Blocks.told c.get.new.self) (g.E.Blocks.changed c.args.edits.now) (g.E.Blocks.changed c.get.new.self) owns (c.in-Ok.ensures.told ∙ is) c.in-Ok.ensures.changed
+returns-then-most-eq0-clause-trimmed g c m is owns none may = has_cut_none c.args.self.now c.args.bitmap.now m (g.E.Blocks.told c.get.new.self) (g.E.Blocks.changed c.args.edits.now) (g.E.Blocks.changed c.get.new.self) owns (c.in-Ok.ensures.told ∙ is) c.in-Ok.ensures.changed
 
 pub returns-then-used-eq0-clause-done : goal.returns-then-used-eq0-clause-done
 returns-then-used-eq0-clause-done g c m is owns none now told_is zero =
@@ -34,7 +33,7 @@ returns-then-used-eq0-clause-done g c m is owns none now told_is zero =
     (λ h. ap (λ (l : List Run). length (used_runs l)) (sym (append-nil (runs_in 12 c.get.new.into 72))) ∙ c.count_used-used.ensures.all h [])) in
     let e = c.if-used-eq0.true in
     let empty : length (used_runs (fields o.sizes (contents m) o.id).direct) ≡ 0 = ap (λ (b : List ℕ). length (used_runs (stream_at b).direct)) (sym read) ∙ (let z : length (used_runs (stream_at c.get.new.into).direct) ≡ 0 = omega (arith, used_is, e) in z) in
-    record { why = inr (inl (no_places o m none empty)); empty = subst (λ (x : ℕ → Option (List ℕ)). HasNoEmpty o x) (same_map m now (g.E.Blocks.told c.get.new.self) (c.in-Ok.ensures.told ∙ is) told_is) (no_empty_none o m none) }
+    inr (inl (no_places o m none empty))
 
 pub returns-in-Ok-cut_direct-clause-trimmed : goal.returns-in-Ok-cut_direct-clause-trimmed
 returns-in-Ok-cut_direct-clause-trimmed g c m is owns none may =
@@ -48,7 +47,7 @@ returns-in-Ok-cut_direct-clause-trimmed g c m is owns none may =
     sym (count_is c.count_used-used.result (length (used_runs (stream_at c.get.new.into).direct)) c.count_used-used.ensures.few
     (λ h. ap (λ (l : List Run). length (used_runs l)) (sym (append-nil (runs_in 12 c.get.new.into 72))) ∙ c.count_used-used.ensures.ends h [])
     (λ h. ap (λ (l : List Run). length (used_runs l)) (sym (append-nil (runs_in 12 c.get.new.into 72))) ∙ c.count_used-used.ensures.all h [])) in
-    subst (λ (f : ℕ → Bool). HasTrimmed o v c.cut_direct.new.bitmap m c.in-Ok-cut_direct.gone (g.E.Blocks.told c.cut_direct.new.edits) f (g.E.Blocks.changed c.cut_direct.new.edits)) c.in-Ok.ensures.changed
+    subst (λ (f : ℕ → Bool). HasCut o v c.cut_direct.new.bitmap m c.in-Ok-cut_direct.gone (g.E.Blocks.told c.cut_direct.new.edits) f (g.E.Blocks.changed c.cut_direct.new.edits)) c.in-Ok.ensures.changed
     (c.in-Ok-cut_direct.ensures.trimmed m now_is owns read used_is none may)
 
 pub returns-in-Err-cut_direct-clause-sound : goal.returns-in-Err-cut_direct-clause-sound
@@ -67,4 +66,4 @@ returns-in-Err-cut_direct-clause-sound g c m is owns none =
 
 pub returns-then-most-eq0-clause-done : goal.returns-then-most-eq0-clause-done
 returns-then-most-eq0-clause-done g c m is owns none now told_is zero =
-    record { why = inl c.if-most-eq0.true; empty = subst (λ (x : ℕ → Option (List ℕ)). HasNoEmpty c.args.self.now x) (same_map m now (g.E.Blocks.told c.get.new.self) (c.in-Ok.ensures.told ∙ is) told_is) (no_empty_none c.args.self.now m none) }
+    inl c.if-most-eq0.true

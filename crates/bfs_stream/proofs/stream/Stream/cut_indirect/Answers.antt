@@ -66,13 +66,12 @@ returns-in-Ok-give-clause-trimmed g c m is owns table none may =
     let size = larger (natural (fields s (contents m) o.id).size) s.block_size (length (places_at s (contents m) o.id) - c.args.most) (before + (length (blocks_of s front) + part.len)) may (omega (arith, long, kept_long, value)) in
     let wrote = c.in-Ok-put_indirect_range.ensures.put put.map put.is (inode_told o v c.give.new.bitmap last part gone array front m told1 told2 told3 left owns table.0 split put) in
     let fits = fits_now o v c.give.new.bitmap last part gone array front m told1 told2 told3 left owns table.0 split put wrote parts c.first_part-part.ensures.inside none left_is size in
-    let gave = c.in-Ok-give.ensures.gave (with_block o.id wrote.bytes put.map) wrote.is fits in (
-      run_blocks s gone,
-      length-counted (first_block s gone) gone.len ∙ sym c.from-taken.ensures,
-      cut o v c.give.new.bitmap last part gone array front m told1 told2 told3 left owns table.0 split put wrote parts c.first_part-part.ensures.inside none left_is size old new gave c.in-Ok-give.ensures.rest
-          (wrote_four v old (g.E.Blocks.changed c.run_in.new.under) (g.E.Blocks.changed c.put_in_array.new.edits) (g.E.Blocks.changed c.put_indirect_range.new.edits) new (o.id ∷ run_blocks s array)
-          (wrote_none v old (g.E.Blocks.changed c.run_in.new.under) (o.id ∷ run_blocks s array) c.in-Ok.ensures.changed)
-          (wrote_behind v (g.E.Blocks.changed c.run_in.new.under) (g.E.Blocks.changed c.put_in_array.new.edits) o.id (run_blocks s array) c.in-Ok-put_in_array.ensures.written)
-          (wrote_first v (g.E.Blocks.changed c.put_in_array.new.edits) (g.E.Blocks.changed c.put_indirect_range.new.edits) o.id (run_blocks s array) c.in-Ok-put_indirect_range.ensures.written)
-          (wrote_bits v (g.E.Blocks.changed c.put_indirect_range.new.edits) new (o.id ∷ run_blocks s array) c.in-Ok-give.ensures.changed)),
-    )
+    let gave = c.in-Ok-give.ensures.gave (with_block o.id wrote.bytes put.map) wrote.is fits in
+    let done =
+    cut o v c.give.new.bitmap last part gone array front m told1 told2 told3 left owns table.0 split put wrote parts c.first_part-part.ensures.inside none left_is size old new gave c.in-Ok-give.ensures.rest
+    (wrote_four v old (g.E.Blocks.changed c.run_in.new.under) (g.E.Blocks.changed c.put_in_array.new.edits) (g.E.Blocks.changed c.put_indirect_range.new.edits) new (o.id ∷ run_blocks s array)
+    (wrote_none v old (g.E.Blocks.changed c.run_in.new.under) (o.id ∷ run_blocks s array) c.in-Ok.ensures.changed)
+    (wrote_behind v (g.E.Blocks.changed c.run_in.new.under) (g.E.Blocks.changed c.put_in_array.new.edits) o.id (run_blocks s array) c.in-Ok-put_in_array.ensures.written)
+    (wrote_first v (g.E.Blocks.changed c.put_in_array.new.edits) (g.E.Blocks.changed c.put_indirect_range.new.edits) o.id (run_blocks s array) c.in-Ok-put_indirect_range.ensures.written)
+    (wrote_bits v (g.E.Blocks.changed c.put_indirect_range.new.edits) new (o.id ∷ run_blocks s array) c.in-Ok-give.ensures.changed)) in
+    ((run_blocks s gone, length-counted (first_block s gone) gone.len ∙ sym c.from-taken.ensures, done.0), done.1)

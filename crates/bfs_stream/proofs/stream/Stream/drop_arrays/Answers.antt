@@ -1,0 +1,143 @@
+use Rattle.std.proofs.Common.{◌≡◌, ◌≤◌, ◌<◌, ◌+◌, ◌-◌, ◌*◌, ◌/◌, ◌∙◌, ◌⊎◌, inl, inr, ℕ, zero, Bool, true, List, [], ◌∷◌, ◌++◌, Option, Some, length, take, drop, refl, sym, ap, subst, arith, length-append}
+use Rattle.std.specs.Prelude.{Result, Ok, Err, OnOk, IfOk, IsSome, max}
+use Rattle.std.proofs.lemmas.List.{append-nil}
+use Rattle.bfs_base.specs.Lists.{times, Has}
+use Rattle.bfs_bytes.specs.declared.Run.{Run}
+use Rattle.bfs_super.specs.Conditions.{natural}
+use Rattle.bfs_inode.specs.Inode.{stream_at}
+use Rattle.bfs_txn.specs.declared.fault.BlockFault.{BlockFault}
+use Rattle.bfs_txn.specs.Told.{AreOfBlock}
+use Rattle.bfs_bitmap.specs.Runs.{Room}
+use Rattle.bfs_bitmap.specs.Fills.{IsBitmapBlock}
+use Rattle.bfs_stream.specs.Sizes.{Origin, IsWhole, IsInVolume, array_length, table_length, runs_per_block}
+use Rattle.bfs_stream.specs.Places.{Levels, fields, run_blocks, blocks_of, used_runs, array_runs, level_blocks, second_arrays, levels_at, frame_at, places_at}
+use Rattle.bfs_stream.specs.Told.{contents, AreTold}
+use Rattle.bfs_stream.specs.Scans.{ends_of}
+use Rattle.bfs_stream.specs.Grown.{Owns, AreTables, IsTable, table_runs}
+use Rattle.bfs_stream.specs.Trimmed.{Gave, HasTrimmed, HasDropped, HasSpare, MayLose, before_last_table}
+use Rattle.bfs_stream.specs.declared.grow.TheConstants.{NO_RUN}
+use Rattle.bfs_stream.specs.declared.lookup.Ends.{Ends}
+use Rattle.bfs_stream.proofs.Arrays.{read_is}
+use Rattle.bfs_stream.proofs.Placed.{told_inode, length-places, ends_are, AreEnds}
+use Rattle.bfs_stream.proofs.Doubles.{times-append, length-used}
+use Rattle.bfs_stream.proofs.Listed.{double_long, some_array}
+use Rattle.bfs_stream.proofs.CutsIndirect.{nothing_second}
+use Rattle.bfs_stream.proofs.CutsBelow.{frame_has}
+use Rattle.bfs_stream.proofs.CutTwice.{has_trimmed_none, has_trimmed_twice, may_after, may_fewer, left_long}
+use Rattle.bfs_stream.proofs.Frames.{has_first, has_left, has_rest}
+use Rattle.bfs_stream.proofs.AddsIndirect.{in_arrays}
+use Rattle.bfs_stream.proofs.AddsArray.{same_map}
+use Rattle.bfs_stream.proofs.Writes.{wrote_none, wrote_bits, wrote_first, wrote_behind, wrote_four}
+use Rattle.bfs_stream.proofs.Gives.{gave_owns, gave_levels, gave_more, gave_frame}
+use Rattle.bfs_stream.proofs.Handed.{take_all, tables_stay, array_stays, inside_stays, gave_as, length-drop}
+use Rattle.bfs_stream.proofs.Drops.{blocks_split, length-take}
+use Rattle.bfs_stream.proofs.Dropping.{double_dropped, indirect_dropped, tables_dropped, inode_put_told}
+use Rattle.bfs_stream.proofs.stream.Stream.drop_arrays.Goals as goal
+
+on_ok : {P Q : Type 0} (r : Result (Unit {0}) BlockFault) → (P → Q) → OnOk r P → OnOk r Q
+on_ok (Ok x) f p = f p
+on_ok (Err x) f p = p
+
+if_ok : {P Q : ℕ → Type 0} (r : Result ℕ BlockFault) → ((n : ℕ) → P n → Q n) → IfOk r P → IfOk r Q
+if_ok (Ok x) f p = f x p
+if_ok (Err x) f p = p
+
+pub returns-then-double_indirect-eq0-clause-trimmed : goal.returns-then-double_indirect-eq0-clause-trimmed
+returns-then-double_indirect-eq0-clause-trimmed g c m is owns may =
+    let o = c.args.self.now in
+    let v = c.args.bitmap.now in
+    let id : c.self.inside.inode ≡ o.id = ap (λ (x : Origin). x.id) c.self.view_is in
+    let of : AreOfBlock (g.E.Blocks.told c.args.edits.now) o.id c.get.new.into = subst (λ (k : ℕ). AreOfBlock (g.E.Blocks.told c.args.edits.now) k c.get.new.into) id c.in-Ok.ensures.bytes in
+    let read = read_is m (g.E.Blocks.told c.args.edits.now) o.id c.get.new.into is (told_inode m o owns.stands) of in
+    let now_is = c.in-Ok.ensures.told ∙ is in
+    let array_is : c.double_indirect.result ≡ (fields o.sizes (contents m) o.id).double_indirect = c.double_indirect.ensures ∙ ap (λ (l : List ℕ). (stream_at l).double_indirect) (c.over.ensures ∙ read) in
+    let len : c.double_indirect.result.len ≡ (fields o.sizes (contents m) o.id).double_indirect.len = ap (λ (r : Run). r.len) array_is in
+    let e = c.if-double_indirect-eq0.true in
+    let none : (fields o.sizes (contents m) o.id).double_indirect.len ≡ 0 = omega (arith, len, e) in
+    subst (λ (f : ℕ → Bool). IfOk c.drop_first.result (λ n. (one : HasTrimmed o v c.drop_first.new.bitmap m n (g.E.Blocks.told c.drop_first.new.edits) f (g.E.Blocks.changed c.drop_first.new.edits)) × HasSpare o one.2.map (c.args.most - n))) c.in-Ok.ensures.changed
+    (if_ok c.drop_first.result (λ n one. (one.0.0, one.1)) (c.drop_first.ensures.dropped m now_is owns none may))
+
+pub returns-then-double_indirect-eq0-clause-sound : goal.returns-then-double_indirect-eq0-clause-sound
+returns-then-double_indirect-eq0-clause-sound g c m is owns may =
+    let o = c.args.self.now in
+    let id : c.self.inside.inode ≡ o.id = ap (λ (x : Origin). x.id) c.self.view_is in
+    let of : AreOfBlock (g.E.Blocks.told c.args.edits.now) o.id c.get.new.into = subst (λ (k : ℕ). AreOfBlock (g.E.Blocks.told c.args.edits.now) k c.get.new.into) id c.in-Ok.ensures.bytes in
+    let read = read_is m (g.E.Blocks.told c.args.edits.now) o.id c.get.new.into is (told_inode m o owns.stands) of in
+    let now_is = c.in-Ok.ensures.told ∙ is in
+    let array_is : c.double_indirect.result ≡ (fields o.sizes (contents m) o.id).double_indirect = c.double_indirect.ensures ∙ ap (λ (l : List ℕ). (stream_at l).double_indirect) (c.over.ensures ∙ read) in
+    let len : c.double_indirect.result.len ≡ (fields o.sizes (contents m) o.id).double_indirect.len = ap (λ (r : Run). r.len) array_is in
+    let e = c.if-double_indirect-eq0.true in
+    let none : (fields o.sizes (contents m) o.id).double_indirect.len ≡ 0 = omega (arith, len, e) in
+    c.drop_first.ensures.sound m now_is owns none
+
+pub returns-then-array_length-tables-clause-trimmed : goal.returns-then-array_length-tables-clause-trimmed
+returns-then-array_length-tables-clause-trimmed g c m is owns may =
+    let o = c.args.self.now in
+    let v = c.args.bitmap.now in
+    let id : c.self.inside.inode ≡ o.id = ap (λ (x : Origin). x.id) c.self.view_is in
+    let of : AreOfBlock (g.E.Blocks.told c.args.edits.now) o.id c.get.new.into = subst (λ (k : ℕ). AreOfBlock (g.E.Blocks.told c.args.edits.now) k c.get.new.into) id c.in-Ok.ensures.bytes in
+    let read = read_is m (g.E.Blocks.told c.args.edits.now) o.id c.get.new.into is (told_inode m o owns.stands) of in
+    let now_is = c.in-Ok.ensures.told ∙ is in
+    let array_is : c.double_indirect.result ≡ (fields o.sizes (contents m) o.id).double_indirect = c.double_indirect.ensures ∙ ap (λ (l : List ℕ). (stream_at l).double_indirect) (c.over.ensures ∙ read) in
+    let len : c.double_indirect.result.len ≡ (fields o.sizes (contents m) o.id).double_indirect.len = ap (λ (r : Run). r.len) array_is in
+    let e = c.if-double_indirect-eq0.false in
+    let some : 0 < (fields o.sizes (contents m) o.id).double_indirect.len = omega (arith, len, e) in
+    let are = c.in-Ok-tables.ensures.are m now_is owns.stands some in
+    subst (λ (f : ℕ → Bool). IfOk c.drop_last.result (λ n. (one : HasTrimmed o v c.drop_last.new.bitmap m n (g.E.Blocks.told c.drop_last.new.edits) f (g.E.Blocks.changed c.drop_last.new.edits)) × HasSpare o one.2.map (c.args.most - n))) (c.in-Ok-tables.ensures.changed ∙ c.in-Ok.ensures.changed)
+    (c.drop_last.ensures.trimmed m (c.in-Ok-tables.ensures.told ∙ now_is) owns are some may)
+
+pub returns-then-array_length-tables-clause-sound : goal.returns-then-array_length-tables-clause-sound
+returns-then-array_length-tables-clause-sound g c m is owns may =
+    let o = c.args.self.now in
+    let id : c.self.inside.inode ≡ o.id = ap (λ (x : Origin). x.id) c.self.view_is in
+    let of : AreOfBlock (g.E.Blocks.told c.args.edits.now) o.id c.get.new.into = subst (λ (k : ℕ). AreOfBlock (g.E.Blocks.told c.args.edits.now) k c.get.new.into) id c.in-Ok.ensures.bytes in
+    let read = read_is m (g.E.Blocks.told c.args.edits.now) o.id c.get.new.into is (told_inode m o owns.stands) of in
+    let now_is = c.in-Ok.ensures.told ∙ is in
+    let array_is : c.double_indirect.result ≡ (fields o.sizes (contents m) o.id).double_indirect = c.double_indirect.ensures ∙ ap (λ (l : List ℕ). (stream_at l).double_indirect) (c.over.ensures ∙ read) in
+    let len : c.double_indirect.result.len ≡ (fields o.sizes (contents m) o.id).double_indirect.len = ap (λ (r : Run). r.len) array_is in
+    let e = c.if-double_indirect-eq0.false in
+    let some : 0 < (fields o.sizes (contents m) o.id).double_indirect.len = omega (arith, len, e) in
+    let are = c.in-Ok-tables.ensures.are m now_is owns.stands some in
+    c.drop_last.ensures.sound m (c.in-Ok-tables.ensures.told ∙ now_is) owns are
+
+pub returns-clause-trimmed : goal.returns-clause-trimmed
+returns-clause-trimmed g c m is owns may =
+    let o = c.args.self.now in
+    let v = c.args.bitmap.now in
+    let id : c.self.inside.inode ≡ o.id = ap (λ (x : Origin). x.id) c.self.view_is in
+    let of : AreOfBlock (g.E.Blocks.told c.args.edits.now) o.id c.get.new.into = subst (λ (k : ℕ). AreOfBlock (g.E.Blocks.told c.args.edits.now) k c.get.new.into) id c.in-Ok.ensures.bytes in
+    let read = read_is m (g.E.Blocks.told c.args.edits.now) o.id c.get.new.into is (told_inode m o owns.stands) of in
+    let now_is = c.in-Ok.ensures.told ∙ is in
+    let array_is : c.double_indirect.result ≡ (fields o.sizes (contents m) o.id).double_indirect = c.double_indirect.ensures ∙ ap (λ (l : List ℕ). (stream_at l).double_indirect) (c.over.ensures ∙ read) in
+    let len : c.double_indirect.result.len ≡ (fields o.sizes (contents m) o.id).double_indirect.len = ap (λ (r : Run). r.len) array_is in
+    let e = c.if-double_indirect-eq0.false in
+    let some : 0 < (fields o.sizes (contents m) o.id).double_indirect.len = omega (arith, len, e) in
+    let are = c.in-Ok-tables.ensures.are m now_is owns.stands some in
+    subst (λ (f : ℕ → Bool). IfOk c.drop_both.result (λ n. (one : HasTrimmed o v c.drop_both.new.bitmap m n (g.E.Blocks.told c.drop_both.new.edits) f (g.E.Blocks.changed c.drop_both.new.edits)) × HasSpare o one.2.map (c.args.most - n))) (c.in-Ok-tables.ensures.changed ∙ c.in-Ok.ensures.changed)
+    (c.drop_both.ensures.trimmed m (c.in-Ok-tables.ensures.told ∙ now_is) owns are may)
+
+pub returns-clause-sound : goal.returns-clause-sound
+returns-clause-sound g c m is owns may =
+    let o = c.args.self.now in
+    let id : c.self.inside.inode ≡ o.id = ap (λ (x : Origin). x.id) c.self.view_is in
+    let of : AreOfBlock (g.E.Blocks.told c.args.edits.now) o.id c.get.new.into = subst (λ (k : ℕ). AreOfBlock (g.E.Blocks.told c.args.edits.now) k c.get.new.into) id c.in-Ok.ensures.bytes in
+    let read = read_is m (g.E.Blocks.told c.args.edits.now) o.id c.get.new.into is (told_inode m o owns.stands) of in
+    let now_is = c.in-Ok.ensures.told ∙ is in
+    let array_is : c.double_indirect.result ≡ (fields o.sizes (contents m) o.id).double_indirect = c.double_indirect.ensures ∙ ap (λ (l : List ℕ). (stream_at l).double_indirect) (c.over.ensures ∙ read) in
+    let len : c.double_indirect.result.len ≡ (fields o.sizes (contents m) o.id).double_indirect.len = ap (λ (r : Run). r.len) array_is in
+    let e = c.if-double_indirect-eq0.false in
+    let some : 0 < (fields o.sizes (contents m) o.id).double_indirect.len = omega (arith, len, e) in
+    let are = c.in-Ok-tables.ensures.are m now_is owns.stands some in
+    c.drop_both.ensures.sound m (c.in-Ok-tables.ensures.told ∙ now_is) owns are may
+
+pub returns-in-Err-tables-clause-sound : goal.returns-in-Err-tables-clause-sound
+returns-in-Err-tables-clause-sound g c m is owns may =
+    let o = c.args.self.now in
+    let id : c.self.inside.inode ≡ o.id = ap (λ (x : Origin). x.id) c.self.view_is in
+    let of : AreOfBlock (g.E.Blocks.told c.args.edits.now) o.id c.get.new.into = subst (λ (k : ℕ). AreOfBlock (g.E.Blocks.told c.args.edits.now) k c.get.new.into) id c.in-Ok.ensures.bytes in
+    let read = read_is m (g.E.Blocks.told c.args.edits.now) o.id c.get.new.into is (told_inode m o owns.stands) of in
+    let now_is = c.in-Ok.ensures.told ∙ is in
+    let array_is : c.double_indirect.result ≡ (fields o.sizes (contents m) o.id).double_indirect = c.double_indirect.ensures ∙ ap (λ (l : List ℕ). (stream_at l).double_indirect) (c.over.ensures ∙ read) in
+    let len : c.double_indirect.result.len ≡ (fields o.sizes (contents m) o.id).double_indirect.len = ap (λ (r : Run). r.len) array_is in
+    let e = c.if-double_indirect-eq0.false in
+    c.in-Err-tables.ensures.sound m now_is owns.stands (omega (arith, len, e))

@@ -1,0 +1,23 @@
+use Rattle.std.proofs.Common.{◌≡◌, ◌≤◌, ◌+◌, ◌⊎◌, true, ℕ, List, [], Option, Some, length, take, drop}
+use Rattle.bfs_base.specs.Lists.{Has}
+use Rattle.bfs_txn.specs.Faults.{AreLater}
+use Rattle.bfs_bitmap.specs.Runs.{as_kept}
+use Rattle.bfs_bitmap.specs.Fills.{IsBitmapBlock}
+use Rattle.bfs_stream.specs.Places.{run_blocks, blocks_of, used_runs, array_runs, frame_at}
+use Rattle.bfs_stream.specs.Told.{contents}
+use Rattle.bfs_stream.specs.Grown.{IsOfVolume, Owns}
+use Rattle.bfs_stream.specs.Trimmed.{Gave}
+use Rattle.bfs_stream.proofs.stream.Stream.give_listed.Given as goal
+
+abbrev pub invariant-loop-i : goal.invariant-loop-i
+invariant-loop-i g l = record {
+  long : length l.bytes ≡ l.self.sizes.block_size;
+  size : g.E.Blocks.size l.edits ≡ g.E.Blocks.size l.fn.edits;
+  frame : g.E.Blocks.frame l.edits ≡ g.E.Blocks.frame l.fn.edits;
+  rest : l.bitmap ≡ record l.fn.bitmap { given = l.bitmap.given; tally = l.bitmap.tally };
+  kept : as_kept l.bitmap ≡ as_kept l.fn.bitmap;
+  volume : IsOfVolume l.self.sizes l.bitmap;
+  later : AreLater (g.E.Blocks.counts l.fn.edits) (g.E.Blocks.counts l.edits);
+  changed : (k : ℕ) → g.E.Blocks.changed l.edits k ≡ true → (g.E.Blocks.changed l.fn.edits k ≡ true) ⊎ IsBitmapBlock l.fn.bitmap k;
+  gave : (m : ℕ → Option (List ℕ)) → g.E.Blocks.told l.fn.edits ≡ Some m → Owns l.self l.fn.bitmap [] m → ((k : ℕ) → Has (run_blocks l.self.sizes l.fn.array) k → Has (frame_at l.self.sizes (contents m) l.self.id) k) → l.fn.from + l.fn.count ≤ length (used_runs (array_runs l.self.sizes (contents m) l.fn.array)) → Gave l.fn.bitmap l.bitmap (blocks_of l.self.sizes (take l.i (drop l.fn.from (used_runs (array_runs l.self.sizes (contents m) l.fn.array))))) m (g.E.Blocks.told l.edits);
+}

@@ -13,7 +13,7 @@ mod laws;
 mod lines;
 mod next;
 mod pieces;
-mod put;
+pub mod put;
 mod reading;
 mod replies;
 mod rows;

@@ -5,8 +5,7 @@ use Rattle.bfs_base.specs.Images.{sector}
 use Rattle.bfs_disk.specs.Disk.{ReadsSectors, HasSectors}
 use Rattle.bfs_disk.specs.State.{State}
 use Rattle.bfs_super.specs.declared.sup.Super.{Super}
-use Rattle.bfs_super.specs.declared.fault.SuperFault.{SuperFault}
-use Rattle.bfs_super.specs.declared.fault.SuperFault.TheVariants as faults
+use Rattle.bfs_finding_text.specs.Texts.{fault_number}
 use Rattle.bfs_super.specs.Layout.{super_at}
 use Rattle.bfs_super.specs.Label.{name_of}
 use Rattle.bfs_super.specs.Conditions.{IsValid, IsRefusal}
@@ -78,19 +77,6 @@ abbrev pub IsLoaded : Option State → Option ℕ → Loaded → Type 0
 IsLoaded told size (loads.Sector bytes) = HasSectors size 2 × ReadsSectors told 1 bytes
 IsLoaded told size (loads.Short sectors) = (size ≡ Some sectors) × (sectors < 2)
 IsLoaded told size loads.Failed = Unit {0}
-
--- the number of a condition of the superblock
-abbrev pub fault_number : SuperFault → ℕ
-fault_number (faults.Magic which found) = 1
-fault_number (faults.ByteOrder found) = 2
-fault_number (faults.BlockSize size shift) = 3
-fault_number (faults.InodeSize found) = 4
-fault_number (faults.Length blocks) = 5
-fault_number (faults.Groups per_group shift groups) = 6
-fault_number (faults.LogRun run) = 7
-fault_number (faults.LogPlace start end) = 8
-fault_number (faults.RootRun run) = 9
-fault_number (faults.IndexRun run) = 10
 
 -- the status in which `label` ends
 abbrev pub label_status : Ending → ℕ

@@ -7,10 +7,11 @@ ghost use Rattle.bfs_disk.specs.State.{State, ReadsAs, Tells, Holds, settled};
 ghost use Rattle.bfs_disk.specs.Disk.{MayLeave, told_written, HasSectors};
 ghost use Rattle.bfs_super.specs.Label.{IsLabel};
 ghost use Rattle.bfs_super.specs.Layout.{super_at};
-ghost use Rattle.bfs_tool.specs.Label.{IsLoaded, OldOrNew, EndsBy, LabelsBy, IsRefusing, IsChanged, RefusedBy, labelled, fault_number, label_status, label_text};
+ghost use Rattle.bfs_tool.specs.Label.{IsLoaded, OldOrNew, EndsBy, LabelsBy, IsRefusing, IsChanged, RefusedBy, labelled, label_status, label_text};
 
 use crate::line::Line;
 use bfs_disk::{Disk, Failed};
+use bfs_finding_text::fault_number;
 use bfs_super::{Super, SuperFault};
 use itoa::Buffer;
 
@@ -123,25 +124,6 @@ pub fn relabel<D: Disk>(disk: &mut D, name: &[u8]) -> Ending
     }
 }
 
-/// The number of a condition of the superblock, in the order in which they are tested.
-fn number_of(fault: SuperFault) -> u8
-    ensures value { result ≡ fault_number fault }
-    ensures bound { result ≤ 10 }
-{
-    match fault {
-        SuperFault::Magic { .. } => 1,
-        SuperFault::ByteOrder { .. } => 2,
-        SuperFault::BlockSize { .. } => 3,
-        SuperFault::InodeSize { .. } => 4,
-        SuperFault::Length { .. } => 5,
-        SuperFault::Groups { .. } => 6,
-        SuperFault::LogRun { .. } => 7,
-        SuperFault::LogPlace { .. } => 8,
-        SuperFault::RootRun { .. } => 9,
-        SuperFault::IndexRun { .. } => 10,
-    }
-}
-
 impl Ending {
     /// The status of the program.
     pub fn status(self) -> u8
@@ -169,7 +151,7 @@ impl Ending {
             }
             Ending::NotVolume(fault) => {
                 line.push(b"finding super ");
-                line.push(number.format(number_of(fault)).as_bytes());
+                line.push(number.format(fault_number(fault)).as_bytes());
                 line.push(b"\n");
             }
             Ending::LogBusy { start, end } => {

@@ -1,0 +1,6 @@
+use Rattle.bfs_core.proofs.Events.{write_event}
+use Rattle.bfs_core.proofs.kept.write_is_kept.Goals as goal
+
+pub returns : goal.returns
+returns g c =
+    λ t0 adopted sp block b next file writes core. write_event t0 adopted sp block b next (g.D.Disk.state c.args.old.now) (g.D.Disk.state c.args.new.now) (g.D.Disk.clock c.args.old.now) (g.D.Disk.clock c.args.new.now) (g.D.Disk.since c.args.old.now) (g.D.Disk.since c.args.new.now) file writes core

@@ -1,0 +1,72 @@
+-- A key that was looked up in the leaf on its way.
+use Rattle.std.proofs.Common.{◌≡◌, ◌<◌, ◌∙◌, ℕ, ℤ, pos, List, length, Option, Some, None, refl, sym, ap, subst}
+use Rattle.std.specs.Prelude.{Ok, Err, IfSome}
+use Rattle.bfs_base.specs.declared.kind.KeyKind.{KeyKind}
+use Rattle.bfs_node.specs.Page.{Row, rows_of, row_in, value_of}
+use Rattle.bfs_node.specs.Search.{Ascends, IsPlace}
+use Rattle.bfs_node.specs.declared.fault.PageKind.TheVariants.{Leaf}
+use Rattle.bfs_pages.specs.Answers.{IsLeafFor}
+use Rattle.bfs_pages.specs.Maps.{assoc}
+use Rattle.bfs_pages.specs.Order.{Key}
+use Rattle.bfs_pages.specs.Trees.{page_in}
+use Rattle.bfs_pages.proofs.OfKind.{found-in-leaf}
+use Rattle.bfs_pages.proofs.Sorted.{by-index, assoc-found, assoc-missed}
+use Rattle.bfs_values.specs.Links.{link_in}
+use Rattle.bfs_values.specs.Rows.{rows_in}
+use Rattle.bfs_values.specs.declared.link.Link.{Link}
+use Rattle.bfs_values.specs.declared.link.Link.TheVariants.{Number, Fragment, Chain, Nothing}
+use Rattle.bfs_values.proofs.Rows.{rows_those}
+use Rattle.bfs_maps.specs.NumberTrees.{IsNumber, IsNumberTree}
+use Rattle.bfs_maps.specs.Refused.{IsNumberPage}
+use Rattle.bfs_maps.proofs.Plain.{number_link, number_there}
+
+-- what the leaf says of the key, the tree says
+in_tree : (kind : KeyKind) (b : List ℕ) (key : Key) (leaf : ℕ) (page : List ℕ) (d : IsNumberTree kind b) → IsLeafFor kind b d.tree.shape key leaf page → assoc kind (rows_in kind b) key ≡ assoc kind (rows_of page) key
+in_tree kind b key leaf page d l =
+    let t = d.tree in
+    ap (λ (rows : List Row). assoc kind rows key) (sym (rows_those kind b t.reached t.shape t.free t.tree)) ∙ (found-in-leaf kind b t.reached t.shape t.free key leaf page t.tree.holds l).1
+
+pub looked_there : (kind : KeyKind) (b : List ℕ) (key : Key) (leaf : ℕ) (page : List ℕ) (i : ℕ) (d : IsNumberTree kind b) → IsLeafFor kind b d.tree.shape key leaf page → (Ascends kind (rows_of page) → IsPlace kind (rows_of page) key (Ok i))
+    → (assoc kind (rows_in kind b) key ≡ Some (value_of (row_in (rows_of page) i))) × IsNumber (value_of (row_in (rows_of page) i))
+looked_there kind b key leaf page i d l place =
+    let t = d.tree in
+    let up = (found-in-leaf kind b t.reached t.shape t.free key leaf page t.tree.holds l).0 in
+    let there : assoc kind (rows_in kind b) key ≡ Some (value_of (row_in (rows_of page) i)) = in_tree kind b key leaf page d l ∙ assoc-found kind (rows_of page) key i up (place (by-index kind (rows_of page) up)) in
+    (there, number_there kind (rows_in kind b) key (value_of (row_in (rows_of page) i)) d.numbers there)
+
+pub looked_absent : (kind : KeyKind) (b : List ℕ) (key : Key) (leaf : ℕ) (page : List ℕ) (i : ℕ) (d : IsNumberTree kind b) → IsLeafFor kind b d.tree.shape key leaf page → (Ascends kind (rows_of page) → IsPlace kind (rows_of page) key (Err i))
+    → assoc kind (rows_in kind b) key ≡ None
+looked_absent kind b key leaf page i d l place =
+    let t = d.tree in
+    let up = (found-in-leaf kind b t.reached t.shape t.free key leaf page t.tree.holds l).0 in
+    in_tree kind b key leaf page d l ∙ assoc-missed kind (rows_of page) key i (place (by-index kind (rows_of page) up))
+
+-- the number that the value names
+pub number_is : (value : ℤ) (n : ℕ) → IsNumber value → link_in value ≡ Number n → value ≡ pos n
+number_is value n x e =
+    let both : Number x.0 ≡ Number n = sym (number_link value x) ∙ e in
+    let same : x.0 ≡ n = cc in
+    x.1 ∙ ap pos same
+
+-- a value that names something else is no number
+pub no_number : (value : ℤ) (l : Link) → link_in value ≡ l → ((n : ℕ) → l ≡ Number n → ⊥) → IsNumber value → ⊥
+no_number value l e other x = other x.0 (sym e ∙ number_link value x)
+
+pub fragment_not : (p i n : ℕ) → Fragment p i ≡ Number n → ⊥
+fragment_not p i n e = cc
+
+pub chain_not : (p n : ℕ) → Chain p ≡ Number n → ⊥
+chain_not p n e = cc
+
+pub nothing_not : (n : ℕ) → Nothing ≡ Number n → ⊥
+nothing_not n e = cc
+
+-- and its leaf is none of a tree of numbers
+pub leaf_refused : (kind : KeyKind) (told : Option (List ℕ)) (leaf : ℕ) (page : List ℕ) (i : ℕ) → IfSome told (λ b. page ≡ page_in b leaf) → i < length (rows_of page) → (IsNumber (value_of (row_in (rows_of page) i)) → ⊥)
+    → IfSome told (λ b. ¬ IsNumberPage kind b leaf Leaf)
+leaf_refused kind None leaf page i read low other = tt
+leaf_refused kind (Some b) leaf page i read low other = λ good.
+    let v : ℤ = value_of (row_in (rows_of page) i) in
+    let low_b : i < length (rows_of (page_in b leaf)) = subst (λ (p : List ℕ). i < length (rows_of p)) read low in
+    let same : v ≡ value_of (row_in (rows_of (page_in b leaf)) i) = ap (λ (p : List ℕ). value_of (row_in (rows_of p) i)) read in
+    other (good.1 v (good.0, (i, low_b, same)))

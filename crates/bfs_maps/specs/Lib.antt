@@ -1,0 +1,4 @@
+pub mod NumberTrees
+pub mod Mapped
+pub mod Refused
+pub mod Laws

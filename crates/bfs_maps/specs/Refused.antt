@@ -1,0 +1,125 @@
+-- Why a call on a tree in a stream is refused.
+use Rattle.std.specs.Prelude.{◌≡◌, ◌⊎◌, ◌%◌, ℕ, ℤ, pos, List, length, Option, None, Some, IfSome}
+use Rattle.bfs_base.specs.declared.kind.KeyKind.{KeyKind}
+use Rattle.bfs_bitmap.specs.Runs.{Room}
+use Rattle.bfs_node.specs.Page.{Row}
+use Rattle.bfs_node.specs.declared.fault.PageKind.{PageKind}
+use Rattle.bfs_node.specs.declared.fault.PageKind.TheVariants.{Header, Interior, Leaf, Fragment, Duplicates}
+use Rattle.bfs_node.specs.declared.fault.TreeFault.{TreeFault}
+use Rattle.bfs_node.specs.declared.fault.TreeFault.TheVariants.{Exists, Absent, Damaged, Pages, NoMemory}
+use Rattle.bfs_txn.specs.Faults.{Counts}
+use Rattle.bfs_txn.specs.declared.fault.BlockFault.TheVariants as block
+use Rattle.bfs_pages.specs.Answers.{IsOfKind}
+use Rattle.bfs_pages.specs.Maps.{assoc}
+use Rattle.bfs_pages.specs.Order.{Key}
+use Rattle.bfs_stream.specs.Faults.{IsGrowCause}
+use Rattle.bfs_stream.specs.Places.{fields}
+use Rattle.bfs_stream.specs.Sizes.{Origin}
+use Rattle.bfs_stream.specs.Told.{contents}
+use Rattle.bfs_stream.specs.declared.fault.GrowFault.{GrowFault}
+use Rattle.bfs_stream.specs.declared.fault.GrowFault.TheVariants as grow
+use Rattle.bfs_stream_pages.specs.Causes.{HasFailed, IsOfBlock}
+use Rattle.bfs_stream_pages.specs.Held.{stream_of}
+use Rattle.bfs_stream_pages.specs.Steps.{IsUndamaged}
+use Rattle.bfs_values.specs.Kinds.{IsValueOf, IsWanted}
+use Rattle.bfs_maps.specs.NumberTrees.{IsNumber}
+
+-- the page at this byte is of this kind, in a tree whose values are numbers
+abbrev pub IsNumberPage : KeyKind → List ℕ → ℕ → PageKind → Type 0
+IsNumberPage kind bytes at Header = IsOfKind kind bytes at Header
+IsNumberPage kind bytes at Interior = IsOfKind kind bytes at Interior
+IsNumberPage kind bytes at Leaf = IsOfKind kind bytes at Leaf × ((value : ℤ) → IsValueOf kind bytes at value → IsNumber value)
+IsNumberPage kind bytes at Fragment = IsOfKind kind bytes at Fragment
+IsNumberPage kind bytes at Duplicates = IsOfKind kind bytes at Duplicates
+
+-- a page isn't of its kind, or a call of the pages failed
+abbrev pub IsUnnumbered : {F : Type 0} → KeyKind → Option (List ℕ) → (F → Type 0) → TreeFault F → Type 0
+IsUnnumbered kind told cause Exists = ⊥
+IsUnnumbered kind told cause Absent = ⊥
+IsUnnumbered kind told cause (Damaged page sort) = IfSome told (λ bytes. ¬ IsNumberPage kind bytes page sort)
+IsUnnumbered kind told cause (Pages fault) = cause fault
+IsUnnumbered kind told cause NoMemory = ⊥
+
+-- where the key isn't there, the stream stays; else a page isn't of its kind, or a call of the pages failed
+abbrev pub IsTurnedAway : {F : Type 0} → KeyKind → Option (List ℕ) → Option (List ℕ) → (F → Type 0) → TreeFault F → Type 0
+IsTurnedAway kind told now cause Exists = ⊥
+IsTurnedAway kind told now cause Absent = now ≡ told
+IsTurnedAway kind told now cause (Damaged page sort) = IfSome now (λ bytes. ¬ IsNumberPage kind bytes page sort)
+IsTurnedAway kind told now cause (Pages fault) = cause fault
+IsTurnedAway kind told now cause NoMemory = ⊥
+
+-- a number wasn't put among rows: its key is there, or a call of the pages failed, or there is no room for a number
+abbrev pub IsNotPut : {F : Type 0} → KeyKind → List Row → Key → TreeFault F → Type 0
+IsNotPut kind rows key Exists = (value : ℤ) × (assoc kind rows key ≡ Some value)
+IsNotPut kind rows key Absent = ⊥
+IsNotPut kind rows key (Damaged page sort) = ⊥
+IsNotPut kind rows key (Pages fault) = Unit {0}
+IsNotPut kind rows key NoMemory = Unit {0}
+
+-- a row wasn't taken: its key isn't there, or a call of the pages failed
+abbrev pub IsNotTaken : {F : Type 0} → KeyKind → List Row → Key → TreeFault F → Type 0
+IsNotTaken kind rows key Exists = ⊥
+IsNotTaken kind rows key Absent = assoc kind rows key ≡ None
+IsNotTaken kind rows key (Damaged page sort) = ⊥
+IsNotTaken kind rows key (Pages fault) = Unit {0}
+IsNotTaken kind rows key NoMemory = ⊥
+
+-- a number wasn't put into a map: its key is there; or a block could not be had, or a page added, for a reason
+abbrev pub IsPutFault : KeyKind → Origin → Room → (ℕ → Option (List ℕ)) → List Row → Key → TreeFault GrowFault → Type 0
+IsPutFault kind o v m rows key Exists = (value : ℤ) × (assoc kind rows key ≡ Some value)
+IsPutFault kind o v m rows key Absent = ⊥
+IsPutFault kind o v m rows key (Damaged page sort) = ⊥
+IsPutFault kind o v m rows key (Pages fault) = HasFailed o v m fault
+IsPutFault kind o v m rows key NoMemory = Unit {0}
+
+-- a row wasn't taken out of a map: its key isn't there; or a block could not be had, for a reason
+abbrev pub IsTakeFault : KeyKind → Origin → Room → (ℕ → Option (List ℕ)) → List Row → Key → TreeFault GrowFault → Type 0
+IsTakeFault kind o v m rows key Exists = ⊥
+IsTakeFault kind o v m rows key Absent = assoc kind rows key ≡ None
+IsTakeFault kind o v m rows key (Damaged page sort) = ⊥
+IsTakeFault kind o v m rows key (Pages fault) = HasFailed o v m fault
+IsTakeFault kind o v m rows key NoMemory = Unit {0}
+
+-- a map was not read: a block could not be had, and none is damaged; or there is no room for the answer
+abbrev pub IsUndone : TreeFault GrowFault → Type 0
+IsUndone Exists = ⊥
+IsUndone Absent = ⊥
+IsUndone (Damaged page sort) = ⊥
+IsUndone (Pages fault) = IsUndamaged fault
+IsUndone NoMemory = Unit {0}
+
+-- the size of a stream wasn't had: no block is damaged; or it is the inode, whose stream isn't of whole pages
+abbrev pub IsUnsized : Origin → (ℕ → Option (List ℕ)) → GrowFault → Type 0
+IsUnsized o m fault = IsUndamaged fault ⊎ ((fault ≡ grow.Block (block.Damaged o.id)) × ((n : ℕ) → (fields o.sizes (contents m) o.id).size ≡ pos n → n % 1024 ≡ 0 → ⊥))
+
+-- a tree in a stream that is told was not read: a page isn't as it has to be; or the stream isn't of whole pages; or a block
+-- could not be had, and none is damaged; or there is no room for the answer
+abbrev pub IsReadFault : (ℕ → PageKind → Type 0) → Origin → (ℕ → Option (List ℕ)) → TreeFault GrowFault → Type 0
+IsReadFault good o m Exists = ⊥
+IsReadFault good o m Absent = ⊥
+IsReadFault good o m (Damaged page sort) = ¬ good page sort
+IsReadFault good o m (Pages fault) = IsUnsized o m fault
+IsReadFault good o m NoMemory = Unit {0}
+
+-- the causes of a fault in what lies below, of a call that reads, of one that puts and of one that takes: only one that puts
+-- answers that a key is there, and only one that takes that it isn't; and one that reads asks for no run
+abbrev pub HasReadCause : Counts → Counts → TreeFault GrowFault → Type 0
+HasReadCause old new Exists = ⊥
+HasReadCause old new Absent = ⊥
+HasReadCause old new (Damaged page sort) = Unit {0}
+HasReadCause old new (Pages fault) = IsOfBlock fault × IsGrowCause 1 old new fault
+HasReadCause old new NoMemory = Unit {0}
+
+abbrev pub HasPutCause : Counts → Counts → TreeFault GrowFault → Type 0
+HasPutCause old new Exists = Unit {0}
+HasPutCause old new Absent = ⊥
+HasPutCause old new (Damaged page sort) = Unit {0}
+HasPutCause old new (Pages fault) = IsGrowCause 1 old new fault
+HasPutCause old new NoMemory = Unit {0}
+
+abbrev pub HasTakeCause : Counts → Counts → TreeFault GrowFault → Type 0
+HasTakeCause old new Exists = ⊥
+HasTakeCause old new Absent = Unit {0}
+HasTakeCause old new (Damaged page sort) = Unit {0}
+HasTakeCause old new (Pages fault) = IsGrowCause 1 old new fault
+HasTakeCause old new NoMemory = Unit {0}

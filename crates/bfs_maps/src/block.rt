@@ -1,0 +1,42 @@
+// From a page of a tree to the block that has it.
+ghost use Rattle.std.specs.Prelude.{◌≡◌, ◌≤◌, ◌<◌, ◌/◌, ℕ, List, Option, Some, IfOk, IfErr, slice_get};
+ghost use Rattle.bfs_super.specs.Conditions.{IsValid, natural};
+ghost use Rattle.bfs_txn.specs.Faults.{AreLater};
+ghost use Rattle.bfs_stream.specs.Faults.{HasNoBlock, IsStreamCause};
+ghost use Rattle.bfs_stream.specs.Places.{places_at};
+ghost use Rattle.bfs_stream.specs.Sizes.{sizes_of};
+ghost use Rattle.bfs_stream.specs.Told.{Stands, contents};
+ghost use Rattle.bfs_maps.specs.Mapped.{origin_of};
+
+use crate::TreeAt;
+use bfs_stream::{Stream, StreamFault};
+use bfs_txn::Blocks;
+
+/// The block of the volume in which the page at a byte of a tree's stream stands, as that of a page that is damaged.
+pub fn block_of_page<B: Blocks>(tree: TreeAt, under: &mut B, page: u64) -> Result<u64, StreamFault>
+    requires valid { IsValid tree.sup }
+    requires inside { tree.inode < natural tree.sup.num_blocks }
+    requires size { B.size under.old ≡ tree.sup.block_size }
+    ensures found { (m : ℕ → Option (List ℕ)) → B.told under.old ≡ Some m → Stands (origin_of tree) m → IfOk result (λ block. slice_get (places_at (sizes_of tree.sup) (contents m) tree.inode) (page / tree.sup.block_size) ≡ Some block) }
+    ensures none { (m : ℕ → Option (List ℕ)) → B.told under.old ≡ Some m → Stands (origin_of tree) m → IfErr result (HasNoBlock (places_at (sizes_of tree.sup) (contents m) tree.inode) (page / tree.sup.block_size)) }
+    ensures below { IfOk result (λ block. block < natural tree.sup.num_blocks) }
+    ensures told { B.told under.new ≡ B.told under.old }
+    ensures changed { B.changed under.new ≡ B.changed under.old }
+    ensures pairs { B.pairs under.new ≡ B.pairs under.old }
+    ensures size { B.size under.new ≡ B.size under.old }
+    ensures frame { B.frame under.new ≡ B.frame under.old }
+    ensures later { AreLater (B.counts under.old) (B.counts under.new) }
+    ensures cause { IfErr result (IsStreamCause (B.counts under.old) (B.counts under.new)) }
+{
+    let place = place_of_byte(page, tree.sup.block_size);
+    let mut stream = Stream::at(tree.alloc, tree.inode, &tree.sup);
+    stream.block(under, place)
+}
+
+/// The place of the block of a stream that has a byte.
+fn place_of_byte(at: u64, block_size: u32) -> u64
+    requires { 0 < block_size }
+    ensures { result ≡ at / block_size }
+{
+    at / u64::from(block_size)
+}

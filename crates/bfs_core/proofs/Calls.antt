@@ -1,18 +1,21 @@
 -- The calls of a device, at Ok and after a fault, as what Core asks of them.
-use Rattle.std.proofs.Common.{◌≡◌, inl, inr, ℕ, Bool, Option, Some, None, Result, Ok, Err, OnOk, OnErr, IfOk, IfErr, refl, sym, ◌∙◌, ap, subst, arith}
+use Rattle.std.proofs.Common.{max, ◌≡◌, inl, inr, ℕ, List, Bool, Option, Some, None, Result, Ok, Err, OnOk, OnErr, IfOk, IfErr, refl, sym, ◌∙◌, ap, subst, arith}
+use Rattle.bfs_base.proofs.Moments.{passed_none}
 use Rattle.bfs_disk.specs.State.{State, Tells}
+use Rattle.bfs_disk.specs.Disk.{MayLeave}
 use Rattle.bfs_device.specs.declared.journal.Progress.{Progress}
 use Rattle.bfs_device.specs.declared.journal.Progress.TheVariants.{Logged, LogSafe, Opened, Durable, Home, HomeSafe, TailMoved, TailSafe, Idle}
 use Rattle.bfs_device.specs.declared.journal.DeviceFault.{DeviceFault}
 use Rattle.bfs_device.specs.declared.journal.DeviceFault.TheVariants.{Disk, Stopped}
 use Rattle.bfs_device.specs.declared.journal.Stop.{Stop}
-use Rattle.bfs_device.specs.Books.{Books, IsRight, AreSame, durable_of}
+use Rattle.bfs_device.specs.Books.{Books, IsRight, IsRightAs, AreSame, RecoversOne, durable_of}
 use Rattle.bfs_device.specs.Data.{IsRested, moved_on}
 use Rattle.bfs_device.specs.Steps.{counted, stepped, still_touched, progress_to, IsStepFault}
 use Rattle.bfs_device.specs.Told.{HasMarked}
-use Rattle.bfs_device.specs.Ahead.{GoesOn}
+use Rattle.bfs_device.specs.Seals.{with_room}
+use Rattle.bfs_device.specs.Ahead.{GoesOn, IsSteady}
 use Rattle.bfs_device.proofs.Forward.{other_ahead}
-use Rattle.bfs_core.specs.Moments.{IsLessTouched, IsRightOn, IsWrittenAt, Marked}
+use Rattle.bfs_core.specs.Moments.{DeviceMoves, IsLessTouched, IsRightOn, IsWrittenAt, Marked}
 use Rattle.bfs_core.proofs.Times.{step_touches}
 
 untouched : (b new : Books) (t : ℕ → Bool) → new.left ≡ b.left → IsLessTouched b new t t
@@ -89,3 +92,58 @@ write_stops b new f f' s s' (Err (Stopped durable count)) ok fault none = sym (a
 pub write_right : {T : Type 0} (block : ℕ) (b new : Books) (t : ℕ → Bool) (st : State) (told : Option State) (result : Result T DeviceFault) → OnOk result (IsWrittenAt block b new t st told) → OnErr result (IsWrittenAt block b new t st told) → IsWrittenAt block b new t st told
 write_right block b new t st told (Ok done) right still = right
 write_right block b new t st told (Err fault) right still = still
+
+-- ---- room
+
+module _ (b : Books) (spare : ℕ) where
+  abbrev roomy : Books
+  roomy = record b { spare = spare }
+
+  roomy_one : (t : ℕ → Bool) (st : State) (image : List ℕ) → RecoversOne b t st image → RecoversOne roomy t st image
+  roomy_one t st image one = record { number = one.number; is_version = one.is_version; recovers = one.recovers }
+
+  roomy_right : (o : Option Stop) (t : ℕ → Bool) (st : State) → IsRightAs o b t st → IsRightAs o roomy t st
+  roomy_right None t st right = right
+  roomy_right (Some stop) t st right = λ image is. roomy_one t st image (right image is)
+
+  roomy_moves : (told : Option State) (clock : ℕ) (since : ℕ → List ℕ → Type 0) → IsSteady roomy
+      → ((t : ℕ → Bool) (right : Tells told (IsRight roomy t)) (image : List ℕ) → MayLeave told image → RecoversOne roomy t right.0 image) → ((c : List ℕ) → since clock c → MayLeave told c)
+      → DeviceMoves b roomy told told clock clock since since
+  roomy_moves told clock since steady now only = record {
+    steady = steady;
+    ahead = other_ahead b roomy refl refl refl refl;
+    stops = λ none. none;
+    right = λ t right. record { touched = t; less = untouched b roomy t refl; right = (right.0, right.1, (roomy_right b.stop t right.0 right.2, λ n is k d. refl)) };
+    time = record {
+      meanwhile = λ t right. passed_none clock since (λ c. Tells told (λ s. RecoversOne b t s c));
+      now = now;
+      only = only;
+      moved = inl (refl, refl);
+      marked = inl refl;
+    };
+  }
+
+spare_alone : (b new : Books) (n : ℕ) → new ≡ record b { spare = n } → new ≡ record b { spare = new.spare }
+spare_alone b new n e = λ i. record {
+  sup = ap (λ (x : Books). x.sup) e i;
+  groups = ap (λ (x : Books). x.groups) e i;
+  phase = ap (λ (x : Books). x.phase) e i;
+  left = ap (λ (x : Books). x.left) e i;
+  marks = ap (λ (x : Books). x.marks) e i;
+  spare = new.spare;
+  moment = ap (λ (x : Books). x.moment) e i;
+  stop = ap (λ (x : Books). x.stop) e i;
+}
+
+-- the books after room was made, or not
+pub room_rests : {E : Type 0} (b new : Books) (result : Result Unit E) → OnOk result (new ≡ with_room b) → OnErr result (new ≡ b) → new ≡ record b { spare = new.spare }
+room_rests b new (Ok done) ok err = spare_alone b new (max b.spare 2) ok
+room_rests b new (Err e) ok err = spare_alone b new b.spare err
+
+pub room_moves : (b new : Books) (told : Option State) (clock : ℕ) (since : ℕ → List ℕ → Type 0) → new ≡ record b { spare = new.spare } → IsSteady new
+    → ((t : ℕ → Bool) (right : Tells told (IsRight new t)) (image : List ℕ) → MayLeave told image → RecoversOne new t right.0 image) → ((c : List ℕ) → since clock c → MayLeave told c)
+    → DeviceMoves b new told told clock clock since since
+room_moves b new told clock since rests steady now only =
+    subst (λ (x : Books). DeviceMoves b x told told clock clock since since) (sym rests)
+    (roomy_moves b new.spare told clock since (subst IsSteady rests steady)
+    (subst (λ (x : Books). (t : ℕ → Bool) (right : Tells told (IsRight x t)) (image : List ℕ) → MayLeave told image → RecoversOne x t right.0 image) rests now) only)

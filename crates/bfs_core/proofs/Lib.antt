@@ -22,3 +22,4 @@ pub mod Wholes
 pub mod Fitting
 pub mod Knowing
 pub mod Calls
+pub mod Halves

@@ -1,6 +1,6 @@
 -- What is true of known bytes: one law for each event, and that a file's block may be written.
-use Rattle.std.specs.Prelude.{◌≡◌, ℕ, List, Bool, Some, IsTrue, slice_get}
-use Rattle.bfs_disk.specs.State.{State, Holds, Filled}
+use Rattle.std.specs.Prelude.{◌*◌, length, ◌≡◌, ℕ, List, Bool, Some, IsTrue, slice_get}
+use Rattle.bfs_disk.specs.State.{State, Holds, Filled, IsHalfWritten, written}
 use Rattle.bfs_disk.specs.Blocks.{contents_of}
 use Rattle.bfs_txn.specs.declared.group.Group.{Group}
 use Rattle.bfs_tree.specs.declared.reply.Entry.{Entry}
@@ -49,3 +49,14 @@ abbrev pub KnownIsWritten : Type 0
 KnownIsWritten = (t0 : Mounted) (sp : SpaceView) (b new : Books) (t : ℕ → Bool) (st next : State) (block : ℕ) → Core t0 sp b t st → IsFaceData t0 sp (newest_map b st) block
     → new ≡ record b { moment = new.moment; stop = new.stop } → AreSameBut block b st new next → HasKnownIn t0 sp (newest_map b st) block (contents_of next (layout_of b.sup).sectors block)
     → HasKnown t0 sp b st → HasKnown t0 sp new next
+
+-- Such a write, where what is written has the known bytes of the block's places too: each sector is old or new after it, as a
+-- failed write leaves it, and so the block has them.
+abbrev pub KnownIsHalfWritten : Type 0
+KnownIsHalfWritten = (t0 : Mounted) (sp : SpaceView) (b : Books) (t : ℕ → Bool) (st next : State) (block : ℕ) (bytes : List ℕ) → Core t0 sp b t st → IsFaceData t0 sp (newest_map b st) block → Filled st → IsOnDisk (Some st.size) b.sup
+    → length bytes ≡ 512 * (layout_of b.sup).sectors → IsHalfWritten st ((layout_of b.sup).sectors * block) bytes next → HasKnown t0 sp b st → HasKnownIn t0 sp (newest_map b st) block bytes
+    → HasKnownIn t0 sp (newest_map b st) block (contents_of next (layout_of b.sup).sectors block)
+
+-- a write that succeeded leaves each sector new
+abbrev pub WrittenIsHalf : Type 0
+WrittenIsHalf = (st : State) (at : ℕ) (bytes : List ℕ) → IsHalfWritten st at bytes (written st at bytes)

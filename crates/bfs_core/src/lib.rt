@@ -9,8 +9,8 @@ mod laws;
 mod pairs;
 
 pub use bytes::{
-    file_is_data, known_goes_on, known_is_entered, known_is_opened, known_is_released,
-    known_is_sealed, known_is_written,
+    file_is_data, known_goes_on, known_is_entered, known_is_half_written, known_is_opened,
+    known_is_released, known_is_sealed, known_is_written, written_is_half,
 };
 pub use kept::{
     entry_is_kept, fit_is_core, fit_is_longer, fit_is_moved, fit_is_sealed, fit_is_written,

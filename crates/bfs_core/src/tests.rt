@@ -10,6 +10,7 @@ use crate::{
 };
 use bfs_device::{Device, DeviceFault, Progress};
 use bfs_disk::{Disk, MemDisk};
+use std::alloc::AllocError;
 use std::test::Fail;
 
 fn step_of<D: Disk>(device: &mut Device<D>) -> Result<Progress, DeviceFault>
@@ -27,6 +28,15 @@ fn read_of<D: Disk>(device: &mut Device<D>, block: u64, into: &mut [u8]) -> Resu
     ensures { DeviceMoves device.old.books device.new.books (D.state device.old.disk) (D.state device.new.disk) (D.clock device.old.disk) (D.clock device.new.disk) (D.since device.old.disk) (D.since device.new.disk) }
 {
     let result = device.block(block, into);
+    device.steady();
+    let _durable = device.durable();
+    result
+}
+
+fn room_of<D: Disk>(device: &mut Device<D>) -> Result<(), AllocError>
+    ensures { DeviceMoves device.old.books device.new.books (D.state device.old.disk) (D.state device.new.disk) (D.clock device.old.disk) (D.clock device.new.disk) (D.since device.old.disk) (D.since device.new.disk) }
+{
+    let result = device.room();
     device.steady();
     let _durable = device.durable();
     result

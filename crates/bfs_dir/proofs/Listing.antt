@@ -1,15 +1,15 @@
 -- The rows of a range over a whole tree of names, as a directory is listed.
-use Rattle.std.proofs.Common.{◌≡◌, ◌∙◌, ℕ, ℤ, pos, List, [], ◌∷◌, ◌++◌, None, refl, sym, ap, ap₂, map}
+use Rattle.std.proofs.Common.{◌≡◌, ◌∙◌, ℕ, ℤ, List, [], ◌∷◌, ◌++◌, None, refl, sym, ap, ap₂, map}
 use Rattle.std.specs.List.{flat_map}
 use Rattle.bfs_base.specs.declared.kind.KeyKind.{KeyKind}
 use Rattle.bfs_node.specs.Page.{Row}
-use Rattle.bfs_range.specs.Answers.{answer_of, answer_row}
+use Rattle.bfs_range.specs.Answers.{answer_of}
 use Rattle.bfs_range.specs.Ranges.{rows_between}
 use Rattle.bfs_super.specs.Conditions.{natural}
 use Rattle.bfs_values.specs.Values.{values_in, numbers_in}
 use Rattle.bfs_maps.specs.NumberTrees.{AreNumbers, IsNumber}
 use Rattle.bfs_maps.proofs.Plain.{number_link}
-use Rattle.bfs_dir.specs.Directories.{dir_row, dir_rows, listed}
+use Rattle.bfs_dir.specs.Directories.{dir_rows, listed}
 use Rattle.bfs_dir.specs.declared.rows.DirRow.{DirRow}
 
 -- a range without ends has all rows

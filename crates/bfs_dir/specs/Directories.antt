@@ -1,6 +1,5 @@
 -- A directory: names and ids, in a tree of names that stands in the stream of an inode.
 use Rattle.std.specs.Prelude.{ℕ, List, Option, map}
-use Rattle.std.specs.List.{flat_map}
 use Rattle.bfs_base.specs.declared.kind.KeyKind.TheVariants.{Text}
 use Rattle.bfs_bitmap.specs.Runs.{Room}
 use Rattle.bfs_node.specs.Page.{Row}

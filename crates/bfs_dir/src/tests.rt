@@ -108,18 +108,29 @@ fn put_tree(pages: &mut [u8])
     pages[1024..2048].copy_from_slice(&page);
 }
 
-/// The volume's first blocks, eight of which are in use.
-fn volume(alloc: Global) -> Result<Silent, AllocError>
-    ensures { IfOk result (λ s. s.blocks.block_size ≡ 1024) }
+/// Writes the volume's first eight blocks, which are in use.
+fn put_volume(bytes: &mut [u8])
+    requires { 8192 ≤ length bytes.old }
+    ensures { length bytes.new ≡ length bytes.old }
 {
-    let mut bytes = vec![in alloc; 0u8; BLOCK * 8]?;
     bytes[BLOCK] = 255;
-    put_run(&mut bytes, 4 * BLOCK + 72, run(5, 2));
-    put_i64(&mut bytes, 4 * BLOCK + 168, 2048);
-    put_i64(&mut bytes, 4 * BLOCK + 208, 2048);
+    put_run(bytes, 4 * BLOCK + 72, run(5, 2));
+    put_i64(bytes, 4 * BLOCK + 168, 2048);
+    put_i64(bytes, 4 * BLOCK + 208, 2048);
     put_tree(&mut bytes[5 * BLOCK..7 * BLOCK]);
+}
+
+/// The volume, by the size of its blocks, which is 1,024.
+fn volume(alloc: Global, size: u32) -> Result<Silent, AllocError>
+    requires some { 1024 ≤ size }
+    requires small { size ≤ 2048 }
+    ensures { IfOk result (λ s. s.blocks.block_size ≡ size) }
+{
+    let block = size as usize;
+    let mut bytes = vec![in alloc; 0u8; block * 8]?;
+    put_volume(&mut bytes);
     Ok(Silent {
-        blocks: MemBlocks::new(bytes, 1024),
+        blocks: MemBlocks::new(bytes, size),
     })
 }
 
@@ -334,7 +345,7 @@ fn runs_on(alloc: Global, calls: u32, seed: u64) -> Result<Result<bool, MapFault
     if sup.num_blocks < 6 {
         return Ok(Ok(false));
     }
-    let mut under = volume(alloc)?;
+    let mut under = volume(alloc, sup.block_size)?;
     let mut open = Changed::new(alloc);
     let mut bitmap = Bitmap::of(alloc, &sup);
     let mut edits = Overlay::begin(&mut open, &mut under);
@@ -347,8 +358,8 @@ fn runs_on(alloc: Global, calls: u32, seed: u64) -> Result<Result<bool, MapFault
 #[test]
 fn a_directory_answers_as_a_table_does(rt: HostRuntime) -> Result<(), Fail> {
     let alloc = rt.alloc();
-    for seed in [7u64, 1000] {
-        let right = runs_on(alloc, 300, seed)?;
+    for (seed, calls) in [(7u64, 300u32), (1000, 10_000)] {
+        let right = runs_on(alloc, calls, seed)?;
         assert!(rt; matches!(right, Ok(true)), "{seed}");
     }
     Ok(())

@@ -1,5 +1,5 @@
 -- A key that was looked up in the leaf on its way.
-use Rattle.std.proofs.Common.{◌≡◌, ◌<◌, ◌∙◌, ℕ, ℤ, pos, List, length, Option, Some, None, refl, sym, ap, subst}
+use Rattle.std.proofs.Common.{◌≡◌, ◌<◌, ◌∙◌, ℕ, ℤ, pos, List, length, Option, Some, None, sym, ap, subst}
 use Rattle.std.specs.Prelude.{Ok, Err, IfSome}
 use Rattle.bfs_base.specs.declared.kind.KeyKind.{KeyKind}
 use Rattle.bfs_node.specs.Page.{Row, rows_of, row_in, value_of}

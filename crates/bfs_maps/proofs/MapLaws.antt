@@ -1,5 +1,5 @@
 -- Rows act as a map.
-use Rattle.std.proofs.Common.{◌≡◌, ◌≢◌, ◌∙◌, ℤ, List, [], ◌∷◌, Bool, true, false, cond, Option, Some, None, refl, sym, ap}
+use Rattle.std.proofs.Common.{◌≡◌, ◌≢◌, ◌∙◌, ℤ, List, [], ◌∷◌, Bool, true, false, cond, Some, None, refl, sym, ap}
 use Rattle.std.specs.Ordering.{is_eq}
 use Rattle.std.specs.declared.cmp.Ordering.{Ordering}
 use Rattle.std.specs.declared.cmp.Ordering.TheVariants.{Less, Equal, Greater}
@@ -10,8 +10,8 @@ use Rattle.bfs_base.specs.declared.kind.KeyKind.TheVariants.{Text}
 use Rattle.bfs_node.proofs.Order.{key_cmp_total}
 use Rattle.bfs_node.specs.Page.{Row}
 use Rattle.bfs_pages.specs.Maps.{assoc, put, without}
-use Rattle.bfs_pages.specs.Order.{Key, at_most, same_keys, comes_before}
-use Rattle.bfs_pages.proofs.KeyOrder.{not_most, less_not_same, greater_not_same, same_itself, same_before}
+use Rattle.bfs_pages.specs.Order.{Key, at_most, same_keys}
+use Rattle.bfs_pages.proofs.KeyOrder.{not_most, greater_not_same, same_itself}
 use Rattle.bfs_maps.specs.Laws.{DiffersAt}
 
 equal-is : (o : Ordering) → is_eq o ≡ true → o ≡ Equal

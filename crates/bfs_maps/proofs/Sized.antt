@@ -1,12 +1,12 @@
 -- The size of a stream that a tree stands in.
-use Rattle.std.proofs.Common.{◌≡◌, ◌≤◌, ◌⊎◌, inl, inr, ◌^◌, ◌%◌, ◌∙◌, ℕ, ℤ, pos, List, length, Option, Some, sym, ap, subst, arith}
+use Rattle.std.proofs.Common.{◌≡◌, ◌≤◌, inl, inr, ◌^◌, ◌%◌, ◌∙◌, ℕ, ℤ, pos, List, length, Option, Some, sym, ap, subst, arith}
 use Rattle.std.proofs.Math.Pow.{pow_mono}
 use Rattle.std.specs.Prelude.{IsSome}
 use Rattle.bfs_bitmap.specs.Runs.{Room}
 use Rattle.bfs_super.specs.Conditions.{natural}
 use Rattle.bfs_stream.proofs.Frames.{has_first}
 use Rattle.bfs_stream.specs.Sizes.{Origin}
-use Rattle.bfs_stream.specs.Places.{arrays_at, fields}
+use Rattle.bfs_stream.specs.Places.{arrays_at}
 use Rattle.bfs_stream.specs.Told.{contents}
 use Rattle.bfs_stream.specs.declared.fault.GrowFault.{GrowFault}
 use Rattle.bfs_stream.specs.declared.fault.GrowFault.TheVariants.{NoRun, Full, Block}

@@ -1,17 +1,15 @@
 -- What calls on the pages of a tree's stream come to for the volume.
-use Rattle.std.proofs.Common.{◌≡◌, ◌∙◌, inl, ℕ, ℤ, List, Bool, Option, Some, None, refl, sym, ap, subst}
+use Rattle.std.proofs.Common.{◌≡◌, ◌∙◌, inl, ℕ, List, Bool, Option, Some, None, refl, sym, ap, subst}
 use Rattle.std.specs.Option.{option_map}
 use Rattle.std.specs.Prelude.{Result, Ok, Err, OnOk, IfOk, IfErr, MatchResult, IsSome, IfSome}
 use Rattle.bfs_base.specs.declared.kind.KeyKind.{KeyKind}
 use Rattle.bfs_bitmap.specs.Runs.{Room}
 use Rattle.bfs_node.specs.Page.{Row}
-use Rattle.bfs_node.specs.declared.fault.PageKind.{PageKind}
 use Rattle.bfs_node.specs.declared.fault.TreeFault.{TreeFault}
 use Rattle.bfs_node.specs.declared.fault.TreeFault.TheVariants.{Exists, Absent, Damaged, Pages, NoMemory}
 use Rattle.bfs_txn.specs.Faults.{Counts}
 use Rattle.bfs_insert.specs.Puts.{IsHindered}
 use Rattle.bfs_pages.specs.Answers.{IsOfPages}
-use Rattle.bfs_pages.specs.Maps.{assoc}
 use Rattle.bfs_pages.specs.Order.{Key}
 use Rattle.bfs_stream.specs.Faults.{IsGrowCause}
 use Rattle.bfs_stream.specs.Grown.{AreWritten}
@@ -23,7 +21,6 @@ use Rattle.bfs_stream_pages.specs.Causes.{HasCause, HasFailed, IsPageCause, IsRe
 use Rattle.bfs_stream_pages.specs.Goes.{GoesOn, HasMoved}
 use Rattle.bfs_stream_pages.specs.Held.{Held, known, stream_of}
 use Rattle.bfs_stream_pages.specs.Moves.{Moved}
-use Rattle.bfs_stream_pages.specs.Steps.{IsUndamaged}
 use Rattle.bfs_values.specs.Kinds.{IsCut, IsLacking, IsWanted}
 use Rattle.bfs_maps.specs.Mapped.{StreamNow}
 use Rattle.bfs_maps.specs.Refused.{IsNumberPage, IsUnnumbered, IsTurnedAway, IsNotPut, IsNotTaken, IsPutFault, IsTakeFault, IsUndone, IsReadFault, HasReadCause, HasPutCause, HasTakeCause}

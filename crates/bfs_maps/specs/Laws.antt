@@ -1,5 +1,5 @@
 -- Rows act as a map.
-use Rattle.std.specs.Prelude.{◌≡◌, ◌≢◌, ℤ, List, Bool, false, Option, Some, None}
+use Rattle.std.specs.Prelude.{◌≡◌, ◌≢◌, ℤ, List, false, Option, Some, None}
 use Rattle.bfs_base.specs.declared.kind.KeyKind.{KeyKind}
 use Rattle.bfs_base.specs.declared.kind.KeyKind.TheVariants.{Text}
 use Rattle.bfs_node.specs.Page.{Row}

@@ -1,5 +1,5 @@
 -- Why a call on a tree in a stream is refused.
-use Rattle.std.specs.Prelude.{◌≡◌, ◌⊎◌, ◌%◌, ℕ, ℤ, pos, List, length, Option, None, Some, IfSome}
+use Rattle.std.specs.Prelude.{◌≡◌, ◌⊎◌, ◌%◌, ℕ, ℤ, pos, List, Option, None, Some, IfSome}
 use Rattle.bfs_base.specs.declared.kind.KeyKind.{KeyKind}
 use Rattle.bfs_bitmap.specs.Runs.{Room}
 use Rattle.bfs_node.specs.Page.{Row}
@@ -19,9 +19,8 @@ use Rattle.bfs_stream.specs.Told.{contents}
 use Rattle.bfs_stream.specs.declared.fault.GrowFault.{GrowFault}
 use Rattle.bfs_stream.specs.declared.fault.GrowFault.TheVariants as grow
 use Rattle.bfs_stream_pages.specs.Causes.{HasFailed, IsOfBlock}
-use Rattle.bfs_stream_pages.specs.Held.{stream_of}
 use Rattle.bfs_stream_pages.specs.Steps.{IsUndamaged}
-use Rattle.bfs_values.specs.Kinds.{IsValueOf, IsWanted}
+use Rattle.bfs_values.specs.Kinds.{IsValueOf}
 use Rattle.bfs_maps.specs.NumberTrees.{IsNumber}
 
 -- the page at this byte is of this kind, in a tree whose values are numbers

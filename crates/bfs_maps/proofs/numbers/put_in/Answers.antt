@@ -1,9 +1,8 @@
-use Rattle.std.proofs.Common.{rules, ◌≡◌, ◌∙◌, List, None, pos, ap, subst, w64, to_z, of_z, ℤ}
+use Rattle.std.proofs.Common.{rules, ◌≡◌, ◌∙◌, List, None, pos, subst, w64, to_z, of_z}
 use Rattle.std.specs.Prelude.{OnOk}
 use Rattle.bfs_node.specs.Page.{Row}
-use Rattle.bfs_pages.specs.Maps.{assoc, put}
+use Rattle.bfs_pages.specs.Maps.{assoc}
 use Rattle.bfs_pages.specs.Shapes.{tree_rows}
-use Rattle.bfs_pages.specs.Trees.{HasRows}
 use Rattle.bfs_values.specs.Rows.{rows_in}
 use Rattle.bfs_values.proofs.Rows.{rows_those}
 use Rattle.bfs_maps.proofs.Putting.{insert_result}

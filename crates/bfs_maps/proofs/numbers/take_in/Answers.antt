@@ -1,5 +1,4 @@
-use Rattle.std.proofs.Common.{◌≡◌, ◌∙◌, ℕ, Option, Some, subst}
-use Rattle.std.specs.Prelude.{MatchResult}
+use Rattle.std.proofs.Common.{◌∙◌, ℕ, Option, subst}
 use Rattle.bfs_values.specs.Rows.{rows_in}
 use Rattle.bfs_maps.specs.NumberTrees.{IsNumberAt}
 use Rattle.bfs_maps.proofs.Putting.{remove_result, take_refusal}

@@ -1,6 +1,6 @@
-use Rattle.std.proofs.Common.{◌≡◌, ◌∙◌, ℕ, inl, sym, ap, subst}
+use Rattle.std.proofs.Common.{◌≡◌, ◌∙◌, ℕ, sym, subst}
 use Rattle.bfs_stream.specs.Sizes.{Origin}
-use Rattle.bfs_stream_pages.specs.Held.{IsReadable, stream_of}
+use Rattle.bfs_stream_pages.specs.Held.{IsReadable}
 use Rattle.bfs_stream_pages.specs.GoesLaws.{sized_of}
 use Rattle.bfs_maps.specs.Mapped.{origin_of}
 use Rattle.bfs_maps.proofs.Sized.{size_here, same_size, unsized_whole}

@@ -1,4 +1,4 @@
-use Rattle.std.proofs.Common.{rules, ◌≡◌, ◌≤◌, ◌∙◌, ◌%◌, ℕ, List, length, inr, pos, refl, ap, sym, subst, arith}
+use Rattle.std.proofs.Common.{rules, ◌≡◌, ◌≤◌, ◌∙◌, ℕ, List, length, inr, refl, ap, sym, arith}
 use Rattle.std.proofs.lemmas.List.{with_items_is}
 use Rattle.bfs_inode.specs.Inode.{stream_at}
 use Rattle.bfs_stream.specs.Told.{contents}

@@ -1,5 +1,5 @@
-use Rattle.std.proofs.Common.{rules, ◌≡◌, ◌∙◌, pos, Some, None, sym, ap, subst}
-use Rattle.std.specs.Prelude.{OnOk, IfOk, IfErr}
+use Rattle.std.proofs.Common.{rules, ◌≡◌, ◌∙◌, pos, None, ap, subst}
+use Rattle.std.specs.Prelude.{OnOk, IfErr}
 use Rattle.bfs_bitmap.specs.Runs.{Room}
 use Rattle.bfs_pages.specs.Maps.{assoc, put}
 use Rattle.bfs_stream.specs.Sizes.{Origin}

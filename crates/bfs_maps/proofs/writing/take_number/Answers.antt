@@ -1,4 +1,4 @@
-use Rattle.std.proofs.Common.{◌≡◌, ◌∙◌, ℕ, pos, refl, sym, subst}
+use Rattle.std.proofs.Common.{◌≡◌, ◌∙◌, ℕ, refl, sym, subst}
 use Rattle.bfs_pages.specs.Maps.{without}
 use Rattle.bfs_stream.specs.Sizes.{Origin}
 use Rattle.bfs_stream_pages.specs.Held.{Held}

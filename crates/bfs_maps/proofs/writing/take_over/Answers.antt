@@ -1,4 +1,4 @@
-use Rattle.std.proofs.Common.{ap, pos}
+use Rattle.std.proofs.Common.{ap}
 use Rattle.bfs_pages.specs.Maps.{without}
 use Rattle.bfs_stream_pages.specs.Held.{known, stream_of}
 use Rattle.bfs_maps.specs.Mapped.{rows_of}

@@ -1,9 +1,8 @@
-use Rattle.std.proofs.Common.{◌≡◌, pos, Some, None, refl, sym, ap, subst}
-use Rattle.std.specs.Prelude.{OnOk, IfOk, IfErr}
+use Rattle.std.proofs.Common.{◌≡◌, pos, Some, refl, sym, subst}
+use Rattle.std.specs.Prelude.{IfOk, IfErr}
 use Rattle.bfs_base.specs.declared.kind.KeyKind.TheVariants.{Text}
 use Rattle.bfs_pages.specs.Maps.{assoc, without}
-use Rattle.bfs_stream.specs.Grown.{IsOfVolume}
-use Rattle.bfs_stream.specs.Sizes.{Origin, Sizes, sizes_of}
+use Rattle.bfs_stream.specs.Sizes.{Origin, sizes_of}
 use Rattle.bfs_maps.specs.Mapped.{rows_of, HasHeld, IsMap}
 use Rattle.bfs_maps.specs.NumberTrees.{IsTreeOf}
 use Rattle.bfs_maps.specs.Refused.{IsTakeFault}

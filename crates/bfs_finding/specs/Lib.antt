@@ -1,3 +1,4 @@
+pub mod Which
 pub mod Ways
 pub mod NodeFaults
 pub mod StreamFaults

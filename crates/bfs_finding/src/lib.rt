@@ -5,9 +5,11 @@
 
 mod finding;
 mod laws;
+mod numbers;
 
 pub use finding::{Finding, InodePart, PagePart};
 pub use laws::{
     broken_excludes, finding_excludes, names_are_worked, sound_stands, streams_are_worked,
     walks_are_worked,
 };
+pub use numbers::{fault_number, inode_number, page_number};

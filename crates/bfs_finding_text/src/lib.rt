@@ -1,11 +1,9 @@
 // The line of a finding, in the words of specs/Texts.antt.
 #![tactic(auto)]
 
-mod numbers;
 mod refusals;
 mod words;
 
-pub use numbers::fault_number;
 pub use refusals::{put_entry_line, put_short_line};
 pub use words::put_line;
 

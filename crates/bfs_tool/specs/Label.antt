@@ -5,7 +5,7 @@ use Rattle.bfs_base.specs.Images.{sector}
 use Rattle.bfs_disk.specs.Disk.{ReadsSectors, HasSectors}
 use Rattle.bfs_disk.specs.State.{State}
 use Rattle.bfs_super.specs.declared.sup.Super.{Super}
-use Rattle.bfs_finding_text.specs.Texts.{fault_number}
+use Rattle.bfs_finding.specs.Which.{fault_number}
 use Rattle.bfs_super.specs.Layout.{super_at}
 use Rattle.bfs_super.specs.Label.{name_of}
 use Rattle.bfs_super.specs.Conditions.{IsValid, IsRefusal}

@@ -11,7 +11,7 @@ ghost use Rattle.bfs_tool.specs.Label.{IsLoaded, OldOrNew, EndsBy, LabelsBy, IsR
 
 use crate::line::Line;
 use bfs_disk::{Disk, Failed};
-use bfs_finding_text::fault_number;
+use bfs_finding::fault_number;
 use bfs_super::{Super, SuperFault};
 use itoa::Buffer;
 

@@ -1,8 +1,8 @@
-// The numbers that stand for what is wrong.
+// The numbers that stand for what is wrong where a finding is printed.
 ghost use Rattle.std.specs.Prelude.{◌≡◌, ◌≤◌};
-ghost use Rattle.bfs_finding_text.specs.Texts.{fault_number, inode_number, page_number};
+ghost use Rattle.bfs_finding.specs.Which.{fault_number, inode_number, page_number};
 
-use bfs_finding::{InodePart, PagePart};
+use crate::finding::{InodePart, PagePart};
 use bfs_super::SuperFault;
 
 /// The number of a condition of the superblock, in the order in which they are tested.

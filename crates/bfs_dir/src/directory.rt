@@ -5,6 +5,7 @@ ghost use Rattle.bfs_base.specs.declared.kind.KeyKind.TheVariants.{Text};
 ghost use Rattle.bfs_super.specs.Conditions.{IsValid, natural};
 ghost use Rattle.bfs_bitmap.specs.Fills.{IsBitmapBlock};
 ghost use Rattle.bfs_txn.specs.Faults.{AreLater};
+ghost use Rattle.bfs_pages.specs.Answers.{IsOfKind};
 ghost use Rattle.bfs_pages.specs.Maps.{assoc, put, without};
 ghost use Rattle.bfs_stream.specs.Grown.{IsOfVolume};
 ghost use Rattle.bfs_stream.specs.Sizes.{sizes_of};
@@ -12,7 +13,7 @@ ghost use Rattle.bfs_stream_pages.specs.Held.{stream_of};
 ghost use Rattle.bfs_values.specs.Kinds.{IsWanted};
 ghost use Rattle.bfs_maps.specs.Mapped.{HasReadable, HasHeld, HasRowsNow};
 ghost use Rattle.bfs_maps.specs.NumberTrees.{IsNumberTree, IsNumberAt};
-ghost use Rattle.bfs_maps.specs.Refused.{IsNumberPage, IsReadFault, IsUndone, IsPutFault, IsTakeFault, HasReadCause, HasPutCause, HasTakeCause};
+ghost use Rattle.bfs_maps.specs.Refused.{IsNumberPage, IsChangeFault, IsReadFault, IsUndone, IsPutFault, IsTakeFault, HasReadCause, HasPutCause, HasTakeCause};
 ghost use Rattle.bfs_dir.specs.Directories.{IsDirectory, names_of, listed};
 
 use crate::rows::{DirRows, dir_rows_of};
@@ -109,6 +110,7 @@ impl Dir {
         ensures put { (m : ℕ → Option (List ℕ)) → E.told edits.old ≡ Some m → IsDirectory self.old bitmap.old m → OnOk result (HasRowsNow Text self.old bitmap.old bitmap.new m (put Text (names_of self.old m) name.now (pos id)) (E.told edits.new) (E.changed edits.old) (E.changed edits.new)) }
         ensures absent { (m : ℕ → Option (List ℕ)) → E.told edits.old ≡ Some m → IsDirectory self.old bitmap.old m → OnOk result (assoc Text (names_of self.old m) name.now ≡ None) }
         ensures refused { (m : ℕ → Option (List ℕ)) → E.told edits.old ≡ Some m → IsDirectory self.old bitmap.old m → IfErr result (IsPutFault Text self.old bitmap.old m (names_of self.old m) name.now) }
+        ensures blamed { (m : ℕ → Option (List ℕ)) → E.told edits.old ≡ Some m → IfErr result (IsChangeFault (IsOfKind Text) self.old bitmap.old m (E.told edits.new)) }
         ensures same { self.new ≡ self.old }
         ensures rest { bitmap.new ≡ record bitmap.old { tally = bitmap.new.tally } }
         ensures changed { (k : ℕ) → E.changed edits.new k ≡ true → (E.changed edits.old k ≡ true) ⊎ (IsBitmapBlock bitmap.old k ⊎ (k < self.old.sizes.blocks)) }
@@ -139,6 +141,7 @@ impl Dir {
         ensures taken { (m : ℕ → Option (List ℕ)) → E.told edits.old ≡ Some m → IsDirectory self.old bitmap.old m → OnOk result (HasRowsNow Text self.old bitmap.old bitmap.new m (without Text (names_of self.old m) name.now) (E.told edits.new) (E.changed edits.old) (E.changed edits.new)) }
         ensures id { (m : ℕ → Option (List ℕ)) → E.told edits.old ≡ Some m → IsDirectory self.old bitmap.old m → IfOk result (λ id. assoc Text (names_of self.old m) name.now ≡ Some (pos id)) }
         ensures refused { (m : ℕ → Option (List ℕ)) → E.told edits.old ≡ Some m → IsDirectory self.old bitmap.old m → IfErr result (IsTakeFault Text self.old bitmap.old m (names_of self.old m) name.now) }
+        ensures blamed { (m : ℕ → Option (List ℕ)) → E.told edits.old ≡ Some m → IfErr result (IsChangeFault (IsNumberPage Text) self.old bitmap.old m (E.told edits.new)) }
         ensures same { self.new ≡ self.old }
         ensures rest { bitmap.new ≡ record bitmap.old { tally = bitmap.new.tally } }
         ensures changed { (k : ℕ) → E.changed edits.new k ≡ true → (E.changed edits.old k ≡ true) ⊎ (IsBitmapBlock bitmap.old k ⊎ (k < self.old.sizes.blocks)) }

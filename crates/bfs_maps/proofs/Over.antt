@@ -1,9 +1,13 @@
 -- What pages that were begun over a volume and dropped again come to.
 use Rattle.std.proofs.Common.{◌≡◌, ℕ, List, Bool, Option, sym, subst}
-use Rattle.std.specs.Prelude.{Result, Ok, Err, OnOk}
+use Rattle.std.specs.Prelude.{Result, Ok, Err, OnOk, IfErr}
 use Rattle.bfs_base.specs.declared.kind.KeyKind.{KeyKind}
 use Rattle.bfs_bitmap.specs.Runs.{Room}
+use Rattle.bfs_node.specs.declared.fault.PageKind.{PageKind}
+use Rattle.bfs_node.specs.declared.fault.TreeFault.{TreeFault}
 use Rattle.bfs_stream.specs.Sizes.{Origin}
+use Rattle.bfs_stream.specs.declared.fault.GrowFault.{GrowFault}
+use Rattle.bfs_maps.specs.Refused.{IsChangeFault}
 use Rattle.bfs_stream_pages.specs.Held.{Held, stream_of}
 use Rattle.bfs_maps.specs.Mapped.{StreamNow}
 use Rattle.bfs_maps.specs.NumberTrees.{IsNumberTree}
@@ -38,3 +42,7 @@ now_named P m o other v room now later told told_now old old_now new new_now a b
 pub on_ok : {T F : Type 0} (P Q : Type 0) (r : Result T F) → OnOk r P → (P → Q) → OnOk r Q
 on_ok P Q (Ok x) is f = f is
 on_ok P Q (Err e) is f = tt
+
+-- the same fault by other names
+pub change_named : {T : Type 0} (good : List ℕ → ℕ → PageKind → Type 0) (m : ℕ → Option (List ℕ)) (o other : Origin) (v room : Room) (told told_now : Option (ℕ → Option (List ℕ))) (r : Result T (TreeFault GrowFault)) → other ≡ o → room ≡ v → told_now ≡ told → IfErr r (IsChangeFault good other room m told_now) → IfErr r (IsChangeFault good o v m told)
+change_named good m o other v room told told_now r a b d is = subst (λ (x : Origin × Room × Option (ℕ → Option (List ℕ))). IfErr r (IsChangeFault good x.0 x.1 m x.2)) (λ i. (a i, b i, d i)) is

@@ -1,15 +1,16 @@
 -- What calls on the pages of a tree's stream come to for the volume.
-use Rattle.std.proofs.Common.{◌≡◌, ◌∙◌, inl, ℕ, List, Bool, Option, Some, None, refl, sym, ap, subst}
+use Rattle.std.proofs.Common.{◌≡◌, ◌∙◌, inl, ℕ, List, Bool, Option, Some, None, refl, sym, ap, subst, inr, ◌⊎◌, true, false}
 use Rattle.std.specs.Option.{option_map}
 use Rattle.std.specs.Prelude.{Result, Ok, Err, OnOk, IfOk, IfErr, MatchResult, IsSome, IfSome}
 use Rattle.bfs_base.specs.declared.kind.KeyKind.{KeyKind}
 use Rattle.bfs_bitmap.specs.Runs.{Room}
 use Rattle.bfs_node.specs.Page.{Row}
+use Rattle.bfs_node.specs.declared.fault.PageKind.{PageKind}
 use Rattle.bfs_node.specs.declared.fault.TreeFault.{TreeFault}
 use Rattle.bfs_node.specs.declared.fault.TreeFault.TheVariants.{Exists, Absent, Damaged, Pages, NoMemory}
 use Rattle.bfs_txn.specs.Faults.{Counts}
 use Rattle.bfs_insert.specs.Puts.{IsHindered}
-use Rattle.bfs_pages.specs.Answers.{IsOfPages}
+use Rattle.bfs_pages.specs.Answers.{IsOfPages, IsOfKind}
 use Rattle.bfs_pages.specs.Order.{Key}
 use Rattle.bfs_stream.specs.Faults.{IsGrowCause}
 use Rattle.bfs_stream.specs.Grown.{AreWritten}
@@ -18,12 +19,12 @@ use Rattle.bfs_stream.specs.Sizes.{Origin}
 use Rattle.bfs_stream.specs.Told.{contents}
 use Rattle.bfs_stream.specs.declared.fault.GrowFault.{GrowFault}
 use Rattle.bfs_stream_pages.specs.Causes.{HasCause, HasFailed, IsPageCause, IsReadCause}
-use Rattle.bfs_stream_pages.specs.Goes.{GoesOn, HasMoved}
+use Rattle.bfs_stream_pages.specs.Goes.{GoesOn, HasMoved, HasFault}
 use Rattle.bfs_stream_pages.specs.Held.{Held, known, stream_of}
 use Rattle.bfs_stream_pages.specs.Moves.{Moved}
 use Rattle.bfs_values.specs.Kinds.{IsCut, IsLacking, IsWanted}
 use Rattle.bfs_maps.specs.Mapped.{StreamNow}
-use Rattle.bfs_maps.specs.Refused.{IsNumberPage, IsUnnumbered, IsTurnedAway, IsNotPut, IsNotTaken, IsPutFault, IsTakeFault, IsUndone, IsReadFault, HasReadCause, HasPutCause, HasTakeCause}
+use Rattle.bfs_maps.specs.Refused.{IsNumberPage, IsUnnumbered, IsTurnedAway, IsNotPut, IsNotTaken, IsPutFault, IsTakeFault, IsUndone, IsReadFault, HasReadCause, HasPutCause, HasTakeCause, IsChangeFault}
 
 -- what pages stood over when the calls began
 pub record Before : Type 0 where
@@ -218,3 +219,38 @@ module _ (kind : KeyKind) (o : Origin) (told : Option (ℕ → Option (List ℕ)
   rows_cause (Damaged page sort) why = tt
   rows_cause (Pages f) why = (why.block, why.below)
   rows_cause NoMemory why = tt
+
+-- a page that could not be added before has its reason
+some_failed : (o : Origin) (v : Room) (long : ℕ) (m : ℕ → Option (List ℕ)) (failed : Option GrowFault) (counts counts_now : Counts) → Held o v long m → IsSome failed → HasFault o v long (Some m) None failed counts counts_now → (fault : GrowFault) × HasFailed o v m fault
+some_failed o v long m None counts counts_now held some h = absurd (let bad : false ≡ true = some in cc)
+some_failed o v long m (Some f) counts counts_now held some h = (f, h.reason held)
+
+-- a page that a call which changes blames
+pub page_blamed : (good : List ℕ → ℕ → PageKind → Type 0) (o back : Origin) (v now : Room) (long more : ℕ) (m : ℕ → Option (List ℕ)) (failed : Option GrowFault) (start told : Option (ℕ → Option (List ℕ))) (old new : ℕ → Bool) (counts counts_now : Counts) (page : ℕ) (sort : PageKind)
+    → back ≡ o → Held o v long m → GoesOn o v now long more (Some m) (known failed start told) None failed old new counts counts_now → IfSome (option_map (stream_of back) (known failed start told)) (λ bytes. ¬ good bytes page sort)
+    → IfSome told (λ map. ¬ good (stream_of o map) page sort) ⊎ ((fault : GrowFault) × HasFailed o v m fault)
+page_blamed good o back v now long more m failed start told old new counts counts_now page sort same held goes bad = by_known (known failed start told) refl goes.moved bad
+  where
+    by_known : (k : Option (ℕ → Option (List ℕ))) → known failed start told ≡ k → HasMoved o v now long more (Some m) k failed old new → IfSome (option_map (stream_of back) k) (λ bytes. ¬ good bytes page sort)
+        → IfSome told (λ map. ¬ good (stream_of o map) page sort) ⊎ ((fault : GrowFault) × HasFailed o v m fault)
+    by_known None e moved h = inr (some_failed o v long m failed counts counts_now held moved goes.fault)
+    by_known (Some map) e moved h =
+        inl (subst (λ (t : Option (ℕ → Option (List ℕ))). IfSome t (λ map. ¬ good (stream_of o map) page sort)) (sym (told_of failed start told map e)) (subst (λ (x : Origin). ¬ good (stream_of x map) page sort) same h))
+
+-- the faults of a call that puts, whatever the bytes are
+pub put_change : (kind : KeyKind) (o : Origin) (v : Room) (m : ℕ → Option (List ℕ)) (at now : Option (List ℕ)) (told : Option (ℕ → Option (List ℕ))) (cause : GrowFault → Type 0) (fault : TreeFault GrowFault) → IsHindered kind at now cause fault → ((f : GrowFault) → cause f → HasFailed o v m f)
+    → ((page : ℕ) (sort : PageKind) → IfSome now (λ bytes. ¬ IsOfKind kind bytes page sort) → IfSome told (λ map. ¬ IsOfKind kind (stream_of o map) page sort) ⊎ ((fault : GrowFault) × HasFailed o v m fault)) → IsChangeFault (IsOfKind kind) o v m told fault
+put_change kind o v m at now told cause Exists why from blame = tt
+put_change kind o v m at now told cause Absent why from blame = tt
+put_change kind o v m at now told cause (Damaged page sort) why from blame = blame page sort why
+put_change kind o v m at now told cause (Pages f) why from blame = inr (from f why)
+put_change kind o v m at now told cause NoMemory why from blame = tt
+
+-- and of one that takes
+pub take_change : (kind : KeyKind) (o : Origin) (v : Room) (m : ℕ → Option (List ℕ)) (at now : Option (List ℕ)) (told : Option (ℕ → Option (List ℕ))) (cause : GrowFault → Type 0) (fault : TreeFault GrowFault) → IsTurnedAway kind at now cause fault → ((f : GrowFault) → cause f → HasFailed o v m f)
+    → ((page : ℕ) (sort : PageKind) → IfSome now (λ bytes. ¬ IsNumberPage kind bytes page sort) → IfSome told (λ map. ¬ IsNumberPage kind (stream_of o map) page sort) ⊎ ((fault : GrowFault) × HasFailed o v m fault)) → IsChangeFault (IsNumberPage kind) o v m told fault
+take_change kind o v m at now told cause Exists why from blame = tt
+take_change kind o v m at now told cause Absent why from blame = tt
+take_change kind o v m at now told cause (Damaged page sort) why from blame = blame page sort why
+take_change kind o v m at now told cause (Pages f) why from blame = inr (from f why)
+take_change kind o v m at now told cause NoMemory why from blame = tt

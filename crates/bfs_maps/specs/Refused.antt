@@ -19,6 +19,7 @@ use Rattle.bfs_stream.specs.Told.{contents}
 use Rattle.bfs_stream.specs.declared.fault.GrowFault.{GrowFault}
 use Rattle.bfs_stream.specs.declared.fault.GrowFault.TheVariants as grow
 use Rattle.bfs_stream_pages.specs.Causes.{HasFailed, IsOfBlock}
+use Rattle.bfs_stream_pages.specs.Held.{stream_of}
 use Rattle.bfs_stream_pages.specs.Steps.{IsUndamaged}
 use Rattle.bfs_values.specs.Kinds.{IsValueOf}
 use Rattle.bfs_maps.specs.NumberTrees.{IsNumber}
@@ -99,6 +100,16 @@ IsReadFault good o m Absent = ⊥
 IsReadFault good o m (Damaged page sort) = ¬ good page sort
 IsReadFault good o m (Pages fault) = IsUnsized o m fault
 IsReadFault good o m NoMemory = Unit {0}
+
+-- Why a call that changes a tree in a held stream is refused, whatever the stream's bytes are: a page isn't as it has to be in
+-- the stream since, or one could not be added before, for a reason; or the stream isn't of whole pages; or a block could not be
+-- had, or a page added, for a reason.
+abbrev pub IsChangeFault : (List ℕ → ℕ → PageKind → Type 0) → Origin → Room → (ℕ → Option (List ℕ)) → Option (ℕ → Option (List ℕ)) → TreeFault GrowFault → Type 0
+IsChangeFault good o v m told Exists = Unit {0}
+IsChangeFault good o v m told Absent = Unit {0}
+IsChangeFault good o v m told (Damaged page sort) = IfSome told (λ map. ¬ good (stream_of o map) page sort) ⊎ ((fault : GrowFault) × HasFailed o v m fault)
+IsChangeFault good o v m told (Pages fault) = IsUnsized o m fault ⊎ HasFailed o v m fault
+IsChangeFault good o v m told NoMemory = Unit {0}
 
 -- the causes of a fault in what lies below, of a call that reads, of one that puts and of one that takes: only one that puts
 -- answers that a key is there, and only one that takes that it isn't; and one that reads asks for no run

@@ -1,8 +1,8 @@
 // From a page of a tree to the block that has it.
-ghost use Rattle.std.specs.Prelude.{◌≡◌, ◌≤◌, ◌<◌, ◌/◌, ℕ, List, Option, Some, IfOk, IfErr, slice_get};
+ghost use Rattle.std.specs.Prelude.{◌≡◌, ◌≤◌, ◌<◌, ◌/◌, ℕ, List, Option, Some, IsSome, IfOk, IfErr, slice_get};
 ghost use Rattle.bfs_super.specs.Conditions.{IsValid, natural};
 ghost use Rattle.bfs_txn.specs.Faults.{AreLater};
-ghost use Rattle.bfs_stream.specs.Faults.{HasNoBlock, IsStreamCause};
+ghost use Rattle.bfs_stream.specs.Faults.{HasNoBlock, IsDamagedAt, IsBlamedAt, IsStreamCause};
 ghost use Rattle.bfs_stream.specs.Places.{places_at};
 ghost use Rattle.bfs_stream.specs.Sizes.{sizes_of};
 ghost use Rattle.bfs_stream.specs.Told.{Stands, contents};
@@ -19,6 +19,8 @@ pub fn block_of_page<B: Blocks>(tree: TreeAt, under: &mut B, page: u64) -> Resul
     requires size { B.size under.old ≡ tree.sup.block_size }
     ensures found { (m : ℕ → Option (List ℕ)) → B.told under.old ≡ Some m → Stands (origin_of tree) m → IfOk result (λ block. slice_get (places_at (sizes_of tree.sup) (contents m) tree.inode) (page / tree.sup.block_size) ≡ Some block) }
     ensures none { (m : ℕ → Option (List ℕ)) → B.told under.old ≡ Some m → Stands (origin_of tree) m → IfErr result (HasNoBlock (places_at (sizes_of tree.sup) (contents m) tree.inode) (page / tree.sup.block_size)) }
+    ensures damaged { (m : ℕ → Option (List ℕ)) → B.told under.old ≡ Some m → IsSome (m tree.inode) → IfErr result (IsDamagedAt (origin_of tree) m (page / tree.sup.block_size)) }
+    ensures blamed { IfErr result (IsBlamedAt (origin_of tree) (B.last under.new) (page / tree.sup.block_size)) }
     ensures below { IfOk result (λ block. block < natural tree.sup.num_blocks) }
     ensures told { B.told under.new ≡ B.told under.old }
     ensures changed { B.changed under.new ≡ B.changed under.old }

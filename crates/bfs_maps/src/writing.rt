@@ -5,13 +5,14 @@ ghost use Rattle.bfs_super.specs.Conditions.{IsValid, natural};
 ghost use Rattle.bfs_bitmap.specs.Fills.{IsBitmapBlock};
 ghost use Rattle.bfs_node.specs.Search.{IsSought};
 ghost use Rattle.bfs_txn.specs.Faults.{AreLater};
+ghost use Rattle.bfs_pages.specs.Answers.{IsOfKind};
 ghost use Rattle.bfs_pages.specs.Maps.{assoc, put, without};
 ghost use Rattle.bfs_stream.specs.Grown.{IsOfVolume};
 ghost use Rattle.bfs_stream.specs.Sizes.{sizes_of};
 ghost use Rattle.bfs_stream_pages.specs.Held.{Held, stream_of};
 ghost use Rattle.bfs_maps.specs.Mapped.{origin_of, rows_of, HasHeld, IsMap, HasRowsNow};
 ghost use Rattle.bfs_maps.specs.NumberTrees.{IsNumberTree};
-ghost use Rattle.bfs_maps.specs.Refused.{IsPutFault, IsTakeFault, HasPutCause, HasTakeCause};
+ghost use Rattle.bfs_maps.specs.Refused.{IsNumberPage, IsChangeFault, IsPutFault, IsTakeFault, HasPutCause, HasTakeCause};
 
 use crate::TreeAt;
 use crate::numbers::{put_in, take_in};
@@ -39,6 +40,7 @@ fn put_over<E: Edits, L: Ledger>(
     ensures put { (m : ℕ → Option (List ℕ)) → E.told pages.old.edits.now ≡ Some m → Held pages.old.backing pages.old.bitmap.now pages.old.length m → IsNumberTree kind (stream_of pages.old.backing m) → OnOk result (HasRowsNow kind pages.old.backing pages.old.bitmap.now pages.new.bitmap.now m (put kind (rows_of kind pages.old.backing m) key.now (pos number)) (E.told pages.new.edits.now) (E.changed pages.old.edits.now) (E.changed pages.new.edits.now)) }
     ensures absent { (m : ℕ → Option (List ℕ)) → E.told pages.old.edits.now ≡ Some m → Held pages.old.backing pages.old.bitmap.now pages.old.length m → IsNumberTree kind (stream_of pages.old.backing m) → OnOk result (assoc kind (rows_of kind pages.old.backing m) key.now ≡ None) }
     ensures refused { (m : ℕ → Option (List ℕ)) → E.told pages.old.edits.now ≡ Some m → Held pages.old.backing pages.old.bitmap.now pages.old.length m → IsNumberTree kind (stream_of pages.old.backing m) → IfErr result (IsPutFault kind pages.old.backing pages.old.bitmap.now m (rows_of kind pages.old.backing m) key.now) }
+    ensures blamed { (m : ℕ → Option (List ℕ)) → E.told pages.old.edits.now ≡ Some m → Held pages.old.backing pages.old.bitmap.now pages.old.length m → IfErr result (IsChangeFault (IsOfKind kind) pages.old.backing pages.old.bitmap.now m (E.told pages.new.edits.now)) }
     ensures rest { pages.new.bitmap.now ≡ record pages.old.bitmap.now { tally = pages.new.bitmap.now.tally } }
     ensures backing { pages.new.backing ≡ pages.old.backing }
     ensures changed { (k : ℕ) → E.changed pages.new.edits.now k ≡ true → (E.changed pages.old.edits.now k ≡ true) ⊎ (IsBitmapBlock pages.old.bitmap.now k ⊎ (k < pages.old.backing.sizes.blocks)) }
@@ -76,6 +78,7 @@ fn put_with<E: Edits, L: Ledger>(
     ensures put { (m : ℕ → Option (List ℕ)) → E.told edits.old ≡ Some m → Held (origin_of tree) bitmap.old length m → IsNumberTree tree.kind (stream_of (origin_of tree) m) → OnOk result (HasRowsNow tree.kind (origin_of tree) bitmap.old bitmap.new m (put tree.kind (rows_of tree.kind (origin_of tree) m) key.now (pos number)) (E.told edits.new) (E.changed edits.old) (E.changed edits.new)) }
     ensures absent { (m : ℕ → Option (List ℕ)) → E.told edits.old ≡ Some m → Held (origin_of tree) bitmap.old length m → IsNumberTree tree.kind (stream_of (origin_of tree) m) → OnOk result (assoc tree.kind (rows_of tree.kind (origin_of tree) m) key.now ≡ None) }
     ensures refused { (m : ℕ → Option (List ℕ)) → E.told edits.old ≡ Some m → Held (origin_of tree) bitmap.old length m → IsNumberTree tree.kind (stream_of (origin_of tree) m) → IfErr result (IsPutFault tree.kind (origin_of tree) bitmap.old m (rows_of tree.kind (origin_of tree) m) key.now) }
+    ensures blamed { (m : ℕ → Option (List ℕ)) → E.told edits.old ≡ Some m → Held (origin_of tree) bitmap.old length m → IfErr result (IsChangeFault (IsOfKind tree.kind) (origin_of tree) bitmap.old m (E.told edits.new)) }
     ensures rest { bitmap.new ≡ record bitmap.old { tally = bitmap.new.tally } }
     ensures changed { (k : ℕ) → E.changed edits.new k ≡ true → (E.changed edits.old k ≡ true) ⊎ (IsBitmapBlock bitmap.old k ⊎ (k < natural tree.sup.num_blocks)) }
     ensures size { E.size edits.new ≡ E.size edits.old }
@@ -107,6 +110,7 @@ pub fn put_number<E: Edits>(
     ensures put { (m : ℕ → Option (List ℕ)) → E.told edits.old ≡ Some m → IsMap tree.kind (origin_of tree) bitmap.old m → OnOk result (HasRowsNow tree.kind (origin_of tree) bitmap.old bitmap.new m (put tree.kind (rows_of tree.kind (origin_of tree) m) key.now (pos number)) (E.told edits.new) (E.changed edits.old) (E.changed edits.new)) }
     ensures absent { (m : ℕ → Option (List ℕ)) → E.told edits.old ≡ Some m → IsMap tree.kind (origin_of tree) bitmap.old m → OnOk result (assoc tree.kind (rows_of tree.kind (origin_of tree) m) key.now ≡ None) }
     ensures refused { (m : ℕ → Option (List ℕ)) → E.told edits.old ≡ Some m → IsMap tree.kind (origin_of tree) bitmap.old m → IfErr result (IsPutFault tree.kind (origin_of tree) bitmap.old m (rows_of tree.kind (origin_of tree) m) key.now) }
+    ensures blamed { (m : ℕ → Option (List ℕ)) → E.told edits.old ≡ Some m → IfErr result (IsChangeFault (IsOfKind tree.kind) (origin_of tree) bitmap.old m (E.told edits.new)) }
     ensures rest { bitmap.new ≡ record bitmap.old { tally = bitmap.new.tally } }
     ensures changed { (k : ℕ) → E.changed edits.new k ≡ true → (E.changed edits.old k ≡ true) ⊎ (IsBitmapBlock bitmap.old k ⊎ (k < natural tree.sup.num_blocks)) }
     ensures size { E.size edits.new ≡ E.size edits.old }
@@ -135,6 +139,7 @@ fn take_over<E: Edits, L: Ledger>(
     ensures taken { (m : ℕ → Option (List ℕ)) → E.told pages.old.edits.now ≡ Some m → Held pages.old.backing pages.old.bitmap.now pages.old.length m → IsNumberTree kind (stream_of pages.old.backing m) → OnOk result (HasRowsNow kind pages.old.backing pages.old.bitmap.now pages.new.bitmap.now m (without kind (rows_of kind pages.old.backing m) key.now) (E.told pages.new.edits.now) (E.changed pages.old.edits.now) (E.changed pages.new.edits.now)) }
     ensures number { (m : ℕ → Option (List ℕ)) → E.told pages.old.edits.now ≡ Some m → Held pages.old.backing pages.old.bitmap.now pages.old.length m → IsNumberTree kind (stream_of pages.old.backing m) → IfOk result (λ number. assoc kind (rows_of kind pages.old.backing m) key.now ≡ Some (pos number)) }
     ensures refused { (m : ℕ → Option (List ℕ)) → E.told pages.old.edits.now ≡ Some m → Held pages.old.backing pages.old.bitmap.now pages.old.length m → IsNumberTree kind (stream_of pages.old.backing m) → IfErr result (IsTakeFault kind pages.old.backing pages.old.bitmap.now m (rows_of kind pages.old.backing m) key.now) }
+    ensures blamed { (m : ℕ → Option (List ℕ)) → E.told pages.old.edits.now ≡ Some m → Held pages.old.backing pages.old.bitmap.now pages.old.length m → IfErr result (IsChangeFault (IsNumberPage kind) pages.old.backing pages.old.bitmap.now m (E.told pages.new.edits.now)) }
     ensures rest { pages.new.bitmap.now ≡ record pages.old.bitmap.now { tally = pages.new.bitmap.now.tally } }
     ensures backing { pages.new.backing ≡ pages.old.backing }
     ensures changed { (k : ℕ) → E.changed pages.new.edits.now k ≡ true → (E.changed pages.old.edits.now k ≡ true) ⊎ (IsBitmapBlock pages.old.bitmap.now k ⊎ (k < pages.old.backing.sizes.blocks)) }
@@ -170,6 +175,7 @@ fn take_with<E: Edits, L: Ledger>(
     ensures taken { (m : ℕ → Option (List ℕ)) → E.told edits.old ≡ Some m → Held (origin_of tree) bitmap.old length m → IsNumberTree tree.kind (stream_of (origin_of tree) m) → OnOk result (HasRowsNow tree.kind (origin_of tree) bitmap.old bitmap.new m (without tree.kind (rows_of tree.kind (origin_of tree) m) key.now) (E.told edits.new) (E.changed edits.old) (E.changed edits.new)) }
     ensures number { (m : ℕ → Option (List ℕ)) → E.told edits.old ≡ Some m → Held (origin_of tree) bitmap.old length m → IsNumberTree tree.kind (stream_of (origin_of tree) m) → IfOk result (λ number. assoc tree.kind (rows_of tree.kind (origin_of tree) m) key.now ≡ Some (pos number)) }
     ensures refused { (m : ℕ → Option (List ℕ)) → E.told edits.old ≡ Some m → Held (origin_of tree) bitmap.old length m → IsNumberTree tree.kind (stream_of (origin_of tree) m) → IfErr result (IsTakeFault tree.kind (origin_of tree) bitmap.old m (rows_of tree.kind (origin_of tree) m) key.now) }
+    ensures blamed { (m : ℕ → Option (List ℕ)) → E.told edits.old ≡ Some m → Held (origin_of tree) bitmap.old length m → IfErr result (IsChangeFault (IsNumberPage tree.kind) (origin_of tree) bitmap.old m (E.told edits.new)) }
     ensures rest { bitmap.new ≡ record bitmap.old { tally = bitmap.new.tally } }
     ensures changed { (k : ℕ) → E.changed edits.new k ≡ true → (E.changed edits.old k ≡ true) ⊎ (IsBitmapBlock bitmap.old k ⊎ (k < natural tree.sup.num_blocks)) }
     ensures size { E.size edits.new ≡ E.size edits.old }
@@ -199,6 +205,7 @@ pub fn take_number<E: Edits>(
     ensures taken { (m : ℕ → Option (List ℕ)) → E.told edits.old ≡ Some m → IsMap tree.kind (origin_of tree) bitmap.old m → OnOk result (HasRowsNow tree.kind (origin_of tree) bitmap.old bitmap.new m (without tree.kind (rows_of tree.kind (origin_of tree) m) key.now) (E.told edits.new) (E.changed edits.old) (E.changed edits.new)) }
     ensures number { (m : ℕ → Option (List ℕ)) → E.told edits.old ≡ Some m → IsMap tree.kind (origin_of tree) bitmap.old m → IfOk result (λ number. assoc tree.kind (rows_of tree.kind (origin_of tree) m) key.now ≡ Some (pos number)) }
     ensures refused { (m : ℕ → Option (List ℕ)) → E.told edits.old ≡ Some m → IsMap tree.kind (origin_of tree) bitmap.old m → IfErr result (IsTakeFault tree.kind (origin_of tree) bitmap.old m (rows_of tree.kind (origin_of tree) m) key.now) }
+    ensures blamed { (m : ℕ → Option (List ℕ)) → E.told edits.old ≡ Some m → IfErr result (IsChangeFault (IsNumberPage tree.kind) (origin_of tree) bitmap.old m (E.told edits.new)) }
     ensures rest { bitmap.new ≡ record bitmap.old { tally = bitmap.new.tally } }
     ensures changed { (k : ℕ) → E.changed edits.new k ≡ true → (E.changed edits.old k ≡ true) ⊎ (IsBitmapBlock bitmap.old k ⊎ (k < natural tree.sup.num_blocks)) }
     ensures size { E.size edits.new ≡ E.size edits.old }

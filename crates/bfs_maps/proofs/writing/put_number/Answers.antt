@@ -1,4 +1,4 @@
-use Rattle.std.proofs.Common.{◌≡◌, ◌∙◌, ℕ, pos, refl, sym, subst}
+use Rattle.std.proofs.Common.{inl, ◌≡◌, ◌∙◌, ℕ, pos, refl, sym, subst}
 use Rattle.bfs_pages.specs.Maps.{put}
 use Rattle.bfs_stream.specs.Sizes.{Origin}
 use Rattle.bfs_stream_pages.specs.Held.{Held}
@@ -59,3 +59,17 @@ returns-clause-refused g c m told d =
     let held = subst (λ (n : ℕ). Held o v n m) same h.1 in
     let after = c.stream_size.ensures.told ∙ told in
     c.put_with.ensures.refused m after held d.tree
+
+pub returns-in-Err-clause-blamed : goal.returns-in-Err-clause-blamed
+returns-in-Err-clause-blamed g c m told =
+    let o : Origin = origin_of c.args.tree in
+    let h = c.requires.stream m told in
+    inl (c.in-Err.ensures.refused m told (held_here o c.args.bitmap.now h.0 m h.1))
+
+pub returns-clause-blamed : goal.returns-clause-blamed
+returns-clause-blamed g c m told =
+    let o : Origin = origin_of c.args.tree in
+    let v = c.args.bitmap.now in
+    let h = c.requires.stream m told in
+    let same : h.0 ≡ c.in-Ok.length = same_size _ h.0 c.in-Ok.length h.1.size (c.in-Ok.ensures.found m told (held_here o v h.0 m h.1)) in
+    c.put_with.ensures.blamed m (c.stream_size.ensures.told ∙ told) (subst (λ (n : ℕ). Held o v n m) same h.1)

@@ -7,6 +7,8 @@ use Rattle.bfs_maps.specs.Mapped.{rows_of, HasHeld, IsMap}
 use Rattle.bfs_maps.specs.NumberTrees.{IsTreeOf}
 use Rattle.bfs_maps.specs.Refused.{IsPutFault}
 use Rattle.bfs_maps.proofs.Over.{now_named, on_ok}
+use Rattle.bfs_pages.specs.Answers.{IsOfKind}
+use Rattle.bfs_maps.specs.Refused.{IsChangeFault}
 use Rattle.bfs_dir.proofs.directory.Dir.put.Goals as goal
 
 pub put_number-requires-clause-stream : goal.put_number-requires-clause-stream
@@ -35,3 +37,7 @@ returns-clause-refused g c m told d =
     let p : Origin = record { id = c.self.inside.inode; sizes = sizes_of c.self.inside.sup } in
     let d_p = subst (λ (x : Origin). IsMap Text x v m) (sym c.self.view_is) d in
     subst (λ (x : Origin). IfErr c.put_number.result (IsPutFault Text x v m (rows_of Text x m) c.args.name.now)) c.self.view_is (c.put_number.ensures.refused m told d_p)
+
+pub returns-clause-blamed : goal.returns-clause-blamed
+returns-clause-blamed g c m told =
+    subst (λ (x : Origin). IfErr c.put_number.result (IsChangeFault (IsOfKind Text) x c.args.bitmap.now m (g.E.Blocks.told c.put_number.new.edits))) c.self.view_is (c.put_number.ensures.blamed m told)

@@ -35,6 +35,16 @@ invariant-${loop#*:} g l =
     × IsOfVolume l.stream.sizes l.bitmap × Ascends l.group × AreOfSize l.under.block_size l.group
 ANTT
 done
+# what each function that makes calls asks and keeps
+held='    requires size { under.old.block_size ≡ stream.old.sizes.block_size }
+    requires volume { IsOfVolume stream.old.sizes bitmap.old }
+    requires ascends { Ascends group.old }
+    requires sized { AreOfSize under.old.block_size group.old }
+    ensures same { stream.new ≡ stream.old }
+    ensures volume { IsOfVolume stream.old.sizes bitmap.new }
+    ensures ascends { Ascends group.new }
+    ensures sized { AreOfSize under.new.block_size group.new }
+    ensures size { under.new.block_size ≡ under.old.block_size }'
 cat >"$bench/src/main.rt" <<RATTLE
 // Times the growth and the cuts of a stream.
 #![tactic(auto)]
@@ -110,15 +120,7 @@ fn memory(alloc: Global, byte: u8, size: u32) -> Result<MemBlocks, AllocError>
 
 /// One call that grows the stream.
 fn grow(stream: &mut Stream, bitmap: &mut Bitmap, group: &mut Changed, under: &mut MemBlocks) -> bool
-    requires size { under.old.block_size ≡ stream.old.sizes.block_size }
-    requires volume { IsOfVolume stream.old.sizes bitmap.old }
-    requires ascends { Ascends group.old }
-    requires sized { AreOfSize under.old.block_size group.old }
-    ensures same { stream.new ≡ stream.old }
-    ensures volume { IsOfVolume stream.old.sizes bitmap.new }
-    ensures ascends { Ascends group.new }
-    ensures sized { AreOfSize under.new.block_size group.new }
-    ensures size { under.new.block_size ≡ under.old.block_size }
+$held
 {
     let mut edits = Overlay::begin(group, under);
     let grown = stream.grow(bitmap, &mut edits, PIECE).is_ok();
@@ -129,15 +131,7 @@ fn grow(stream: &mut Stream, bitmap: &mut Bitmap, group: &mut Changed, under: &m
 
 /// One call that cuts the stream.
 fn cut(stream: &mut Stream, bitmap: &mut Bitmap, group: &mut Changed, under: &mut MemBlocks, blocks: u64) -> bool
-    requires size { under.old.block_size ≡ stream.old.sizes.block_size }
-    requires volume { IsOfVolume stream.old.sizes bitmap.old }
-    requires ascends { Ascends group.old }
-    requires sized { AreOfSize under.old.block_size group.old }
-    ensures same { stream.new ≡ stream.old }
-    ensures volume { IsOfVolume stream.old.sizes bitmap.new }
-    ensures ascends { Ascends group.new }
-    ensures sized { AreOfSize under.new.block_size group.new }
-    ensures size { under.new.block_size ≡ under.old.block_size }
+$held
 {
     let mut edits = Overlay::begin(group, under);
     let gone = stream.trim(bitmap, &mut edits, blocks).is_ok();
@@ -147,15 +141,7 @@ fn cut(stream: &mut Stream, bitmap: &mut Bitmap, group: &mut Changed, under: &mu
 }
 
 fn quarter_up(rt: &(impl Print + Clock), stream: &mut Stream, bitmap: &mut Bitmap, group: &mut Changed, under: &mut MemBlocks) -> io::Result<bool>
-    requires size { under.old.block_size ≡ stream.old.sizes.block_size }
-    requires volume { IsOfVolume stream.old.sizes bitmap.old }
-    requires ascends { Ascends group.old }
-    requires sized { AreOfSize under.old.block_size group.old }
-    ensures same { stream.new ≡ stream.old }
-    ensures volume { IsOfVolume stream.old.sizes bitmap.new }
-    ensures ascends { Ascends group.new }
-    ensures sized { AreOfSize under.new.block_size group.new }
-    ensures size { under.new.block_size ≡ under.old.block_size }
+$held
 {
     let start = Instant::now(rt)?;
     let mut good = true;
@@ -169,15 +155,7 @@ fn quarter_up(rt: &(impl Print + Clock), stream: &mut Stream, bitmap: &mut Bitma
 }
 
 fn quarter_down(rt: &(impl Print + Clock), stream: &mut Stream, bitmap: &mut Bitmap, group: &mut Changed, under: &mut MemBlocks, from: u64) -> io::Result<bool>
-    requires size { under.old.block_size ≡ stream.old.sizes.block_size }
-    requires volume { IsOfVolume stream.old.sizes bitmap.old }
-    requires ascends { Ascends group.old }
-    requires sized { AreOfSize under.old.block_size group.old }
-    ensures same { stream.new ≡ stream.old }
-    ensures volume { IsOfVolume stream.old.sizes bitmap.new }
-    ensures ascends { Ascends group.new }
-    ensures sized { AreOfSize under.new.block_size group.new }
-    ensures size { under.new.block_size ≡ under.old.block_size }
+$held
 {
     let start = Instant::now(rt)?;
     let mut good = true;
@@ -191,15 +169,7 @@ fn quarter_down(rt: &(impl Print + Clock), stream: &mut Stream, bitmap: &mut Bit
 }
 
 fn all_down(rt: &(impl Print + Clock), stream: &mut Stream, bitmap: &mut Bitmap, group: &mut Changed, under: &mut MemBlocks) -> io::Result<bool>
-    requires size { under.old.block_size ≡ stream.old.sizes.block_size }
-    requires volume { IsOfVolume stream.old.sizes bitmap.old }
-    requires ascends { Ascends group.old }
-    requires sized { AreOfSize under.old.block_size group.old }
-    ensures same { stream.new ≡ stream.old }
-    ensures volume { IsOfVolume stream.old.sizes bitmap.new }
-    ensures ascends { Ascends group.new }
-    ensures sized { AreOfSize under.new.block_size group.new }
-    ensures size { under.new.block_size ≡ under.old.block_size }
+$held
 {
     let start = Instant::now(rt)?;
     let good = cut(stream, bitmap, group, under, 0);
@@ -208,15 +178,7 @@ fn all_down(rt: &(impl Print + Clock), stream: &mut Stream, bitmap: &mut Bitmap,
 }
 
 fn up(rt: &(impl Print + Clock), stream: &mut Stream, bitmap: &mut Bitmap, group: &mut Changed, under: &mut MemBlocks) -> io::Result<bool>
-    requires size { under.old.block_size ≡ stream.old.sizes.block_size }
-    requires volume { IsOfVolume stream.old.sizes bitmap.old }
-    requires ascends { Ascends group.old }
-    requires sized { AreOfSize under.old.block_size group.old }
-    ensures same { stream.new ≡ stream.old }
-    ensures volume { IsOfVolume stream.old.sizes bitmap.new }
-    ensures ascends { Ascends group.new }
-    ensures sized { AreOfSize under.new.block_size group.new }
-    ensures size { under.new.block_size ≡ under.old.block_size }
+$held
 {
     let one = quarter_up(rt, stream, bitmap, group, under)?;
     let two = quarter_up(rt, stream, bitmap, group, under)?;
@@ -226,15 +188,7 @@ fn up(rt: &(impl Print + Clock), stream: &mut Stream, bitmap: &mut Bitmap, group
 }
 
 fn down(rt: &(impl Print + Clock), stream: &mut Stream, bitmap: &mut Bitmap, group: &mut Changed, under: &mut MemBlocks) -> io::Result<bool>
-    requires size { under.old.block_size ≡ stream.old.sizes.block_size }
-    requires volume { IsOfVolume stream.old.sizes bitmap.old }
-    requires ascends { Ascends group.old }
-    requires sized { AreOfSize under.old.block_size group.old }
-    ensures same { stream.new ≡ stream.old }
-    ensures volume { IsOfVolume stream.old.sizes bitmap.new }
-    ensures ascends { Ascends group.new }
-    ensures sized { AreOfSize under.new.block_size group.new }
-    ensures size { under.new.block_size ≡ under.old.block_size }
+$held
 {
     let quarter = PIECE * (PIECES / 4);
     let one = quarter_down(rt, stream, bitmap, group, under, 4 * quarter)?;

@@ -1,5 +1,6 @@
 pub mod Others
 pub mod Writing
 pub mod Rooms
+pub mod Filled
 pub mod Paged
 pub mod Readers

@@ -23,7 +23,7 @@ use Rattle.bfs_stream_pages.specs.BytesLaws.{write_of}
 use Rattle.bfs_stream_pages.specs.GoesLaws.{are_blocks}
 use Rattle.bfs_stream_pages.specs.MovesLaws.{with_size, places_same, whole_same, free_now, owns_now, moved_rewritten}
 
-is_equal : (k n : ℕ) → (k == n) ≡ true → k ≡ n
+pub is_equal : (k n : ℕ) → (k == n) ≡ true → k ≡ n
 is_equal k n e = grind (arith, e)
 
 first_counted : (x : ℕ) (xs : List ℕ) → times x (x ∷ xs) ≡ 1 + times x xs
@@ -96,7 +96,6 @@ module _ (o : Origin) (v : Room) (long more : ℕ) (m : ℕ → Option (List ℕ
       held = record {
         owns = owns_now o v m map held.owns same are (pos more) levels low fits kept;
         told = λ k has. are k (subst (λ (l : List ℕ). Has l k) whole_now (has_right (frame_at s (contents map) o.id) (places_at s (contents map) o.id) k has));
-        spare = λ k free. is_told k (held.spare k (sym (free_now o v m map held.owns same are (pos more) levels low fits kept k) ∙ free));
         size = ap (λ (l : Levels). l.stream.size) levels;
       };
       moved = moved_rewritten o v m map held.owns same are (pos more) levels low fits kept;

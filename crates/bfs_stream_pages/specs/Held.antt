@@ -1,17 +1,16 @@
 -- A stream whose bytes are pages.
-use Rattle.std.specs.Prelude.{◌≡◌, ℕ, pos, List, [], true, Option, Some, None, IsSome}
-use Rattle.bfs_bitmap.specs.Runs.{Room, is_free}
+use Rattle.std.specs.Prelude.{◌≡◌, ℕ, pos, List, [], Option, Some, None, IsSome}
+use Rattle.bfs_bitmap.specs.Runs.{Room}
 use Rattle.bfs_stream.specs.Sizes.{Origin}
 use Rattle.bfs_stream.specs.Places.{fields, places_at, bytes_at}
 use Rattle.bfs_stream.specs.Told.{contents, AreTold, Stands}
 use Rattle.bfs_stream.specs.Grown.{Owns}
 use Rattle.bfs_stream.specs.declared.fault.GrowFault.{GrowFault}
 
--- The stream stands and owns its blocks; they are told, and so is each free block; and it has so many bytes.
+-- The stream stands and owns its blocks; they are told; and it has so many bytes. Of free blocks nothing need be told.
 pub record Held (o : Origin) (v : Room) (long : ℕ) (m : ℕ → Option (List ℕ)) : Type 0 where
   pub owns : Owns o v [] m
   pub told : AreTold m (places_at o.sizes (contents m) o.id)
-  pub spare : (k : ℕ) → is_free v m k ≡ true → IsSome (m k)
   pub size : (fields o.sizes (contents m) o.id).size ≡ pos long
 
 -- The stream stands, its blocks are told, and it has so many bytes.

@@ -1,11 +1,13 @@
 -- What each step of writing or adding a page leaves.
-use Rattle.std.specs.Prelude.{◌≡◌, ◌<◌, ℕ, List, ◌++◌, length, Bool, Option, Some}
+use Rattle.std.specs.Prelude.{◌≡◌, ◌≤◌, ◌<◌, ◌⊎◌, ℕ, List, ◌++◌, length, take, drop, Bool, true, false, Option, Some, IsSome, slice_get}
 use Rattle.std.specs.List.{flat_map}
+use Rattle.bfs_base.specs.Lists.{times, Has}
 use Rattle.bfs_bitmap.specs.Runs.{Room}
 use Rattle.bfs_txn.specs.Pages.{with_page}
+use Rattle.bfs_txn.specs.Told.{with_block, with_number}
 use Rattle.bfs_stream.specs.Sizes.{Origin}
 use Rattle.bfs_stream.specs.Places.{places_at, whole_at}
-use Rattle.bfs_stream.specs.Told.{contents}
+use Rattle.bfs_stream.specs.Told.{contents, AreTold}
 use Rattle.bfs_stream.specs.Scans.{IsDamage}
 use Rattle.bfs_stream.specs.Grown.{AreWritten}
 use Rattle.bfs_stream.specs.declared.fault.GrowFault.{GrowFault}
@@ -30,6 +32,24 @@ pub record Comes (o : Origin) (v now : Room) (long : ℕ) (m : ℕ → Option (L
   pub held : Held o now long map
   pub moved : Moved o v now m map
   pub written : AreWritten v old new (whole_at o.sizes (contents map) o.id)
+
+-- the stream's block at a place has these bytes; or it has none there, and nothing has changed
+abbrev pub HasFilled : Origin → (ℕ → Option (List ℕ)) → ℕ → List ℕ → Option (ℕ → Option (List ℕ)) → (ℕ → Bool) → (ℕ → Bool) → Bool → Type 0
+HasFilled o m index bytes told old new true = (n : ℕ) × (slice_get (places_at o.sizes (contents m) o.id) index ≡ Some n) × (told ≡ Some (with_block n bytes m)) × ((k : ℕ) → new k ≡ with_number n old k)
+HasFilled o m index bytes told old new false = (length (places_at o.sizes (contents m) o.id) ≤ index) × (told ≡ Some m) × (new ≡ old)
+
+-- The stream's blocks before a place are told now; what was written are blocks of it from an earlier place on.
+pub record IsToldTo (o : Origin) (m : ℕ → Option (List ℕ)) (index at : ℕ) (told : Option (ℕ → Option (List ℕ))) (old new : ℕ → Bool) : Type 0 where
+  pub map : ℕ → Option (List ℕ)
+  pub is : told ≡ Some map
+  pub are : AreTold map (take at (places_at o.sizes (contents m) o.id))
+  pub same : (k : ℕ) → times k (drop index (places_at o.sizes (contents m) o.id)) ≡ 0 → map k ≡ m k
+  pub kept : (k : ℕ) → IsSome (m k) → IsSome (map k)
+  pub written : (k : ℕ) → new k ≡ true → (old k ≡ true) ⊎ Has (places_at o.sizes (contents m) o.id) k
+
+-- all of the stream's blocks are told now
+abbrev pub IsToldWhole : Origin → (ℕ → Option (List ℕ)) → ℕ → Option (ℕ → Option (List ℕ)) → (ℕ → Bool) → (ℕ → Bool) → Type 0
+IsToldWhole o m index told old new = IsToldTo o m index (length (places_at o.sizes (contents m) o.id)) told old new
 
 -- the stream has a block at a place, and perhaps more bytes behind those that it had
 pub record HasRoom (o : Origin) (v now : Room) (long : ℕ) (m : ℕ → Option (List ℕ)) (index : ℕ) (told : Option (ℕ → Option (List ℕ))) (old new : ℕ → Bool) : Type 0 where

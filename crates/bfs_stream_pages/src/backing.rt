@@ -2,20 +2,21 @@
 ghost use Rattle.std.specs.Prelude.{◌≡◌, ◌≤◌, ◌<◌, ◌⊎◌, ℕ, ◌+◌, ◌*◌, ◌^◌, ◌%◌, pos, true, List, length, Option, Some, OnOk, OnErr, IfOk, IfErr, slice_get, take, drop};
 ghost use Rattle.bfs_super.specs.Conditions.{IsValid, natural};
 ghost use Rattle.bfs_super.specs.Geometry.{IsBlockSize};
+ghost use Rattle.bfs_base.specs.Lists.{IsOnce};
 ghost use Rattle.bfs_bitmap.specs.Runs.{Room};
 ghost use Rattle.bfs_bitmap.specs.Fills.{IsBitmapBlock};
 ghost use Rattle.bfs_inode.specs.Inode.{stream_at};
 ghost use Rattle.bfs_txn.specs.Faults.{AreLater};
 ghost use Rattle.bfs_txn.specs.Pages.{page_at, with_page};
 ghost use Rattle.bfs_stream.specs.Sizes.{sizes_of, HasSizes};
-ghost use Rattle.bfs_stream.specs.Places.{places_at};
+ghost use Rattle.bfs_stream.specs.Places.{places_at, whole_at};
 ghost use Rattle.bfs_stream.specs.Told.{contents, AreTold, Stands};
 ghost use Rattle.bfs_stream.specs.Grown.{IsOfVolume, KeepsRest};
 ghost use Rattle.bfs_stream.specs.Faults.{IsGrowCause, IsGrowFault};
 ghost use Rattle.bfs_stream_pages.specs.Held.{Held, IsReadable, stream_of};
 ghost use Rattle.bfs_stream_pages.specs.Moves.{KeepsInode};
 ghost use Rattle.bfs_stream_pages.specs.Causes.{HasFailed, IsOfBlock};
-ghost use Rattle.bfs_stream_pages.specs.Steps.{IsUndamaged, HasRoom, HasWritten, HasSize, HasAdded};
+ghost use Rattle.bfs_stream_pages.specs.Steps.{IsUndamaged, HasFilled, IsToldWhole, HasRoom, HasWritten, HasSize, HasAdded};
 
 use bfs_bitmap::Bitmap;
 use bfs_inode::InodeMut;
@@ -24,6 +25,9 @@ use bfs_super::Super;
 use bfs_txn::{BlockFault, Blocks, Edits};
 use std::alloc::Global;
 use std::marker::Model;
+
+/// The most blocks that an array has.
+const LONGEST: u64 = 4;
 
 /// The stream of an inode, and the size of its volume's blocks.
 #[derive(Drop)]
@@ -154,7 +158,7 @@ impl Backing {
         Ok(())
     }
 
-    /// Adds a block at the end where the stream has none at a place.
+    /// Adds a block at the end where the stream has none at a place. Blocks that are added are zeros.
     pub(crate) fn make_room<E: Edits>(
         &mut self,
         bitmap: &mut Bitmap,
@@ -163,6 +167,7 @@ impl Backing {
     ) -> Result<(), GrowFault>
         requires size { E.size edits.old ≡ self.old.sizes.block_size }
         requires volume { IsOfVolume self.old.sizes bitmap.old }
+        requires few { index < 2 ^ 62 }
         ensures room { (long : ℕ) (m : ℕ → Option (List ℕ)) → E.told edits.old ≡ Some m → Held self.old bitmap.old long m → self.old.sizes.block_size * index ≤ long → OnOk result (HasRoom self.old bitmap.old bitmap.new long m index (E.told edits.new) (E.changed edits.old) (E.changed edits.new)) }
         ensures faults { (long : ℕ) (m : ℕ → Option (List ℕ)) → E.told edits.old ≡ Some m → Held self.old bitmap.old long m → self.old.sizes.block_size * index ≤ long → IfErr result (IsGrowFault self.old bitmap.old m 1) }
         ensures same { self.new ≡ self.old }
@@ -174,10 +179,72 @@ impl Backing {
         ensures cause { IfErr result (IsGrowCause 1 (E.counts edits.old) (E.counts edits.new)) }
     {
         match self.stream.block(edits, index) {
-            Ok(_) => Ok(()),
-            Err(StreamFault::PastEnd { .. }) => self.stream.grow(bitmap, edits, 1),
-            Err(StreamFault::Block(fault)) => Err(GrowFault::Block(fault)),
+            Ok(_) => return Ok(()),
+            Err(StreamFault::PastEnd { .. }) => {}
+            Err(StreamFault::Block(fault)) => return Err(GrowFault::Block(fault)),
         }
+        match self.stream.grow(bitmap, edits, 1) {
+            Ok(()) => {}
+            Err(fault) => return Err(fault),
+        }
+        self.fill_from(edits, index)
+    }
+
+    /// Writes these bytes over the stream's block at a place. Tells whether it has one there.
+    fn fill_at<E: Edits>(
+        &mut self,
+        edits: &mut E,
+        bytes: &[u8],
+        index: u64,
+    ) -> Result<bool, GrowFault>
+        requires size { E.size edits.old ≡ self.old.sizes.block_size }
+        requires bytes { length bytes.now ≡ self.old.sizes.block_size }
+        ensures filled { (m : ℕ → Option (List ℕ)) → E.told edits.old ≡ Some m → Stands self.old m → IfOk result (HasFilled self.old m index bytes.now (E.told edits.new) (E.changed edits.old) (E.changed edits.new)) }
+        ensures sound { (m : ℕ → Option (List ℕ)) → E.told edits.old ≡ Some m → Stands self.old m → IfErr result IsUndamaged }
+        ensures same { self.new ≡ self.old }
+        ensures changed { (k : ℕ) → E.changed edits.new k ≡ true → (E.changed edits.old k ≡ true) ⊎ (k < self.old.sizes.blocks) }
+        ensures size { E.size edits.new ≡ E.size edits.old }
+        ensures frame { E.frame edits.new ≡ E.frame edits.old }
+        ensures later { AreLater (E.counts edits.old) (E.counts edits.new) }
+        ensures cause { IfErr result (IsGrowCause 1 (E.counts edits.old) (E.counts edits.new)) }
+    {
+        let number = match self.stream.block(edits, index) {
+            Ok(number) => number,
+            Err(StreamFault::PastEnd { .. }) => return Ok(false),
+            Err(StreamFault::Block(fault)) => return Err(GrowFault::Block(fault)),
+        };
+        match edits.set(number, bytes) {
+            Ok(()) => Ok(true),
+            Err(_) => Err(GrowFault::Block(BlockFault::NoMemory)),
+        }
+    }
+
+    /// Writes zeros over the blocks that the stream has from a place on, at most those of one array: what lay there before
+    /// is never read.
+    fn fill_from<E: Edits>(&mut self, edits: &mut E, index: u64) -> Result<(), GrowFault>
+        requires size { E.size edits.old ≡ self.old.sizes.block_size }
+        requires few { index < 2 ^ 62 }
+        ensures filled { (m : ℕ → Option (List ℕ)) → E.told edits.old ≡ Some m → Stands self.old m → IsOnce (whole_at self.old.sizes (contents m) self.old.id) → AreTold m (take index (places_at self.old.sizes (contents m) self.old.id)) → length (places_at self.old.sizes (contents m) self.old.id) ≤ index + 4 → OnOk result (IsToldWhole self.old m index (E.told edits.new) (E.changed edits.old) (E.changed edits.new)) }
+        ensures sound { (m : ℕ → Option (List ℕ)) → E.told edits.old ≡ Some m → Stands self.old m → IsOnce (whole_at self.old.sizes (contents m) self.old.id) → AreTold m (take index (places_at self.old.sizes (contents m) self.old.id)) → IfErr result IsUndamaged }
+        ensures same { self.new ≡ self.old }
+        ensures changed { (k : ℕ) → E.changed edits.new k ≡ true → (E.changed edits.old k ≡ true) ⊎ (k < self.old.sizes.blocks) }
+        ensures size { E.size edits.new ≡ E.size edits.old }
+        ensures frame { E.frame edits.new ≡ E.frame edits.old }
+        ensures later { AreLater (E.counts edits.old) (E.counts edits.new) }
+        ensures cause { IfErr result (IsGrowCause 1 (E.counts edits.old) (E.counts edits.new)) }
+    {
+        let zeros = match self.buffer() {
+            Ok(zeros) => zeros,
+            Err(fault) => return Err(fault),
+        };
+        for at in index..index + LONGEST {
+            match self.fill_at(edits, &zeros, at) {
+                Ok(true) => {}
+                Ok(false) => return Ok(()),
+                Err(fault) => return Err(fault),
+            }
+        }
+        Ok(())
     }
 
     /// Writes a page into the stream's block at a place, from a byte of the block on. The buffer then has that block.

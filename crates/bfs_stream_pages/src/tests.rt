@@ -377,6 +377,56 @@ fn no_page_is_added_on_a_full_volume(rt: HostRuntime) -> Result<(), Fail> {
     Ok(())
 }
 
+/// The first ten blocks of the volume, the first eight of them used; the free ones hold what another file left.
+fn used_before(alloc: Global, size: u32) -> Result<Silent, AllocError>
+    requires some { 1024 ≤ size }
+    requires small { size ≤ 8192 }
+    ensures { IfOk result (λ s. s.blocks.block_size ≡ size) }
+{
+    let block = size as usize;
+    let mut bytes = vec![in alloc; 0u8; block * 10]?;
+    bytes[block] = 255;
+    bytes[block * 8..].fill(170);
+    Ok(Silent {
+        blocks: MemBlocks::new(bytes, size),
+    })
+}
+
+/// Adds a page of sevens to a stream there. Has the block that it took the page, and zeros behind it?
+fn is_fresh(alloc: Global, size: u32, shift: u32) -> Result<bool, Fail>
+    requires some { 1024 ≤ size }
+    requires small { size ≤ 8192 }
+    requires low { shift ≤ 13 }
+{
+    let sup = superblock(size, shift)?;
+    if sup.block_size != size {
+        return Ok(false);
+    }
+    if sup.num_blocks < 6 {
+        return Ok(false);
+    }
+    let mut block = vec![in alloc; 1u8; size as usize]?;
+    let mut under = used_before(alloc, size)?;
+    let mut open = Changed::new(alloc);
+    let mut bitmap = Bitmap::of(alloc, &sup);
+    let mut edits = Overlay::begin(&mut open, &mut under);
+    let place = added(alloc, &mut edits, &mut bitmap, &sup, 4, 0, 7);
+    let read = edits.get(8, &mut block);
+    edits.drop_call();
+    let sevens = block[..1024].iter().all(|byte| *byte == 7);
+    let zeros = block[1024..].iter().all(|byte| *byte == 0);
+    Ok(place == Ok(0) && read == Ok(()) && sevens && zeros)
+}
+
+#[test]
+fn a_block_that_a_stream_takes_shows_nothing_of_another_file(rt: HostRuntime) -> Result<(), Fail> {
+    let alloc = rt.alloc();
+    for (size, shift) in [(1024u32, 10u32), (2048, 11), (4096, 12), (8192, 13)] {
+        assert!(rt; is_fresh(alloc, size, shift)?, "{size}");
+    }
+    Ok(())
+}
+
 /// Reads the page at the start of a stream without blocks, which is said to have one.
 fn read_short(alloc: Global) -> Result<Result<bool, GrowFault>, Fail> {
     let sup = superblock(1024, 10)?;

@@ -1,0 +1,74 @@
+-- A space as its calls see it, and what is true of its parts.
+use Rattle.std.specs.Prelude.{◌≡◌, ◌≤◌, ◌<◌, ◌+◌, ◌^◌, ◌==◌, ◌≤ℤ◌, ℕ, ℤ, pos, List, [], ◌∷◌, ◌++◌, length, filter, not, Option, Some, None, if◌then◌else◌}
+use Rattle.bfs_super.specs.declared.sup.Super.{Super}
+use Rattle.bfs_super.specs.Conditions.{IsValid, natural}
+use Rattle.bfs_bitmap.specs.Runs.{Room, IsSettled}
+use Rattle.bfs_txn.specs.Changed.{Ascends, AreOfSize, number_at}
+use Rattle.bfs_stream.specs.Sizes.{sizes_of}
+use Rattle.bfs_stream.specs.Grown.{IsOfVolume}
+use Rattle.bfs_tree.specs.declared.call.Call.{Call}
+use Rattle.bfs_tree.specs.declared.reply.Reply.{Reply}
+use Rattle.bfs_tree.specs.declared.reply.Reply.TheVariants as replies
+use Rattle.bfs_tree.specs.declared.reply.Entry.{Entry}
+use Rattle.bfs_tree.specs.Histories.{drawn, last_stamp, is_stop}
+use Rattle.bfs_device.specs.declared.journal.Stop.{Stop}
+use Rattle.bfs_device.specs.Layouts.{Layout, IsData, layout_of, ring_count}
+use Rattle.bfs_core.specs.Spaces.{SpaceView, opened, noted}
+
+-- The space itself; the sessions that are promised room for an entry; and the stop of the device, once an entry has told it.
+pub record SpaceBooks : Type 0 where
+  pub view : SpaceView
+  pub promised : List ℕ
+  pub stop : Option Stop
+
+-- a space that was opened: session 0 is promised one entry
+abbrev pub fresh : Super → SpaceBooks
+fresh sup = record { view = opened sup; promised = 0 ∷ []; stop = None }
+
+-- the promises without those to a session
+abbrev pub without : ℕ → List ℕ → List ℕ
+without session promised = filter (λ s. not (s == session)) promised
+
+-- The stop that is known after an entry: the first fault of the disk that stops tells it, with the durable number of then.
+abbrev pub stopped_at : Reply → ℕ → Option Stop
+stopped_at (replies.DiskFault before after stops) durable = if stops then Some (record { durable = durable; faults = after }) else None
+stopped_at _ durable = None
+
+abbrev pub stop_after : Option Stop → Reply → ℕ → Option Stop
+stop_after (Some stop) reply durable = Some stop
+stop_after None reply durable = stopped_at reply durable
+
+-- the entry that is noted: it draws its stamp from the clock and the last stamp
+abbrev pub entry_noted : SpaceBooks → ℕ → ℕ → ℕ → Call → Reply → Entry
+entry_noted b session tag now call reply = record { session = session; tag = tag; stamp = drawn (last_stamp b.view.history) now; call = call; reply = reply }
+
+-- The books with an entry noted, which ends the session's promise.
+abbrev pub with_note : SpaceBooks → ℕ → Entry → ℕ → SpaceBooks
+with_note b session entry durable = record { view = noted b.view entry; promised = without session b.promised; stop = stop_after b.stop entry.reply durable }
+
+-- the changed blocks may be sealed as a group: each once, in order, a block of data with a block's bytes, and they fit the log
+pub record MayBeSealed (l : Layout) (size : ℕ) (pairs : List (ℕ × List ℕ)) : Type 0 where
+  pub ascends : Ascends pairs
+  pub sized : AreOfSize size pairs
+  pub places : (i : ℕ) → i < length pairs → IsData l (number_at pairs i)
+  pub room : ring_count pairs < l.len
+
+-- What is true of a space's parts: the superblock is valid and its log empty; the bitmap is of that volume, has nothing of a
+-- call that goes on, and counts no more used blocks than there are; groups cover a prefix of so many entries; and the open group
+-- may be sealed.
+pub record HasParts (sup : Super) (v : Room) (pairs : List (ℕ × List ℕ)) (sealed entries : ℕ) : Type 0 where
+  pub valid : IsValid sup
+  pub emptied : sup.log_start ≡ sup.log_end
+  pub volume : IsOfVolume (sizes_of sup) v
+  pub settled : IsSettled v
+  pub used : v.tally.used ≤ natural sup.num_blocks
+  pub covered : sealed ≤ entries
+  pub closed : v.last ≤ sealed
+  pub group : MayBeSealed (layout_of sup) sup.block_size pairs
+
+-- The last stamp of a history of so many entries. Seconds are below 2^40, so that a stamp is at most 2^56 and one more for each
+-- entry.
+pub record IsLastStamp (history : List Entry) (last : ℤ) : Type 0 where
+  pub last_is : last ≡ last_stamp history
+  pub low : pos 0 ≤ℤ last
+  pub high : last ≤ℤ pos (2 ^ 56 + length history)

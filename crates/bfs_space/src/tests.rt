@@ -1,0 +1,94 @@
+// A space without calls: what it is promised, what is noted and what is sealed. The volume is the one that `mk --blocks 4096`
+// makes, with 529 used blocks.
+ghost use Rattle.std.specs.Prelude.{◌≡◌, ◌<◌, ◌^◌, IfOk};
+ghost use Rattle.bfs_base.specs.Lists.{times};
+ghost use Rattle.bfs_super.specs.Conditions.{IsValid};
+
+use crate::Space;
+use bfs_bytes::{put_run, put_u32, Run};
+use bfs_super::{Super, SuperFault};
+use bfs_tree::{Call, Reply};
+use std::alloc::AllocError;
+use std::test::Fail;
+
+/// A run in the first group.
+fn run(start: u16, len: u16) -> Run {
+    Run {
+        group: 0,
+        start,
+        len,
+    }
+}
+
+/// The volume's superblock.
+fn superblock() -> Result<Super, SuperFault>
+    ensures valid { IfOk result IsValid }
+{
+    let mut sector = [0u8; 512];
+    put_u32(&mut sector, 32, 0x42465331);
+    put_u32(&mut sector, 36, 0x42494745);
+    put_u32(&mut sector, 40, 1024);
+    put_u32(&mut sector, 44, 10);
+    put_u32(&mut sector, 48, 4096);
+    put_u32(&mut sector, 56, 529);
+    put_u32(&mut sector, 64, 1024);
+    put_u32(&mut sector, 68, 0xdd121031);
+    put_u32(&mut sector, 72, 1);
+    put_u32(&mut sector, 76, 13);
+    put_u32(&mut sector, 80, 1);
+    put_run(&mut sector, 88, run(2, 512));
+    put_u32(&mut sector, 112, 0x15b6830e);
+    put_run(&mut sector, 116, run(514, 1));
+    put_run(&mut sector, 124, run(517, 1));
+    Super::parse(&sector)
+}
+
+/// Notes an entry of session 1 for which it is promised room first.
+fn notes(space: &mut Space, tag: u32, now: u64, reply: Reply, durable: u64) -> Result<(), AllocError>
+    requires none { times 1 space.old.promised ≡ 0 }
+    requires now { now < 2 ^ 40 }
+    ensures none { times 1 space.new.promised ≡ 0 }
+{
+    space.promise(1)?;
+    space.note(1, tag, now, Call::Sync, reply, durable);
+    Ok(())
+}
+
+/// The first and the last entry of the group that is sealed, its used blocks and how many blocks it has; zeros where there is
+/// none.
+fn seals(space: &mut Space) -> (u64, u64, u64, usize)
+    ensures promised { space.new.promised ≡ space.old.promised }
+{
+    match space.seal() {
+        Some(group) => (group.first, group.last, group.used, group.blocks.len()),
+        None => (0, 0, 0, 0),
+    }
+}
+
+#[test]
+fn what_is_promised_is_noted_with_rising_stamps_and_sealed_once(rt: HostRuntime) -> Result<(), Fail> {
+    let alloc = rt.alloc();
+    let sup = superblock()?;
+    assert_eq!(rt; sup.log_start, 0);
+    assert_eq!(rt; sup.log_end, 0);
+    assert_eq!(rt; sup.used_blocks, 529);
+    assert_eq!(rt; sup.num_blocks, 4096);
+    let mut space = Space::open(alloc, sup)?;
+    assert_eq!(rt; seals(&mut space), (0, 0, 0, 0));
+    notes(&mut space, 7, 1000, Reply::Synced { upto: 0 }, 0)?;
+    notes(&mut space, 8, 1000, Reply::Synced { upto: 1 }, 1)?;
+    assert_eq!(rt; seals(&mut space), (1, 2, 529, 0));
+    assert_eq!(rt; seals(&mut space), (0, 0, 0, 0));
+    space.released(2);
+    notes(&mut space, 9, 999, Reply::Synced { upto: 2 }, 2)?;
+    notes(&mut space, 10, 1001, Reply::Synced { upto: 3 }, 3)?;
+    assert_eq!(rt; seals(&mut space), (3, 4, 529, 0));
+    let history = space.into_history();
+    let mut stamps = [0i64; 4];
+    for i in 0..history.len().min(4) {
+        stamps[i] = history[i].stamp;
+    }
+    assert_eq!(rt; history.len(), 4);
+    assert_eq!(rt; stamps, [65536000, 65536001, 65536002, 65601536]);
+    Ok(())
+}

@@ -14,5 +14,6 @@ mod writing;
 pub use block::block_of_page;
 pub use laws::{names_differ, puts_at_key, takes_at_key};
 pub use reading::{number_at, rows_from};
+pub use size::stream_size;
 pub use tree::TreeAt;
 pub use writing::{put_number, take_number};

@@ -36,7 +36,7 @@ fn size_in(block: &[u8]) -> Option<u64>
 }
 
 /// The size of the stream that a tree stands in, which is of whole pages.
-pub(crate) fn stream_size<B: Blocks>(tree: TreeAt, under: &mut B) -> Result<u64, GrowFault>
+pub fn stream_size<B: Blocks>(tree: TreeAt, under: &mut B) -> Result<u64, GrowFault>
     requires valid { IsValid tree.sup }
     requires size { B.size under.old ≡ tree.sup.block_size }
     ensures whole { IfOk result (λ n. n % 1024 ≡ 0) }

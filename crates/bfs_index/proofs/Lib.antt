@@ -1,0 +1,9 @@
+pub mod PairLists
+pub mod Rising
+pub mod Pairing
+pub mod Over
+pub mod Between
+pub mod Refusing
+pub mod Told
+pub mod Outcomes
+pub mod Blaming

@@ -1,5 +1,5 @@
 -- The last stamp of a history that gets an entry.
-use Rattle.std.proofs.Common.{◌≡◌, ◌≤◌, ◌<◌, ◌+◌, ◌∙◌, ◌^◌, ◌*◌, ◌≤ℤ◌, ◌+ℤ◌, pos, ℕ, suc, ℤ, List, [], ◌∷◌, ◌++◌, length, Bool, true, false, cond, refl, sym, subst, arith, length-append}
+use Rattle.std.proofs.Common.{◌≡◌, ◌≤◌, ◌<◌, ◌+◌, ◌∙◌, ◌^◌, ◌*◌, ◌≤ℤ◌, ◌+ℤ◌, pos, ℕ, suc, ℤ, List, [], ◌∷◌, ◌++◌, length, Bool, true, false, cond, refl, sym, ap, subst, arith, length-append}
 use Rattle.std.specs.Prelude.{◌==◌, not}
 use Rattle.std.specs.List.{fold}
 use Rattle.std.proofs.lemmas.Int.{int_max_is, ints}
@@ -47,3 +47,20 @@ promise_ends session (p ∷ ps) has = at (p == session) has (promises_fewer sess
     at : (b : Bool) → 0 < cond b 1 0 + times session ps → length (without session ps) ≤ length ps → (Has ps session → length (without session ps) + 1 ≤ length ps) → length (cond (not b) (p ∷ without session ps) (without session ps)) + 1 ≤ suc (length ps)
     at true some le rest = omega (arith, le)
     at false some le rest = let less = rest (let h : 0 < times session ps = omega (arith, some) in h) in omega (arith, less)
+
+-- a session whose promise has ended has none
+pub none_without : (session : ℕ) (promised : List ℕ) → times session (without session promised) ≡ 0
+none_without session [] = refl
+none_without session (p ∷ ps) = at (p == session) refl (none_without session ps)
+  where
+    at : (b : Bool) → (p == session) ≡ b → times session (without session ps) ≡ 0 → times session (cond (not b) (p ∷ without session ps) (without session ps)) ≡ 0
+    at true e none = none
+    at false e none = let first : cond {A = ℕ} (p == session) 1 0 ≡ cond {A = ℕ} false 1 0 = ap (λ (c : Bool). cond {A = ℕ} c 1 0) e in omega (arith, first, none)
+
+-- one that was promised room last has a promise
+pub has_last : (session : ℕ) (promised : List ℕ) → Has (promised ++ session ∷ []) session
+has_last session promised = let parts = counted promised in omega (arith, parts)
+  where
+    counted : (xs : List ℕ) → 1 ≤ times session (xs ++ session ∷ [])
+    counted [] = grind arith
+    counted (x ∷ xs) = let ih = counted xs in grind (arith, ih)

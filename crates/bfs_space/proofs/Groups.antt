@@ -1,6 +1,6 @@
 -- The parts of a space as its calls change them, and the open group as a group that is sealed.
-use Rattle.std.proofs.Common.{◌≡◌, ◌≢◌, ◌≤◌, ◌<◌, ◌+◌, ◌∙◌, ℕ, List, [], ◌∷◌, length, Bool, true, false, cond, refl, sym, ap, subst, arith}
-use Rattle.std.specs.Prelude.{min, map, filter, not}
+use Rattle.std.proofs.Common.{◌≡◌, ◌≤◌, ◌<◌, ◌+◌, ◌∙◌, ℕ, List, [], ◌∷◌, length, Bool, true, false, cond, refl, sym, subst, arith}
+use Rattle.std.specs.Prelude.{min}
 use Rattle.bfs_super.specs.declared.sup.Super.{Super}
 use Rattle.bfs_super.specs.Conditions.{IsValid, natural, group_blocks}
 use Rattle.bfs_bitmap.specs.declared.given.Given.{Given}
@@ -8,15 +8,15 @@ use Rattle.bfs_bitmap.specs.declared.tally.Tally.{Tally}
 use Rattle.bfs_bitmap.specs.Givens.{is_left}
 use Rattle.bfs_bitmap.specs.Runs.{Room, IsSettled}
 use Rattle.bfs_bitmap.specs.Tallies.{first_tally, lowered, lowered_by}
-use Rattle.bfs_txn.specs.Changed.{Ascends, number_at}
+use Rattle.bfs_txn.specs.Changed.{Ascends}
 use Rattle.bfs_txn.specs.declared.group.Group.{Group}
 use Rattle.bfs_stream.specs.Sizes.{sizes_of}
 use Rattle.bfs_stream.specs.Grown.{IsOfVolume}
 use Rattle.bfs_device.specs.Layouts.{layout_of, ring_count}
 use Rattle.bfs_device.specs.Books.{IsSealed}
 use Rattle.bfs_device.specs.Orders.{IsOnce}
-use Rattle.bfs_core.specs.Spaces.{SpaceView, IsGroupFor, released_space}
-use Rattle.bfs_space.specs.Books.{SpaceBooks, HasParts}
+use Rattle.bfs_core.specs.Spaces.{SpaceView, IsGroupFor}
+use Rattle.bfs_space.specs.Books.{HasParts}
 
 -- blocks that ascend are there once
 ascending_once : (pairs : List (ℕ × List ℕ)) → Ascends pairs → IsOnce pairs

@@ -1,5 +1,5 @@
 -- A space as its calls see it, and what is true of its parts.
-use Rattle.std.specs.Prelude.{◌≡◌, ◌≤◌, ◌<◌, ◌+◌, ◌^◌, ◌==◌, ◌≤ℤ◌, ℕ, ℤ, pos, List, [], ◌∷◌, ◌++◌, length, filter, not, Option, Some, None, if◌then◌else◌}
+use Rattle.std.specs.Prelude.{◌≡◌, ◌≤◌, ◌<◌, ◌+◌, ◌^◌, ◌==◌, ◌≤ℤ◌, ℕ, ℤ, pos, List, [], ◌∷◌, length, filter, not, Option, Some, None, if◌then◌else◌}
 use Rattle.bfs_super.specs.declared.sup.Super.{Super}
 use Rattle.bfs_super.specs.Conditions.{IsValid, natural}
 use Rattle.bfs_bitmap.specs.Runs.{Room, IsSettled}
@@ -10,7 +10,7 @@ use Rattle.bfs_tree.specs.declared.call.Call.{Call}
 use Rattle.bfs_tree.specs.declared.reply.Reply.{Reply}
 use Rattle.bfs_tree.specs.declared.reply.Reply.TheVariants as replies
 use Rattle.bfs_tree.specs.declared.reply.Entry.{Entry}
-use Rattle.bfs_tree.specs.Histories.{drawn, last_stamp, is_stop}
+use Rattle.bfs_tree.specs.Histories.{drawn, last_stamp}
 use Rattle.bfs_device.specs.declared.journal.Stop.{Stop}
 use Rattle.bfs_device.specs.Layouts.{Layout, IsData, layout_of, ring_count}
 use Rattle.bfs_core.specs.Spaces.{SpaceView, opened, noted}

@@ -126,15 +126,7 @@ impl Space {
 
     /// Appends an entry with this reply, by the session's promise, which ends. Its stamp is drawn from the clock's seconds. Where
     /// the reply is a fault of the disk that stops, `durable` is kept for later replies. Takes no memory.
-    pub fn note(
-        &mut self,
-        session: u32,
-        tag: u32,
-        now: u64,
-        call: Call,
-        reply: Reply,
-        durable: u64,
-    )
+    pub fn note(&mut self, session: u32, tag: u32, now: u64, call: Call, reply: Reply, durable: u64)
         requires promised { Has self.old.promised session }
         requires now { now < 2 ^ 40 }
         ensures { self.new ≡ with_note self.old session (entry_noted self.old session tag now call reply) durable }

@@ -5,7 +5,7 @@ ghost use Rattle.bfs_base.specs.Lists.{times};
 ghost use Rattle.bfs_super.specs.Conditions.{IsValid};
 
 use crate::Space;
-use bfs_bytes::{put_run, put_u32, Run};
+use bfs_bytes::{Run, put_run, put_u32};
 use bfs_super::{Super, SuperFault};
 use bfs_tree::{Call, Reply};
 use std::alloc::AllocError;
@@ -44,7 +44,13 @@ fn superblock() -> Result<Super, SuperFault>
 }
 
 /// Notes an entry of session 1 for which it is promised room first.
-fn notes(space: &mut Space, tag: u32, now: u64, reply: Reply, durable: u64) -> Result<(), AllocError>
+fn notes(
+    space: &mut Space,
+    tag: u32,
+    now: u64,
+    reply: Reply,
+    durable: u64,
+) -> Result<(), AllocError>
     requires none { times 1 space.old.promised ≡ 0 }
     requires now { now < 2 ^ 40 }
     ensures none { times 1 space.new.promised ≡ 0 }
@@ -66,7 +72,9 @@ fn seals(space: &mut Space) -> (u64, u64, u64, usize)
 }
 
 #[test]
-fn what_is_promised_is_noted_with_rising_stamps_and_sealed_once(rt: HostRuntime) -> Result<(), Fail> {
+fn what_is_promised_is_noted_with_rising_stamps_and_sealed_once(
+    rt: HostRuntime,
+) -> Result<(), Fail> {
     let alloc = rt.alloc();
     let sup = superblock()?;
     assert_eq!(rt; sup.log_start, 0);

@@ -1,10 +1,10 @@
 -- The blocks of a stream are written one after the other, from a place on.
-use Rattle.std.proofs.Common.{◌≡◌, ◌≢◌, ◌≤◌, ◌<◌, ◌+◌, ◌∙◌, ◌⊎◌, inl, inr, ℕ, zero, suc, List, [], ◌∷◌, ◌++◌, length, take, drop, Bool, true, false, cond, Option, Some, unwrap_or, refl, sym, ap, subst, arith}
+use Rattle.std.proofs.Common.{◌≡◌, ◌≢◌, ◌≤◌, ◌<◌, ◌+◌, ◌∙◌, ◌⊎◌, inl, inr, ℕ, zero, suc, List, [], ◌∷◌, length, take, drop, Bool, true, false, cond, Option, Some, unwrap_or, refl, sym, ap, subst, arith}
 use Rattle.std.specs.Prelude.{◌==◌, ◌/◌, max, IsSome, slice_get, Result, OnOk, IfErr}
 use Rattle.bfs_base.specs.Lists.{times, Has, IsOnce, Agree}
 use Rattle.bfs_super.specs.Geometry.{IsBlockSize}
-use Rattle.bfs_txn.specs.Told.{with_block, with_number}
-use Rattle.bfs_stream.specs.Sizes.{Origin, HasSizes, Sizes, array_length}
+use Rattle.bfs_txn.specs.Told.{with_block}
+use Rattle.bfs_stream.specs.Sizes.{Origin, HasSizes, array_length}
 use Rattle.bfs_stream.specs.Places.{Levels, levels_at, arrays_of, places_of, places_at, frame_at, whole_at, HasLevels}
 use Rattle.bfs_stream.specs.Told.{contents, AreTold, Stands}
 use Rattle.bfs_stream.specs.declared.fault.GrowFault.{GrowFault}

@@ -1,5 +1,5 @@
 -- A stream has grown by a block, and its fresh blocks are told.
-use Rattle.std.proofs.Common.{◌≡◌, ◌≤◌, ◌<◌, ◌+◌, ◌-◌, ◌*◌, ◌∙◌, ◌⊎◌, inl, inr, ◌≤ℤ◌, pos, ℕ, ℤ, zero, suc, List, [], ◌∷◌, ◌++◌, length, take, drop, Bool, true, false, Option, Some, unwrap_or, refl, sym, ap, subst, arith, length-append}
+use Rattle.std.proofs.Common.{◌≡◌, ◌≤◌, ◌<◌, ◌+◌, ◌*◌, ◌∙◌, inl, inr, ◌≤ℤ◌, pos, ℕ, ℤ, zero, suc, List, [], ◌∷◌, ◌++◌, length, take, drop, Bool, Option, Some, unwrap_or, refl, sym, ap, subst, arith, length-append}
 use Rattle.std.specs.Prelude.{IsSome, slice_get, Result, Ok, Err, OnOk, IfErr}
 use Rattle.std.specs.List.{flat_map}
 use Rattle.std.proofs.lemmas.Int.{ints}

@@ -21,7 +21,7 @@ use Rattle.bfs_stream_pages.specs.Moves.{KeepsInode}
 use Rattle.bfs_stream_pages.specs.Steps.{Comes, HasWritten, HasSize}
 use Rattle.bfs_stream_pages.specs.BytesLaws.{write_of}
 use Rattle.bfs_stream_pages.specs.GoesLaws.{are_blocks}
-use Rattle.bfs_stream_pages.specs.MovesLaws.{with_size, places_same, whole_same, free_now, owns_now, moved_rewritten}
+use Rattle.bfs_stream_pages.specs.MovesLaws.{with_size, places_same, whole_same, owns_now, moved_rewritten}
 
 pub is_equal : (k n : ℕ) → (k == n) ≡ true → k ≡ n
 is_equal k n e = grind (arith, e)

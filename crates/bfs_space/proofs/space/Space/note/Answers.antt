@@ -1,6 +1,6 @@
 use mir.Syntax.{w64}
 use mir.Val.{to_z, of_z}
-use Rattle.std.proofs.Common.{rules, ◌≡◌, ◌≤◌, ◌+◌, ◌∙◌, ◌++◌, ◌∷◌, [], ℤ, List, length, ap, sym, subst, refl, arith, length-append}
+use Rattle.std.proofs.Common.{rules, ◌≡◌, ◌+◌, ◌∙◌, ◌++◌, ◌∷◌, [], ℤ, List, length, ap, sym, subst, arith, length-append}
 use Rattle.bfs_base.specs.Lists.{Has}
 use Rattle.bfs_tree.specs.declared.reply.Entry.{Entry}
 use Rattle.bfs_tree.specs.Histories.{drawn, last_stamp}
@@ -22,11 +22,12 @@ invariant_of-self c =
     let ends = ap length c.drop_promise.ensures in
     let capacity = c.append.ensures.room in
     let room = c.self.invariant.2 in
-    let few = c.self.invariant.3 in
-    (parts_longer i.sup i.bitmap i.group i.sealed (length i.history.items) (length c.append.new.history.items) c.self.invariant.0 (omega (arith, long)),
-     subst (λ (z : ℤ). IsLastStamp c.append.new.history.items z) (sym stamp) (subst (λ (l : List Entry). IsLastStamp l (drawn i.last c.args.now)) (sym items) (last_noted i.history.items i.last c.args.now entry c.self.invariant.1 c.requires.now stamp)),
-     omega (arith, long, fewer, ends, capacity, room),
-     omega (arith, long, fewer, ends, few))
+    let few = c.self.invariant.3 in (
+      parts_longer i.sup i.bitmap i.group i.sealed (length i.history.items) (length c.append.new.history.items) c.self.invariant.0 (omega (arith, long)),
+      subst (λ (z : ℤ). IsLastStamp c.append.new.history.items z) (sym stamp) (subst (λ (l : List Entry). IsLastStamp l (drawn i.last c.args.now)) (sym items) (last_noted i.history.items i.last c.args.now entry c.self.invariant.1 c.requires.now stamp)),
+      omega (arith, long, fewer, ends, capacity, room),
+      omega (arith, long, fewer, ends, few),
+    )
 
 pub returns : goal.returns
 returns c =

@@ -1,4 +1,4 @@
-use Rattle.std.proofs.Common.{◌≡◌, ◌≤◌, ◌+◌, ◌≤ℤ◌, ◌^◌, pos, ℕ, ℤ, [], List, length, refl, sym, ap, subst, rules, arith}
+use Rattle.std.proofs.Common.{◌≡◌, pos, ℕ, [], List, length, refl, sym, ap, subst, rules, arith}
 use Rattle.std.proofs.lemmas.Int.{ints}
 use Rattle.bfs_bitmap.specs.Runs.{Room}
 use Rattle.bfs_tree.specs.declared.reply.Entry.{Entry}
@@ -13,8 +13,9 @@ invariant_of-result c =
     let one : length c.push.new.self.items ≡ 1 = search rules in
     let capacity = c.in_ok-history.ensures.capacity in
     let first = subst (λ (v : Room). HasParts c.args.sup v [] 0 0) (sym c.of.ensures) (parts_opened c.args.sup c.requires.valid c.requires.emptied) in
-    let second = subst (λ (l : List (ℕ × List ℕ)). HasParts c.args.sup c.of.result l 0 0) (sym c.new.ensures) first in
-    (subst (λ (n : ℕ). HasParts c.args.sup c.of.result c.new.result 0 n) (sym long) second,
-     subst (λ (h : List Entry). IsLastStamp h (pos 0)) (sym none) (record { last_is = refl; low = omega (arith, ints); high = omega (arith, ints) }),
-     omega (arith, long, one, capacity),
-     omega (arith, long, one))
+    let second = subst (λ (l : List (ℕ × List ℕ)). HasParts c.args.sup c.of.result l 0 0) (sym c.new.ensures) first in (
+      subst (λ (n : ℕ). HasParts c.args.sup c.of.result c.new.result 0 n) (sym long) second,
+      subst (λ (h : List Entry). IsLastStamp h (pos 0)) (sym none) (record { last_is = refl; low = omega (arith, ints); high = omega (arith, ints) }),
+      omega (arith, long, one, capacity),
+      omega (arith, long, one),
+    )

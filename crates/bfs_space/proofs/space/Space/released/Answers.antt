@@ -1,4 +1,4 @@
-use Rattle.std.proofs.Common.{◌≡◌, ◌≤◌, ◌∙◌, ap, sym, subst}
+use Rattle.std.proofs.Common.{◌≤◌, ◌∙◌, ap, sym, subst}
 use Rattle.bfs_super.specs.Conditions.{natural}
 use Rattle.bfs_bitmap.specs.Runs.{Room}
 use Rattle.bfs_stream.specs.Sizes.{sizes_of}
@@ -14,13 +14,16 @@ invariant_of-self c =
     let p = c.self.invariant.0 in
     let now = c.release.new.self in
     let is = c.release.ensures.given in
-    let used = ap (λ (v : Room). v.tally.used) is ∙ released_used c.args.group i.bitmap.given i.bitmap.tally in
-    (parts_with i.sup i.bitmap now i.group i.sealed _ p
-        (subst (λ (v : Room). IsOfVolume (sizes_of i.sup) v) (sym is) (record { block_size = p.volume.block_size; blocks = p.volume.blocks; group_blocks = p.volume.group_blocks }))
-        (c.release.ensures.settled p.settled)
-        (subst (λ n. n ≤ natural i.sup.num_blocks) (sym used) p.used)
-        (subst (λ (v : Room). v.last ≤ i.sealed) (sym is) p.closed),
-     c.self.invariant.1, c.self.invariant.2, c.self.invariant.3)
+    let used = ap (λ (v : Room). v.tally.used) is ∙ released_used c.args.group i.bitmap.given i.bitmap.tally in (
+      parts_with i.sup i.bitmap now i.group i.sealed _ p
+          (subst (λ (v : Room). IsOfVolume (sizes_of i.sup) v) (sym is) (record { block_size = p.volume.block_size; blocks = p.volume.blocks; group_blocks = p.volume.group_blocks }))
+          (c.release.ensures.settled p.settled)
+          (subst (λ n. n ≤ natural i.sup.num_blocks) (sym used) p.used)
+          (subst (λ (v : Room). v.last ≤ i.sealed) (sym is) p.closed),
+      c.self.invariant.1,
+      c.self.invariant.2,
+      c.self.invariant.3,
+    )
 
 pub returns : goal.returns
 returns c =

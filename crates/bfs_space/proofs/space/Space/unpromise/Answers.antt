@@ -1,4 +1,4 @@
-use Rattle.std.proofs.Common.{◌≡◌, ◌≤◌, length, ap, arith}
+use Rattle.std.proofs.Common.{length, ap, arith}
 use Rattle.bfs_space.proofs.Stamps.{promises_fewer}
 use Rattle.bfs_space.proofs.space.Space.unpromise.Goals as goal
 

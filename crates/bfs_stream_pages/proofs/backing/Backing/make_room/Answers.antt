@@ -19,7 +19,6 @@ returns-in-Ok-clause-room g c long m is held low =
     subst (λ (x : Origin). slice_get (places_at x.sizes (contents m) x.id) c.args.index ≡ Some c.in-Ok.field-0) c.self.view_is (c.in-Ok.ensures.found m is there) in
     room_there o c.args.bitmap.now long m c.args.index c.in-Ok.field-0 (g.E.Blocks.told c.block.new.under) (g.E.Blocks.changed c.args.edits.now) (g.E.Blocks.changed c.block.new.under) held found (c.in-Ok.ensures.told ∙ is) c.in-Ok.ensures.changed
 
-
 -- what growing has left, where the stream had no block at the place
 pub returns-clause-room : goal.returns-clause-room
 returns-clause-room g c long m is held low =

@@ -1,0 +1,19 @@
+// The attributes of an inode: items of its small data, and rows of its attribute directory, each of which names an inode whose
+// type is the attribute's and whose stream has its bytes. What the attributes of an inode are is `entries_at`, as a list, and
+// `attributes_at`, as a map, in specs/Bearers.antt.
+#![tactic(auto)]
+
+mod attrs;
+mod directory;
+mod inode;
+mod laws;
+mod reading;
+mod rows;
+mod small;
+
+pub use attrs::Attrs;
+pub use laws::nodes_bear_attributes;
+pub use rows::{AttrItem, AttrRows};
+
+#[cfg(test)]
+mod tests;

@@ -1,0 +1,9 @@
+pub mod Takes
+pub mod TakesRuns
+pub mod Flat
+pub mod Blocks
+pub mod Counted
+pub mod Sized
+pub mod Wrongs
+pub mod Assembled
+pub mod Kept

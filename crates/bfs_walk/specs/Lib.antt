@@ -1,0 +1,3 @@
+pub mod Wrong
+pub mod Walked
+pub mod Due

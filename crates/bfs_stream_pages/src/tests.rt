@@ -392,6 +392,16 @@ fn used_before(alloc: Global, size: u32) -> Result<Silent, AllocError>
     })
 }
 
+/// Are the first 1,024 bytes sevens, and all behind them zeros?
+fn is_page_of_sevens(block: &[u8]) -> bool {
+    let mut right = true;
+    for i in 0..block.len() {
+        let byte = if i < 1024 { 7 } else { 0 };
+        right = right && block[i] == byte;
+    }
+    right
+}
+
 /// Adds a page of sevens to a stream there. Has the block that it took the page, and zeros behind it?
 fn is_fresh(alloc: Global, size: u32, shift: u32) -> Result<bool, Fail>
     requires some { 1024 ≤ size }
@@ -413,9 +423,7 @@ fn is_fresh(alloc: Global, size: u32, shift: u32) -> Result<bool, Fail>
     let place = added(alloc, &mut edits, &mut bitmap, &sup, 4, 0, 7);
     let read = edits.get(8, &mut block);
     edits.drop_call();
-    let sevens = block[..1024].iter().all(|byte| *byte == 7);
-    let zeros = block[1024..].iter().all(|byte| *byte == 0);
-    Ok(place == Ok(0) && read == Ok(()) && sevens && zeros)
+    Ok(place == Ok(0) && read == Ok(()) && is_page_of_sevens(&block))
 }
 
 #[test]

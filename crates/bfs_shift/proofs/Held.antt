@@ -1,6 +1,6 @@
 -- What the calls on maps ask of a volume within a call.
 use Rattle.std.proofs.Common.{◌≡◌, ◌≤◌, ◌<◌, ◌+◌, ◌^◌, ◌≤ℤ◌, inl, inr, ℕ, ℤ, pos, negsuc, List, [], ◌∷◌, ◌++◌, refl, sym, ap, ◌∙◌, subst, arith, Bool, true, false, cond, Option, Some}
-use Rattle.std.specs.Prelude.{◌&&◌, IsSome}
+use Rattle.std.specs.Prelude.{◌&&◌}
 use Rattle.std.proofs.lemmas.Int.{ints}
 use Rattle.std.specs.List.{flat_map, AllByRecursion}
 use Rattle.std.specs.FinMap.{entries}
@@ -8,7 +8,7 @@ use Rattle.bfs_base.specs.Lists.{times}
 use Rattle.bfs_base.specs.declared.kind.KeyKind.TheVariants.{Text}
 use Rattle.bfs_super.specs.Conditions.{natural}
 use Rattle.bfs_super.specs.declared.geometry.Geometry.{Geometry}
-use Rattle.bfs_bitmap.specs.Runs.{Room, Fits, is_free}
+use Rattle.bfs_bitmap.specs.Runs.{Room, Fits}
 use Rattle.bfs_node.specs.Page.{Row}
 use Rattle.bfs_pages.specs.Maps.{assoc}
 use Rattle.bfs_pages.specs.Order.{comes_before, same_keys}
@@ -44,14 +44,13 @@ is_natural (pos n) low = refl
 is_natural (negsuc n) low = absurd (omega (arith, ints, low))
 
 pub owner_held : (g : Geometry) (v : Room) (m : ℕ → Option (List ℕ)) (id : ℕ)
-    → Owns (record { id = id; sizes = sizes g }) v [] m → AreTold m (whole_at (sizes g) (contents m) id) → ((k : ℕ) → is_free v m k ≡ true → IsSome (m k))
+    → Owns (record { id = id; sizes = sizes g }) v [] m → AreTold m (whole_at (sizes g) (contents m) id)
     → HasHeld (record { id = id; sizes = sizes g }) v m
-owner_held g v m id owns told spare = (
+owner_held g v m id owns told = (
   natural (fields (sizes g) (contents m) id).size,
   record {
     owns = owns;
     told = λ k h. told k (let some : 0 < times k (places_at (sizes g) (contents m) id) = h in let p = times-append k (frame_at (sizes g) (contents m) id) (places_at (sizes g) (contents m) id) in let r : 0 < times k (whole_at (sizes g) (contents m) id) = omega (arith, some, p) in r);
-    spare = spare;
     size = is_natural (fields (sizes g) (contents m) id).size owns.stands.sound.size_low;
   },
 )
@@ -121,11 +120,11 @@ module _ (v : Volume) (tree : Tree) (lists : Lists) (loose : List ℕ) (d : ℕ)
 
 pub directory_is_map : (g : Geometry) (v : Room) (m : ℕ → Option (List ℕ)) (tree : Tree) (lists : Lists) (loose : List ℕ) (d : ℕ) (n : Node)
     → IsOfVolume (sizes g) v → 0 < g.block_size → Fits v m → Stocked (volume_in g m) tree lists loose → IsNode tree d n → n.kind ≡ Dir
-    → AreTold m (whole_at (sizes g) (contents m) d) → ((k : ℕ) → is_free v m k ≡ true → IsSome (m k)) → AreNumbers (lists.rows d)
+    → AreTold m (whole_at (sizes g) (contents m) d) → AreNumbers (lists.rows d)
     → IsMap Text (record { id = d; sizes = sizes g }) v m
-directory_is_map g v m tree lists loose d n of some fits stocked is dir told spare numbers =
+directory_is_map g v m tree lists loose d n of some fits stocked is dir told numbers =
     let c : HasContent (volume_in g m) d n Dir = subst (λ (k : Kind). HasContent (volume_in g m) d n k) dir (stocked.nodes d n is).content_is in
     record {
-      held = owner_held g v m d (directory_owns g v m tree lists loose stocked of some fits d n is dir told) told spare;
+      held = owner_held g v m d (directory_owns g v m tree lists loose stocked of some fits d n is dir told) told;
       tree = record { tree = c.1; numbers = subst AreNumbers (sym (stocked.rows d n is dir)) numbers };
     }

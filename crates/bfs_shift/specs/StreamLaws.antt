@@ -1,6 +1,6 @@
 -- What a change of one inode's stream keeps of a volume within a call: the stream of a directory, of an index, and of the index
 -- directory.
-use Rattle.std.specs.Prelude.{◌≡◌, ◌≢◌, ◌<◌, ℕ, ℤ, pos, List, [], ◌∷◌, ◌++◌, Bool, Option, Some, None, drop, false, true, ◌≤◌, ◌^◌, IsSome}
+use Rattle.std.specs.Prelude.{◌≡◌, ◌≢◌, ◌<◌, ℕ, ℤ, pos, List, [], ◌∷◌, ◌++◌, Bool, Option, Some, None, drop, false, true, ◌≤◌, ◌^◌}
 use Rattle.std.specs.List.{flat_map}
 use Rattle.std.specs.FinMap.{insert, empty}
 use Rattle.bfs_base.specs.Lists.{Agree, AreSame, ChangesAt, Has}
@@ -8,7 +8,7 @@ use Rattle.bfs_base.specs.declared.kind.KeyKind.{KeyKind}
 use Rattle.bfs_base.specs.declared.kind.KeyKind.TheVariants.{Text}
 use Rattle.bfs_super.specs.Conditions.{natural}
 use Rattle.bfs_super.specs.declared.geometry.Geometry.{Geometry}
-use Rattle.bfs_bitmap.specs.Runs.{Room, Fits, is_free}
+use Rattle.bfs_bitmap.specs.Runs.{Room, Fits}
 use Rattle.bfs_bytes.specs.Fields.{run_in}
 use Rattle.bfs_inode.specs.Inode.{inode_at, stream_at}
 use Rattle.bfs_inode.specs.Refusals.{IsInode, Names}
@@ -195,11 +195,11 @@ ContentChanges = (v : Volume) (tree : Tree) (lists : Lists) (loose : List ℕ) (
     → (now.kind ≡ Dir → rows_in Text (content (with_blocks v new) d) ≡ rows)
     → Stocked (with_blocks v new) (record tree { nodes = insert tree.nodes d now }) (with_rows lists d rows) loose
 
--- What the calls on maps ask, where each free block is told too: the stream of an owner is held, and so is one of loose blocks; the
+-- What the calls on maps ask: the stream of an owner is held, and so is one of loose blocks; the
 -- rows of a directory are numbers, since they are ids of nodes; and a directory is a map.
 abbrev pub OwnerIsHeld : Type 0
 OwnerIsHeld = (g : Geometry) (v : Room) (m : ℕ → Option (List ℕ)) (id : ℕ)
-    → Owns (record { id = id; sizes = sizes g }) v [] m → AreTold m (whole_at (sizes g) (contents m) id) → ((k : ℕ) → is_free v m k ≡ true → IsSome (m k))
+    → Owns (record { id = id; sizes = sizes g }) v [] m → AreTold m (whole_at (sizes g) (contents m) id)
     → HasHeld (record { id = id; sizes = sizes g }) v m
 
 abbrev pub RowsAreNumbers : Type 0
@@ -209,7 +209,7 @@ RowsAreNumbers = (v : Volume) (tree : Tree) (lists : Lists) (loose : List ℕ) (
 abbrev pub DirectoryIsMap : Type 0
 DirectoryIsMap = (g : Geometry) (v : Room) (m : ℕ → Option (List ℕ)) (tree : Tree) (lists : Lists) (loose : List ℕ) (d : ℕ) (n : Node)
     → IsOfVolume (sizes g) v → 0 < g.block_size → Fits v m → Stocked (volume_in g m) tree lists loose → IsNode tree d n → n.kind ≡ Dir
-    → AreTold m (whole_at (sizes g) (contents m) d) → ((k : ℕ) → is_free v m k ≡ true → IsSome (m k)) → AreNumbers (lists.rows d)
+    → AreTold m (whole_at (sizes g) (contents m) d) → AreNumbers (lists.rows d)
     → IsMap Text (record { id = d; sizes = sizes g }) v m
 
 -- A whole call: mode, user, group and stamps of a node are written, and no index lists it under them. The volume is sound with the

@@ -62,10 +62,11 @@ impl Space {
         let history = Vec::with_capacity(alloc, 1)?;
         let mut promised = Vec::new(alloc);
         promised.push(0)?;
-        let sealed_used = natural_long(sup.used_blocks);
+        let bitmap = Bitmap::of(alloc, &sup);
+        let sealed_used = bitmap.used();
         Ok(Space {
             alloc,
-            bitmap: Bitmap::of(alloc, &sup),
+            bitmap,
             group: Changed::new(alloc),
             history,
             sealed: 0,
@@ -215,11 +216,4 @@ fn stop_with(stop: Option<Stop>, reply: &Reply, durable: u64) -> Option<Stop>
         }
         _ => None,
     }
-}
-
-/// A number that isn't negative, or 0.
-fn natural_long(value: i64) -> u64
-    ensures { result ≡ natural value }
-{
-    if value < 0 { 0 } else { value as u64 }
 }

@@ -12,9 +12,9 @@ invariant_of-result c =
     let long : length c.in_ok-history.history.items ≡ 0 = ap length none in
     let one : length c.push.new.self.items ≡ 1 = search rules in
     let capacity = c.in_ok-history.ensures.capacity in
-    let first = subst (λ (v : Room). HasParts c.args.sup v [] 0 0) (sym c.of.ensures) (parts_opened c.args.sup c.requires.valid c.requires.emptied) in
-    let second = subst (λ (l : List (ℕ × List ℕ)). HasParts c.args.sup c.of.result l 0 0) (sym c.new.ensures) first in (
-      subst (λ (n : ℕ). HasParts c.args.sup c.of.result c.new.result 0 n) (sym long) second,
+    let first = subst (λ (v : Room). HasParts c.args.sup v [] 0 0) (sym c.of-bitmap.ensures) (parts_opened c.args.sup c.requires.valid c.requires.emptied) in
+    let second = subst (λ (l : List (ℕ × List ℕ)). HasParts c.args.sup c.of-bitmap.result l 0 0) (sym c.new.ensures) first in (
+      subst (λ (n : ℕ). HasParts c.args.sup c.of-bitmap.result c.new.result 0 n) (sym long) second,
       subst (λ (h : List Entry). IsLastStamp h (pos 0)) (sym none) (record { last_is = refl; low = omega (arith, ints); high = omega (arith, ints) }),
       omega (arith, long, one, capacity),
       omega (arith, long, one),

@@ -1,5 +1,5 @@
 -- What a walk over the pages of a tree has still to do, and that it goes over pages of the tree alone.
-use Rattle.std.specs.Prelude.{ℕ, ℤ, zero, suc, List, [], ◌∷◌, drop, Option, Some, None}
+use Rattle.std.specs.Prelude.{◌≡◌, ◌⊎◌, ◌+◌, ℕ, ℤ, zero, suc, List, [], ◌∷◌, ◌++◌, length, take, drop, Option, Some, None}
 use Rattle.std.specs.List.{AllByRecursion}
 use Rattle.bfs_base.specs.Lists.{Has}
 use Rattle.bfs_base.specs.declared.kind.KeyKind.{KeyKind}
@@ -38,3 +38,11 @@ ArePart kind bytes frames = AllByRecursion (λ f. IsPart kind bytes (suc f.deep)
 -- they lie in the stream
 abbrev pub AreChildren : ℕ → List Frame → Type 0
 AreChildren size frames = AllByRecursion (λ f. IsChild size f.at) frames
+
+-- A step gets on: the last page on the way goes to its next child, perhaps with that child behind it on the way, or is on the way
+-- no more; the pages before it stay.
+pub record HasGoneOn (old new : List Frame) : Type 0 where
+  pub rest : List Frame
+  pub last : Frame
+  pub was : old ≡ rest ++ last ∷ []
+  pub now : (new ≡ rest) ⊎ (take (length rest + 1) new ≡ rest ++ (record last { next = last.next + 1 }) ∷ [])

@@ -1,12 +1,12 @@
 // Walks over the pages of a tree, from left to right: what is due after a step implies what was due before it, so that a walk with
 // nothing due has met good pages alone. It is the caller who sees that no page is met twice.
-ghost use Rattle.std.specs.Prelude.{◌≡◌, ◌<◌, ◌+◌, ℕ, List, [], Some, true, false, OnOk, IfOk, IfErr};
+ghost use Rattle.std.specs.Prelude.{◌≡◌, ◌<◌, ◌+◌, ℕ, List, [], length, take, Some, true, false, OnOk, IfOk, IfErr};
 ghost use Rattle.bfs_base.specs.Keys.{IsTreeKind};
 ghost use Rattle.bfs_node.specs.Page.{IsPage, rows_of, overflow_of};
 ghost use Rattle.bfs_txn.specs.Faults.{AreLater};
 ghost use Rattle.bfs_pages.specs.Answers.{IsChild};
 ghost use Rattle.bfs_pages.specs.Trees.{state_of};
-ghost use Rattle.bfs_walk.specs.Due.{AreDue, AreChildren, ArePart, IsPart, child_in};
+ghost use Rattle.bfs_walk.specs.Due.{AreDue, AreChildren, ArePart, IsPart, HasGoneOn, child_in};
 ghost use Rattle.bfs_walk.specs.Walked.{IsGoodBelow};
 ghost use Rattle.bfs_walk.specs.Wrong.{IsWrong, IsWalkCause};
 
@@ -51,6 +51,7 @@ pub fn enter<P: Pages, L: Ledger>(
     requires kind { IsTreeKind kind }
     requires at { IsChild (P.size pages.old) at }
     ensures due { (b : List ℕ) → P.told pages.old ≡ Some b → OnOk result (AreDue (state_of kind b).bodies frames.new.items → AreDue (state_of kind b).bodies frames.old.items × IsGoodBelow (state_of kind b).bodies deep at) }
+    ensures kept { OnOk result (take (length frames.old.items) frames.new.items ≡ frames.old.items) }
     ensures children { AreChildren (P.size pages.old) frames.old.items → OnOk result (AreChildren (P.size pages.old) frames.new.items) }
     ensures part { (b : List ℕ) → IsPart kind b deep at → ArePart kind b frames.old.items → OnOk result (ArePart kind b frames.new.items) }
     ensures wrong { (b : List ℕ) → P.told pages.old ≡ Some b → IsPart kind b deep at → IfErr result (IsWrong kind b) }
@@ -94,6 +95,7 @@ pub fn step<P: Pages, L: Ledger>(
     requires kind { IsTreeKind kind }
     requires children { AreChildren (P.size pages.old) frames.old.items }
     ensures end { IfOk result (λ end. end ≡ true → frames.old.items ≡ []) }
+    ensures on { IfOk result (λ end. end ≡ false → HasGoneOn frames.old.items frames.new.items) }
     ensures due { (b : List ℕ) → P.told pages.old ≡ Some b → OnOk result (AreDue (state_of kind b).bodies frames.new.items → AreDue (state_of kind b).bodies frames.old.items) }
     ensures children { OnOk result (AreChildren (P.size pages.old) frames.new.items) }
     ensures part { (b : List ℕ) → P.told pages.old ≡ Some b → ArePart kind b frames.old.items → OnOk result (ArePart kind b frames.new.items) }

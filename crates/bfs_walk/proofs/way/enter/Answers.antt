@@ -1,4 +1,5 @@
-use Rattle.std.proofs.Common.{◌≡◌, ◌-◌, ℕ, List, sym, subst, refl, arith}
+use Rattle.std.proofs.Common.{◌≡◌, ◌∙◌, ◌-◌, ◌++◌, ◌∷◌, [], ℕ, List, length, take, ap, sym, subst, refl, arith}
+use Rattle.std.proofs.Math.Seq.{take-append_seam, take-length}
 use Rattle.bfs_pages.specs.Trees.{page_in, state_of}
 use Rattle.bfs_pages.proofs.OfKind.{if_some}
 use Rattle.bfs_walk.specs.Walked.{IsGoodBelow}
@@ -22,3 +23,10 @@ pub returns-in-Ok-push-clause-due : goal.returns-in-Ok-push-clause-due
 returns-in-Ok-push-clause-due g c = λ b told.
     let page = if_some (λ (z : List ℕ). c.look_at_interior.new.page ≡ page_in z c.args.at) _ b c.in-Ok-look_at_interior.ensures.read told in
     entered c.args.kind b c.args.at c.args.deep _ c.look_at_interior.new.page (record { at = c.args.at; next = 0; deep = c.args.deep - 1 }) c.args.frames.now.items c.push.new.self.items page c.in-Ok-look_at_interior.ensures.interior refl refl (omega (arith, c.if-deep-eq0.false)) c.in-Ok-push.ensures.items
+
+pub returns-in-Ok-clause-kept : goal.returns-in-Ok-clause-kept
+returns-in-Ok-clause-kept g c = take-length c.args.frames.now.items
+
+pub returns-in-Ok-push-clause-kept : goal.returns-in-Ok-push-clause-kept
+returns-in-Ok-push-clause-kept g c =
+    ap (take (length c.args.frames.now.items)) c.in-Ok-push.ensures.items ∙ take-append_seam c.args.frames.now.items _

@@ -1,8 +1,9 @@
-use Rattle.std.proofs.Common.{◌≡◌, ℕ, List, sym, subst, refl, arith, ◌∙◌, ◌+◌, suc}
+use Rattle.std.proofs.Common.{◌≡◌, ℕ, List, [], ◌∷◌, ◌++◌, length, take, inl, inr, true, false, ap, sym, subst, refl, arith, ◌∙◌, ◌+◌, suc, length-append}
 use Rattle.bfs_pages.specs.Answers.{IsChild}
 use Rattle.bfs_pages.specs.Trees.{page_in}
 use Rattle.bfs_pages.proofs.OfKind.{if_some}
-use Rattle.bfs_walk.specs.Due.{AreChildren}
+use Rattle.bfs_walk.specs.Due.{AreChildren, HasGoneOn}
+use Rattle.bfs_walk.specs.declared.way.Frame.{Frame}
 use Rattle.bfs_walk.proofs.Going.{left_behind, went_on, children_last, part_last, child_inside, child_part, part_put, children_put, inner_part}
 use Rattle.bfs_walk.proofs.way.step.Goals as goal
 
@@ -52,3 +53,18 @@ returns-in-Err-enter-clause-wrong g c = λ b told all.
     let last = part_last c.args.kind b c.in-Some.frame c.pop.new.self.items c.args.frames.now.items c.in-Some.ensures.items all in
     c.in-Err-enter.ensures.wrong b (c.in-Ok.ensures.told ∙ told)
     (child_part c.args.kind b (g.P.Pages.size c.args.pages.now) c.in-Some.frame.deep c.in-Some.frame.at c.look_at_interior.new.page c.in-Some.frame.next c.in-Some-child_of.child page c.in-Ok.ensures.interior (sym c.child_of.ensures ∙ c.in-Some-child_of.is) last.1)
+
+pub returns-in_default-child_of-clause-on : goal.returns-in_default-child_of-clause-on
+returns-in_default-child_of-clause-on g c = λ e. record { rest = c.pop.new.self.items; last = c.in-Some.frame; was = c.in-Some.ensures.items; now = inl refl }
+
+pub returns-in-Ok-enter-clause-on : goal.returns-in-Ok-enter-clause-on
+returns-in-Ok-enter-clause-on g c = λ e.
+    let next : Frame = record { at = c.in-Some.frame.at; next = c.in-Some.frame.next + 1; deep = c.in-Some.frame.deep } in
+    let pushed : c.push.new.self.items ≡ c.pop.new.self.items ++ next ∷ [] = c.in-Ok-push.ensures.items in
+    let long : length c.push.new.self.items ≡ length c.pop.new.self.items + 1 = ap length pushed ∙ length-append c.pop.new.self.items (next ∷ []) in
+    record {
+      rest = c.pop.new.self.items;
+      last = c.in-Some.frame;
+      was = c.in-Some.ensures.items;
+      now = inr (subst (λ (n : ℕ). take n c.enter.new.frames.items ≡ c.pop.new.self.items ++ next ∷ []) long (c.in-Ok-enter.ensures.kept ∙ pushed));
+    }

@@ -5,3 +5,4 @@ pub mod Searches
 pub mod Marked
 pub mod Back
 pub mod Counts
+pub mod Settled

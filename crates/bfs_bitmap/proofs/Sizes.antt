@@ -9,6 +9,7 @@ use Rattle.bfs_bitmap.specs.declared.given.Given.{Given}
 use Rattle.bfs_bitmap.specs.declared.tally.Tally.{Tally}
 use Rattle.bfs_bitmap.specs.Tallies.{IsWithin, first_tally}
 use Rattle.bfs_bitmap.specs.Runs.{HasSizes}
+use Rattle.bfs_bitmap.proofs.Settled.{first_none}
 
 natural_le : (z : ℤ) (n : ℕ) → z ≤ℤ pos n → natural z ≤ n
 natural_le (pos k) n h = omega (arith, ints)
@@ -41,6 +42,7 @@ valid_sizes s used valid t e = record {
   tally_kept = subst (IsWithin (natural s.num_blocks)) (sym e) (first_within used (natural s.num_blocks));
   given = λ i h. absurd (omega arith);
   closed = λ i h. absurd (omega arith);
+  kept = first_none;
 }
 
 pub valid_at : (s : Super) (given : List Given) (blocks group used : ℕ) (t : Tally) → IsValid s → given ≡ [] → blocks ≡ natural s.num_blocks → group ≡ 2 ^ natural s.ag_shift → t ≡ first_tally (min used blocks)

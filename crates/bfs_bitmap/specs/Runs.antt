@@ -95,7 +95,11 @@ pub record Marks (v : Room) (first len bit : ℕ) (old new : ℕ → Option (Lis
 abbrev pub none_given : Given
 none_given = record { first = 0; len = 0; group = None; kept = false }
 
--- the sizes of a valid superblock, runs inside the volume, and no group's number above the last
+-- runs of calls that were kept stand before those of the call that goes on
+abbrev pub AreKeptFirst : List Given → Type 0
+AreKeptFirst gs = (i j : ℕ) → i ≤ j → j < length gs → (slice_index_or gs j none_given).kept ≡ true → (slice_index_or gs i none_given).kept ≡ true
+
+-- the sizes of a valid superblock, runs inside the volume, no group's number above the last, and kept runs first
 pub record HasSizes (v : Room) : Type 0 where
   pub some_bytes : 0 < v.block_size
   pub few_bytes : v.block_size ≤ 8192
@@ -106,6 +110,7 @@ pub record HasSizes (v : Room) : Type 0 where
   pub tally_kept : IsWithin v.blocks v.tally_kept
   pub given : (i : ℕ) → i < length v.given → (slice_index_or v.given i none_given).first + (slice_index_or v.given i none_given).len ≤ v.blocks
   pub closed : (i : ℕ) → i < length v.given → unwrap_or (slice_index_or v.given i none_given).group 0 ≤ v.last
+  pub kept : AreKeptFirst v.given
 
 -- the bytes show which blocks of one bitmap block are free
 abbrev pub Shows : Room → (ℕ → Option (List ℕ)) → ℕ → List ℕ → Type 0

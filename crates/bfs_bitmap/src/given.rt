@@ -1,5 +1,6 @@
 // Runs that were given back.
 ghost use Rattle.std.specs.Prelude.{◌≡◌, map, filter, not};
+ghost use Rattle.bfs_bitmap.specs.Runs.{AreKeptFirst};
 ghost use Rattle.bfs_bitmap.specs.Givens.{numbered, settled, is_left};
 
 /// A run that was given back, with the number of its group once that is closed, and whether its call was kept.
@@ -59,13 +60,19 @@ pub fn number_all(given: &mut Vec<Given>, group: u64)
     }
 }
 
-/// The runs' calls were kept.
+/// The runs' calls were kept. The runs of calls that were kept before stand first, and are passed over.
 pub fn settle_all(given: &mut Vec<Given>)
+    requires { AreKeptFirst given.old.items }
     ensures { given.new.items ≡ map settled given.old.items }
 {
-    for i in 0..given.len() {
-        let run = given[i];
-        given[i] = as_settled(run);
+    let mut at = given.len();
+    while at > 0 {
+        let run = given[at - 1];
+        if run.kept {
+            return;
+        }
+        given[at - 1] = as_settled(run);
+        at -= 1;
     }
 }
 

@@ -5,8 +5,8 @@ use Rattle.std.proofs.lemmas.List.{take_at, append-nil, drop_all}
 use Rattle.bfs_bytes.specs.declared.Run.{Run}
 use Rattle.bfs_bytes.specs.Fields.{Puts, unsigned_bytes, signed32_bytes, signed64_bytes, run_bytes}
 use Rattle.bfs_bytes.proofs.Lengths.{length-unsigned_bytes, length-signed32_bytes, length-signed64_bytes, length-run_bytes}
-use Rattle.bfs_inode.specs.Inode.{inode_at, stream_at, runs_in}
-use Rattle.bfs_inode.proofs.Kept.{AreApart, bytes-kept, bytes-put, rest-kept_behind, unsigned-kept, signed32-kept, signed64-kept, run-kept, unsigned-put, signed32-put, signed64-put, run-put}
+use Rattle.bfs_inode.specs.Inode.{KeepsOutside, inode_at, stream_at, runs_in}
+use Rattle.bfs_inode.proofs.Kept.{AreApart, puts-length, bytes-kept, bytes-put, rest-kept_behind, unsigned-kept, signed32-kept, signed64-kept, run-kept, unsigned-put, signed32-put, signed64-put, run-put}
 use Rattle.bfs_inode.proofs.Runs.{runs-kept, runs-put}
 
 -- a part of what lies apart lies apart
@@ -27,7 +27,11 @@ module _ (at : ℕ) (field old new : List ℕ) (puts : Puts at field old new) (f
     size = signed64-kept at field old new puts fits 208 (within 72 144 208 8 at (length field) (omega arith) (omega arith) apart) t;
   }
 
-  -- a write inside the data stream
+  -- a write inside the data stream leaves what stands before and behind it
+  pub outside-kept : 72 ≤ at → at + length field ≤ 216 → KeepsOutside old new
+  outside-kept low high = (puts-length at field old new puts fits, bytes-kept at field old new puts fits 0 72 (inl (omega arith)), rest-kept_behind at field old new puts fits 216 (omega arith))
+
+  -- and so do the fields there
   pub inode-in_stream : 72 ≤ at → at + length field ≤ 216 → inode_at new ≡ record (inode_at old) { stream_bytes = take 144 (drop 72 new) }
   inode-in_stream low high = λ t. record {
     magic1 = signed32-kept at field old new puts fits 0 (inl (omega arith)) t;

@@ -1,5 +1,5 @@
 -- An inode in its block, and the data stream in the inode, field by field.
-use Rattle.std.specs.Prelude.{ℕ, zero, suc, ◌+◌, ℤ, List, [], ◌∷◌, take, drop}
+use Rattle.std.specs.Prelude.{◌≡◌, ℕ, zero, suc, ◌+◌, ℤ, List, [], ◌∷◌, length, take, drop}
 use Rattle.bfs_bytes.specs.declared.Run.{Run}
 use Rattle.bfs_bytes.specs.Fields.{unsigned_at, signed32_at, signed64_at, run_in}
 
@@ -71,3 +71,7 @@ stream_at block = record {
   max_double_indirect_range = signed64_at block 200;
   size = signed64_at block 208;
 }
+
+-- A block is as long as another, and the same but for the 144 bytes of the data stream.
+abbrev pub KeepsOutside : List ℕ → List ℕ → Type 0
+KeepsOutside old new = (length new ≡ length old) × (take 72 new ≡ take 72 old) × (drop 216 new ≡ drop 216 old)

@@ -2,7 +2,7 @@
 ghost use Rattle.std.specs.Prelude.{◌≡◌, ◌<◌, ◌≤◌, ◌+◌, ◌-◌, ◌*◌, length, slice_set, take, drop, IfOk, IfErr};
 ghost use Rattle.bfs_bytes.specs.Fields.{Puts, unsigned_bytes, signed32_bytes, signed64_bytes, run_bytes};
 ghost use Rattle.bfs_inode.specs.Block.{IsBlock};
-ghost use Rattle.bfs_inode.specs.Inode.{inode_at, stream_at};
+ghost use Rattle.bfs_inode.specs.Inode.{KeepsOutside, inode_at, stream_at};
 ghost use Rattle.bfs_inode.specs.Refusals.{IsInode, IsRefusal};
 
 use crate::{InodeFault, InodeView, check};
@@ -197,6 +197,7 @@ impl<'a> InodeMut<'a> {
         ensures length { length self.new.block.now ≡ length self.old.block.now }
         ensures puts { Puts 72 value.now self.old.block.now self.new.block.now }
         ensures inode { inode_at self.new.block.now ≡ record (inode_at self.old.block.now) { stream_bytes = value.now } }
+        ensures outside { KeepsOutside self.old.block.now self.new.block.now }
     {
         put_bytes(self.block, 72, value);
     }
@@ -243,6 +244,7 @@ impl<'a> InodeMut<'a> {
         ensures length { length self.new.block.now ≡ length self.old.block.now }
         ensures puts { Puts (72 + 8 * i) (run_bytes value) self.old.block.now self.new.block.now }
         ensures inode { inode_at self.new.block.now ≡ record (inode_at self.old.block.now) { stream_bytes = take 144 (drop 72 self.new.block.now) } }
+        ensures outside { KeepsOutside self.old.block.now self.new.block.now }
         ensures stream { stream_at self.new.block.now ≡ record (stream_at self.old.block.now) { direct = slice_set (stream_at self.old.block.now).direct i value } }
     {
         put_run(self.block, 72 + 8 * i, value);
@@ -254,6 +256,7 @@ impl<'a> InodeMut<'a> {
         ensures length { length self.new.block.now ≡ length self.old.block.now }
         ensures puts { Puts 168 (signed64_bytes value) self.old.block.now self.new.block.now }
         ensures inode { inode_at self.new.block.now ≡ record (inode_at self.old.block.now) { stream_bytes = take 144 (drop 72 self.new.block.now) } }
+        ensures outside { KeepsOutside self.old.block.now self.new.block.now }
         ensures stream { stream_at self.new.block.now ≡ record (stream_at self.old.block.now) { max_direct_range = value } }
     {
         put_i64(self.block, 168, value);
@@ -265,6 +268,7 @@ impl<'a> InodeMut<'a> {
         ensures length { length self.new.block.now ≡ length self.old.block.now }
         ensures puts { Puts 176 (run_bytes value) self.old.block.now self.new.block.now }
         ensures inode { inode_at self.new.block.now ≡ record (inode_at self.old.block.now) { stream_bytes = take 144 (drop 72 self.new.block.now) } }
+        ensures outside { KeepsOutside self.old.block.now self.new.block.now }
         ensures stream { stream_at self.new.block.now ≡ record (stream_at self.old.block.now) { indirect = value } }
     {
         put_run(self.block, 176, value);
@@ -276,6 +280,7 @@ impl<'a> InodeMut<'a> {
         ensures length { length self.new.block.now ≡ length self.old.block.now }
         ensures puts { Puts 184 (signed64_bytes value) self.old.block.now self.new.block.now }
         ensures inode { inode_at self.new.block.now ≡ record (inode_at self.old.block.now) { stream_bytes = take 144 (drop 72 self.new.block.now) } }
+        ensures outside { KeepsOutside self.old.block.now self.new.block.now }
         ensures stream { stream_at self.new.block.now ≡ record (stream_at self.old.block.now) { max_indirect_range = value } }
     {
         put_i64(self.block, 184, value);
@@ -287,6 +292,7 @@ impl<'a> InodeMut<'a> {
         ensures length { length self.new.block.now ≡ length self.old.block.now }
         ensures puts { Puts 192 (run_bytes value) self.old.block.now self.new.block.now }
         ensures inode { inode_at self.new.block.now ≡ record (inode_at self.old.block.now) { stream_bytes = take 144 (drop 72 self.new.block.now) } }
+        ensures outside { KeepsOutside self.old.block.now self.new.block.now }
         ensures stream { stream_at self.new.block.now ≡ record (stream_at self.old.block.now) { double_indirect = value } }
     {
         put_run(self.block, 192, value);
@@ -298,6 +304,7 @@ impl<'a> InodeMut<'a> {
         ensures length { length self.new.block.now ≡ length self.old.block.now }
         ensures puts { Puts 200 (signed64_bytes value) self.old.block.now self.new.block.now }
         ensures inode { inode_at self.new.block.now ≡ record (inode_at self.old.block.now) { stream_bytes = take 144 (drop 72 self.new.block.now) } }
+        ensures outside { KeepsOutside self.old.block.now self.new.block.now }
         ensures stream { stream_at self.new.block.now ≡ record (stream_at self.old.block.now) { max_double_indirect_range = value } }
     {
         put_i64(self.block, 200, value);
@@ -309,6 +316,7 @@ impl<'a> InodeMut<'a> {
         ensures length { length self.new.block.now ≡ length self.old.block.now }
         ensures puts { Puts 208 (signed64_bytes value) self.old.block.now self.new.block.now }
         ensures inode { inode_at self.new.block.now ≡ record (inode_at self.old.block.now) { stream_bytes = take 144 (drop 72 self.new.block.now) } }
+        ensures outside { KeepsOutside self.old.block.now self.new.block.now }
         ensures stream { stream_at self.new.block.now ≡ record (stream_at self.old.block.now) { size = value } }
     {
         put_i64(self.block, 208, value);

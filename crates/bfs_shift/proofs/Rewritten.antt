@@ -32,13 +32,13 @@ words_same old new at low too e = same_words (unsigned_at 4 new at) (unsigned_at
 
 pub keeps_place : (old new : List ℕ) → KeepsInode old new → KeepsPlace old new
 keeps_place old new e = record {
-  magic = ap (λ (i : Inode). i.magic1) e;
-  number = ap (λ (i : Inode). i.inode_num) e;
-  flags = ap (λ (i : Inode). i.flags) e;
-  parent = ap (λ (i : Inode). i.parent) e;
-  attributes = ap (λ (i : Inode). i.attributes) e;
-  inode_size = ap (λ (i : Inode). i.inode_size) e;
-  small_data = ap (λ (i : Inode). i.small_data) e;
+  magic = ap (λ (i : Inode). i.magic1) e.0;
+  number = ap (λ (i : Inode). i.inode_num) e.0;
+  flags = ap (λ (i : Inode). i.flags) e.0;
+  parent = ap (λ (i : Inode). i.parent) e.0;
+  attributes = ap (λ (i : Inode). i.attributes) e.0;
+  inode_size = ap (λ (i : Inode). i.inode_size) e.0;
+  small_data = ap (λ (i : Inode). i.small_data) e.0;
 }
 
 long_same : (a b : ℕ) → 232 < a → b - 232 ≡ a - 232 → b ≡ a

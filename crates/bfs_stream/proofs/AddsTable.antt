@@ -8,7 +8,7 @@ use Rattle.std.proofs.Math.Nat.{mul_comm}
 use Rattle.bfs_base.specs.Lists.{times, Has, Agree, AreSame}
 use Rattle.bfs_bytes.specs.declared.Run.{Run}
 use Rattle.bfs_inode.specs.Inode.{Stream, stream_at}
-use Rattle.bfs_bitmap.specs.Runs.{Room, Fits, is_free}
+use Rattle.bfs_bitmap.specs.Runs.{Room, Fits, IsCounted, is_free}
 use Rattle.bfs_stream.specs.Sizes.{Origin, IsWhole, runs_per_block}
 use Rattle.bfs_stream.specs.Places.{Levels, run_blocks, blocks_of, used_runs, array_runs, level_blocks, arrays_of, places_of, fields, second_arrays, levels_at, arrays_at, places_at, frame_at, whole_at, HasLevels}
 use Rattle.bfs_stream.specs.Told.{contents, AreTold}
@@ -223,7 +223,7 @@ module _ (o : Origin) (v now : Room) (table array : Run) (m : ℕ → Option (Li
         (subst (λ (t : Option (ℕ → Option (List ℕ))). Grown o v (record v { tally = now.tally }) m [] t old new) (sym put.is)
         (grown_is o v now.tally table m took.map put.map told1 changed [] next owns took.is
         (subst (λ (x : Room). Fits x took.map) rest took.fits) took.others took.first took.were_free
-        (λ k. sym (ap (λ (x : Room). is_free x took.map k) rest) ∙ took.free k) took.marks
+        (λ k. sym (ap (λ (x : Room). is_free x took.map k) rest) ∙ took.free k) took.marks (λ count. subst (λ (x : Room). IsCounted x took.map) rest (took.counted count))
         written levels_are next_sound next_places same keeps inside_frame told_now next_few rest_now old new changes))
 
     -- one more table is listed now, and as many runs are used as before

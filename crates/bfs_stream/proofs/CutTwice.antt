@@ -13,7 +13,7 @@ use Rattle.bfs_stream.specs.Sizes.{Sizes, Origin, array_length, IsWhole, table_l
 use Rattle.bfs_stream.specs.Places.{Levels, run_blocks, arrays_of, places_at, frame_at, whole_at, fields, used_runs, blocks_of, array_runs, level_blocks, levels_at, second_arrays}
 use Rattle.bfs_stream.specs.Told.{contents, Stands}
 use Rattle.bfs_stream.specs.Grown.{Owns, IsOutside, AreWritten, UsesDouble}
-use Rattle.bfs_stream.specs.Trimmed.{Trimmed, HasTrimmed, HasDropped, HasCut, HasSpare, KeepsLevels, before_last_table, HasNoArrays, MayLose, IsAtEnd, HasTrimmedTo, HasNoEmpty, LeavesGiven}
+use Rattle.bfs_stream.specs.Trimmed.{Trimmed, HasTrimmed, HasDropped, HasCut, HasSpare, KeepsLevels, before_last_table, HasNoArrays, MayLose, IsAtEnd, HasTrimmedTo, HasNoEmpty, LeavesGiven, AreMarked}
 use Rattle.bfs_stream.proofs.Placed.{length-places, some_blocks}
 use Rattle.bfs_stream.proofs.Doubles.{times-append}
 use Rattle.bfs_stream.proofs.Frames.{has_left}
@@ -46,6 +46,7 @@ module _ (o : Origin) (v : Room) (m : ℕ → Option (List ℕ)) (owns : Owns o 
     fewer = λ k. omega arith;
     reserved = λ k. none_new (times k (whole_at o.sizes (contents m) o.id) == 0) (is_reserved v.given k);
     marks = λ k low. none_marked (times k (whole_at o.sizes (contents m) o.id) == 0) (marked (per_block v) m k);
+    counted = λ marks count. count;
     free = λ k. refl;
     touched = [];
     still = λ k has. let none : 0 < times k [] = has in absurd (omega (arith, none));
@@ -102,6 +103,18 @@ module _ (o : Origin) (v now later : Room) (m : ℕ → Option (List ℕ)) (gone
       subst (λ (x : Room). marked (per_block x) two.map k ≡ cond ((times k (whole_at o.sizes (contents two.map) o.id) == 0) && not (times k (whole_at o.sizes (contents one.map) o.id) == 0)) 0 (marked (per_block x) one.map k)) rest
       (two.marks k (subst (λ (x : Room). k < x.blocks) (sym rest) low))
 
+  -- what is the stream's still is still used
+  still_marked : AreMarked v (whole_at o.sizes (contents m) o.id) m → AreMarked now (whole_at o.sizes (contents one.map) o.id) one.map
+  still_marked marks k low has =
+      let below : k < v.blocks = subst (λ (x : Room). k < x.blocks) rest low in
+      let some : 0 < times k (whole_at o.sizes (contents one.map) o.id) = has in
+      let few = one.fewer k in
+      let before : 0 < times k (whole_at o.sizes (contents m) o.id) = omega (arith, some, few) in
+      subst (λ (x : Room). marked (per_block x) one.map k ≡ 1) (sym rest)
+      (one.marks k below
+      ∙ ap (λ (b : Bool). cond (b && not (times k (whole_at o.sizes (contents m) o.id) == 0)) 0 (marked (per_block v) m k)) (some_test (times k (whole_at o.sizes (contents one.map) o.id)) some)
+      ∙ marks k below before)
+
   pub trimmed_twice : Trimmed o v later m (more ++ gone) told2 c0 c2
   trimmed_twice = record {
     map = two.map;
@@ -124,6 +137,7 @@ module _ (o : Origin) (v now later : Room) (m : ℕ → Option (List ℕ)) (gone
         (still_none (times k (whole_at o.sizes (contents one.map) o.id)) (times k (whole_at o.sizes (contents m) o.id)) (one.fewer k))
         (still_none (times k (whole_at o.sizes (contents two.map) o.id)) (times k (whole_at o.sizes (contents one.map) o.id)) (two.fewer k))
         (one.marks k low) (now_marks k low);
+    counted = λ marks count. two.counted (λ k low has. still_marked marks k low has) (one.counted marks count);
     free = λ k. two.free k ∙ one.free k;
     touched = one.touched ++ two.touched;
     still = all_still;

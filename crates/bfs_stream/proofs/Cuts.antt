@@ -10,7 +10,7 @@ use Rattle.bfs_stream.specs.Grown.{IsOutside, Owns, AreWritten, KeepsRest}
 use Rattle.bfs_stream.specs.Trimmed.{Gave, Trimmed}
 use Rattle.bfs_stream.proofs.Doubles.{times-append}
 use Rattle.bfs_stream.proofs.Frames.{levels_same, has_first, has_left}
-use Rattle.bfs_stream.proofs.Finish.{is_below, marked_same, fits_same}
+use Rattle.bfs_stream.proofs.Finish.{is_below, marked_same, fits_same, counted_same}
 use Rattle.bfs_stream.proofs.Taking.{zero_test, some_test}
 
 -- what was in hand is gone, and nothing else: `h` of it in hand, `x` left, `y` before
@@ -147,6 +147,10 @@ module _ (o : Origin) (v now : Room) (hand : List ℕ) (m m1 : ℕ → Option (L
       fewer = λ k. let s = sum_is k in subst (λ (x : Levels). times k ((o.id ∷ arrays_of o.sizes x) ++ places_of o.sizes x) ≤ times k whole) (sym levels_now) (let few : times k left ≤ times k whole = omega (arith, s) in few);
       reserved = λ k. reserved_now k ∙ ap (λ (x : Levels). is_reserved v.given k || ((times k ((o.id ∷ arrays_of o.sizes x) ++ places_of o.sizes x) == 0) && not (times k whole == 0))) (sym levels_now);
       marks = λ k low. marks_now k low ∙ ap (λ (x : Levels). cond ((times k ((o.id ∷ arrays_of o.sizes x) ++ places_of o.sizes x) == 0) && not (times k whole == 0)) 0 (marked (per_block v) m k)) (sym levels_now);
+      counted = λ marks count.
+          gave.counted (λ k. let s = sum_is k in let le = once k in let few : times k hand ≤ 1 = omega (arith, s, le) in few)
+          (λ k low has. marked_same v m m1 bits_stay k low ∙ marks k low (hand_in k (let some : 0 < times k hand = has in some)))
+          (counted_same v m m1 (λ k low. marked_same v m m1 bits_stay k low) count);
       free = free_given;
       touched = ws;
       still = λ k has. subst (λ (x : Levels). Has (o.id ∷ arrays_of o.sizes x) k) (sym levels_now) (still k has);

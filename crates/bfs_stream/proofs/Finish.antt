@@ -7,13 +7,21 @@ use Rattle.bfs_bytes.specs.declared.Run.{Run}
 use Rattle.bfs_bitmap.specs.Fills.{IsBitmapBlock}
 use Rattle.bfs_bitmap.specs.Bits.{bit_of}
 use Rattle.bfs_bitmap.specs.declared.tally.Tally.{Tally}
-use Rattle.bfs_bitmap.specs.Runs.{Room, Fits, per_block, marked, is_free, is_reserved}
+use Rattle.bfs_bitmap.specs.Runs.{Room, Fits, IsCounted, per_block, marked, marked_count, is_free, is_reserved}
 use Rattle.bfs_stream.specs.Sizes.{Origin, array_length, table_length}
 use Rattle.bfs_stream.specs.Places.{Levels, run_blocks, level_blocks, levels_at, places_of, arrays_of, places_at, frame_at, whole_at, HasLevels}
 use Rattle.bfs_stream.specs.Told.{contents, AreTold}
 use Rattle.bfs_stream.specs.Grown.{IsOutside, Owns, Grown, AreWritten, KeepsRest}
 use Rattle.bfs_stream.proofs.Doubles.{times-append}
 use Rattle.bfs_stream.proofs.Taking.{zero_test, some_test, and_false, once_counted}
+
+-- with the same bits as many blocks are used
+pub counted_same : (v : Room) (m n : ℕ → Option (List ℕ)) → ((k : ℕ) → k < v.blocks → marked (per_block v) n k ≡ marked (per_block v) m k) → IsCounted v m → IsCounted v n
+counted_same v m n same counted = counted ∙ sym (up_to v.blocks (omega arith))
+  where
+    up_to : (c : ℕ) → c ≤ v.blocks → marked_count v n c ≡ marked_count v m c
+    up_to zero le = refl
+    up_to (suc c) le = ap₂ (λ (a b : ℕ). cond (a == 0) 0 1 + b) (same c (omega (arith, le))) (up_to c (omega (arith, le)))
 
 -- where the blocks that hold bits stay, the same blocks are free
 module _ (v : Room) (m n : ℕ → Option (List ℕ)) (stay : (b : ℕ) → per_block v * (b - 1) < v.blocks → n b ≡ m b) where
@@ -79,6 +87,7 @@ module _ (o : Origin) (v : Room) (tally : Tally) (run : Run) (m m1 m2 : ℕ → 
     (fits1 : Fits (record v { tally = tally }) m1) (others1 : (k : ℕ) → IsOutside v k → m1 k ≡ m k) (first1 : m1 0 ≡ m 0) (were_free : (k : ℕ) → Has (run_blocks o.sizes run) k → is_free v m k ≡ true)
     (free1 : (k : ℕ) → is_free v m1 k ≡ (is_free v m k && (times k (run_blocks o.sizes run) == 0)))
     (marks1 : (k : ℕ) → k < v.blocks → marked (per_block v) m1 k ≡ cond (times k (run_blocks o.sizes run) == 0) (marked (per_block v) m k) 1)
+    (counted1 : IsCounted v m → IsCounted (record v { tally = tally }) m1)
     (written : (k : ℕ) → times k ws ≡ 0 → m2 k ≡ m1 k)
     (levels : levels_at o.sizes (contents m2) o.id ≡ l) (sound : HasLevels o.sizes l) (places : places_of o.sizes l ≡ places_at o.sizes (contents m) o.id ++ fresh)
     (same : AreSame ((o.id ∷ arrays_of o.sizes l) ++ places_of o.sizes l) (run_blocks o.sizes run ++ whole_at o.sizes (contents m) o.id))
@@ -180,6 +189,7 @@ module _ (o : Origin) (v : Room) (tally : Tally) (run : Run) (m m1 m2 : ℕ → 
         were_free k (let mine : 0 < times k hand = omega (arith, s, some, none) in mine);
     free = λ k. free_now k ∙ ap (λ (x : Levels). is_free v m k && (times k ((o.id ∷ arrays_of o.sizes x) ++ places_of o.sizes x) == 0)) (sym levels);
     marks = λ k low. marks_now k low ∙ ap (λ (x : Levels). cond ((times k whole == 0) && not (times k ((o.id ∷ arrays_of o.sizes x) ++ places_of o.sizes x) == 0)) 1 (marked (per_block v) m k)) (sym levels);
+    counted = λ c. counted_same (record v { tally = tally }) m1 m2 (λ k low. marked_same v m1 m2 bits_stay k low) (counted1 c);
     room = room_of (array_length o.sizes * (table_length o.sizes * table_length o.sizes)) (length (level_blocks o.sizes (levels_at o.sizes (contents m) o.id).runs)) (length (level_blocks o.sizes (levels_at o.sizes (contents m2) o.id).runs)) (length fresh)
         (subst (λ (x : Levels). length (level_blocks o.sizes x.runs) ≤ length (level_blocks o.sizes (levels_at o.sizes (contents m) o.id).runs) + length fresh) (sym levels) few);
     others = λ k out none. written k (none_of k (subst (λ (x : Levels). times k (o.id ∷ arrays_of o.sizes x) ≡ 0) levels none)) ∙ others1 k out;

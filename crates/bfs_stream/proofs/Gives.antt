@@ -1,16 +1,16 @@
 -- Blocks were given back, some of the stream's among them, and the stream stands as before; then it was written.
 use Rattle.std.proofs.Common.{◌≡◌, ◌≤◌, ◌<◌, ◌+◌, ◌-◌, ◌*◌, ◌∙◌, ◌⊎◌, inl, inr, ℕ, zero, suc, List, [], ◌∷◌, ◌++◌, Bool, true, false, cond, not, ◌&&◌, ◌||◌, Option, Some, unwrap_or, refl, sym, ap, ap₂, subst, arith}
 use Rattle.std.specs.Prelude.{◌==◌, nat_lt, IsSome}
-use Rattle.bfs_base.specs.Lists.{times, Has}
-use Rattle.bfs_bitmap.specs.Runs.{Room, Fits, per_block, marked, is_free, is_reserved}
+use Rattle.bfs_base.specs.Lists.{times, Has, IsOnce}
+use Rattle.bfs_bitmap.specs.Runs.{Room, Fits, IsCounted, per_block, marked, is_free, is_reserved}
 use Rattle.bfs_stream.specs.Sizes.{Origin}
 use Rattle.bfs_stream.specs.Places.{Levels, levels_at, places_of, arrays_of, places_at, arrays_at, frame_at, whole_at, HasLevels}
 use Rattle.bfs_stream.specs.Told.{contents, AreTold}
 use Rattle.bfs_stream.specs.Grown.{IsOutside, Owns, AreWritten, KeepsRest}
-use Rattle.bfs_stream.specs.Trimmed.{Gave, Trimmed}
+use Rattle.bfs_stream.specs.Trimmed.{Gave, Trimmed, AreMarked}
 use Rattle.bfs_stream.proofs.Doubles.{times-append}
 use Rattle.bfs_stream.proofs.Frames.{levels_same, has_first, has_left}
-use Rattle.bfs_stream.proofs.Finish.{is_below, marked_same, fits_same}
+use Rattle.bfs_stream.proofs.Finish.{is_below, marked_same, fits_same, counted_same}
 use Rattle.bfs_stream.proofs.Taking.{zero_test, some_test}
 use Rattle.bfs_stream.proofs.AddsArray.{same_map}
 use Rattle.bfs_stream.proofs.Cutting.{arrays_cut, arrays_touched}
@@ -44,6 +44,7 @@ gave_none v m told fits is = record {
   first = refl;
   reserved = λ k. sym (or_none (is_reserved v.given k));
   marks = λ k low. refl;
+  counted = λ once marks count. count;
 }
 
 or_sum : (r : Bool) (x y : ℕ) → ((r || not (x == 0)) || not (y == 0)) ≡ (r || not (x + y == 0))
@@ -75,7 +76,29 @@ gave_more v now later xs ys m told1 told2 one rest two = record {
       subst (λ (x : Room). marked (per_block x) two.map k ≡ cond (times k ys == 0) (marked (per_block x) one.map k) 0) rest (two.marks k (subst (λ (x : Room). k < x.blocks) (sym rest) low))
       ∙ ap (λ (a : ℕ). cond (times k ys == 0) a 0) (one.marks k low) ∙ if_sum (times k xs) (times k ys) (marked (per_block v) m k)
       ∙ ap (λ (n : ℕ). cond (n == 0) (marked (per_block v) m k) 0) (sym (times-append k xs ys));
+  counted = λ once marks count. two.counted (right_once once) (λ k low has. still_marked once marks k low has) (one.counted (left_once once) (λ k low has. marks k low (in_left k has)) count);
 }
+  where
+    left_once : IsOnce (xs ++ ys) → IsOnce xs
+    left_once once k = let le = once k in let e = times-append k xs ys in omega (arith, le, e)
+
+    right_once : IsOnce (xs ++ ys) → IsOnce ys
+    right_once once k = let le = once k in let e = times-append k xs ys in omega (arith, le, e)
+
+    in_left : (k : ℕ) → Has xs k → Has (xs ++ ys) k
+    in_left k has = let some : 0 < times k xs = has in let e = times-append k xs ys in let all : 0 < times k (xs ++ ys) = omega (arith, some, e) in all
+
+    in_right : (k : ℕ) → Has ys k → Has (xs ++ ys) k
+    in_right k has = let some : 0 < times k ys = has in let e = times-append k xs ys in let all : 0 < times k (xs ++ ys) = omega (arith, some, e) in all
+
+    apart : IsOnce (xs ++ ys) → (k : ℕ) → Has ys k → times k xs ≡ 0
+    apart once k has = let some : 0 < times k ys = has in let le = once k in let e = times-append k xs ys in omega (arith, some, le, e)
+
+    still_marked : IsOnce (xs ++ ys) → AreMarked v (xs ++ ys) m → AreMarked now ys one.map
+    still_marked once marks k low has =
+        let below : k < v.blocks = subst (λ (x : Room). k < x.blocks) rest low in
+        subst (λ (x : Room). marked (per_block x) one.map k ≡ 1) (sym rest)
+        (one.marks k below ∙ ap (λ (b : Bool). cond b (marked (per_block v) m k) 0) (zero_test (times k xs) (apart once k has)) ∙ marks k below (in_right k has))
 
 module _ (o : Origin) (v now : Room) (hand : List ℕ) (m : ℕ → Option (List ℕ)) (told : Option (ℕ → Option (List ℕ))) (owns : Owns o v [] m) (gave : Gave v now hand m told) (rest : now ≡ record v { given = now.given; tally = now.tally }) where
   pub gave_same : (k : ℕ) → Has (whole_at o.sizes (contents m) o.id) k → gave.map k ≡ m k
@@ -158,7 +181,15 @@ module _ (o : Origin) (v now : Room) (hand : List ℕ) (m m1 : ℕ → Option (L
     marks = λ k low.
         marked_same v gave.map m1 (λ b h. wrote b (outside_bits b h)) k low ∙ gave.marks k low
         ∙ ap (λ (a : ℕ). cond (times k hand == 0) a 0) (sym (marked_same v m written_first (λ b h. first_others b (outside_bits b h)) k low));
+    counted = λ once marks count.
+        subst (λ (x : Room). IsCounted x m1) (sym rest)
+        (counted_same (record v { given = now.given; tally = now.tally }) gave.map m1 (λ k low. marked_same v gave.map m1 (λ b h. wrote b (outside_bits b h)) k low)
+        (subst (λ (x : Room). IsCounted x gave.map) rest
+        (gave.counted once (λ k low has. sym (first_marks k low) ∙ marks k low has) (counted_same v written_first m (λ k low. sym (first_marks k low)) count))));
   }
+    where
+      first_marks : (k : ℕ) → k < v.blocks → marked (per_block v) written_first k ≡ marked (per_block v) m k
+      first_marks k low = marked_same v m written_first (λ b h. first_others b (outside_bits b h)) k low
 
   module _ (l : Levels) (levels1 : levels_at o.sizes (contents m1) o.id ≡ l) (sound : HasLevels o.sizes l) (told_ws : (k : ℕ) → Has ws k → IsSome (m1 k)) (rest_kept : KeepsRest (contents m o.id) (contents m1 o.id))
       (gone went : List ℕ) (hand_is : (k : ℕ) → times k hand ≡ times k gone + times k went) (places : places_at o.sizes (contents m) o.id ≡ places_of o.sizes l ++ gone)

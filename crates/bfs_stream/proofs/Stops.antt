@@ -57,6 +57,7 @@ unwritten o v now m n told c0 c1 grown =
         were_free = g.were_free;
         free = g.free;
         marks = g.marks;
+        counted = g.counted;
         kept = g.kept;
         room = g.room;
         others = g.others;

@@ -1,11 +1,12 @@
 -- What taking a run from the bitmap leaves.
-use Rattle.std.proofs.Common.{◌≡◌, ◌≤◌, ◌<◌, ◌+◌, ◌*◌, ◌∙◌, ◌⊎◌, inl, inr, ℕ, zero, suc, List, Bool, true, false, cond, not, ◌&&◌, Option, refl, sym, ap, subst, arith}
+use Rattle.std.proofs.Common.{◌≡◌, ◌≤◌, ◌<◌, ◌+◌, ◌*◌, ◌∙◌, ◌⊎◌, inl, inr, ℕ, zero, suc, List, Bool, true, false, cond, not, ◌&&◌, Option, Some, refl, sym, ap, subst, arith}
 use Rattle.std.specs.Prelude.{◌==◌, nat_lt, nat_le}
 use Rattle.bfs_base.specs.Lists.{counted_from, times, Has, IsOnce}
 use Rattle.bfs_bytes.specs.declared.Run.{Run}
 use Rattle.bfs_super.specs.Conditions.{natural}
 use Rattle.bfs_bitmap.specs.Bits.{in_run}
-use Rattle.bfs_bitmap.specs.Runs.{Room, Marks, IsMarked, IsTaken, per_block, marked, is_free, is_reserved, first_of}
+use Rattle.bfs_bitmap.specs.Fills.{IsTold}
+use Rattle.bfs_bitmap.specs.Runs.{Room, Marks, IsMarked, IsTaken, IsCounted, per_block, marked, is_free, is_reserved, first_of}
 use Rattle.bfs_stream.specs.Sizes.{Sizes, first_block}
 use Rattle.bfs_stream.specs.Places.{run_blocks}
 use Rattle.bfs_stream.specs.Grown.{IsOfVolume, Took}
@@ -124,9 +125,16 @@ module _ (v : Room) (m map : ℕ → Option (List ℕ)) (first len : ℕ) (marks
           beside (inl low') = below_test first len k low'
           beside (inr high) = above_test first len k high
 
+-- what is said of some told map is said of this one
+pub of_told : (P : (ℕ → Option (List ℕ)) → Type 0) (map : ℕ → Option (List ℕ)) (told : Option (ℕ → Option (List ℕ))) → told ≡ Some map → IsTold P told → P map
+of_told P map told is all = subst P (same all.0 map told all.1 is) all.2
+  where
+    same : (a b : ℕ → Option (List ℕ)) (t : Option (ℕ → Option (List ℕ))) → t ≡ Some a → t ≡ Some b → a ≡ b
+    same a b t e f = cc
+
 pub took_is : (s : Sizes) (v now : Room) (run : Run) (wanted longest : ℕ) (m : ℕ → Option (List ℕ)) (told : Option (ℕ → Option (List ℕ)))
-    → IsOfVolume s v → IsTaken v m wanted longest (first_of v run) run.len → IsMarked v now (first_of v run) run.len 1 m told → now ≡ record v { tally = now.tally } → Took s v now run m told
-took_is s v now run wanted longest m told volume taken mark rest =
+    → IsOfVolume s v → IsTaken v m wanted longest (first_of v run) run.len → IsMarked v now (first_of v run) run.len 1 m told → now ≡ record v { tally = now.tally } → (IsCounted v m → IsTold (IsCounted now) told) → Took s v now run m told
+took_is s v now run wanted longest m told volume taken mark rest counted =
     let first : first_block s run ≡ first_of v run = ap (λ (n : ℕ). natural run.group * n + run.start) (sym volume.group_blocks) in
     let blocks : run_blocks s run ≡ counted_from (first_of v run) run.len = ap (λ (n : ℕ). counted_from n run.len) first in record {
       map = mark.map;
@@ -137,4 +145,5 @@ took_is s v now run wanted longest m told volume taken mark rest =
       were_free = λ k has. let in_it = counted_in (first_of v run) run.len k (subst (λ (l : List ℕ). Has l k) blocks has) in taken.free.free k in_it.0 in_it.1;
       free = λ k. ap (λ (x : Room). is_free x mark.map k) rest ∙ free_is v m mark.map (first_of v run) run.len mark.marks k ∙ ap (λ (l : List ℕ). is_free v m k && (times k l == 0)) (sym blocks);
       marks = λ k low. marks_is v m mark.map (first_of v run) run.len mark.marks k low ∙ ap (λ (l : List ℕ). cond (times k l == 0) (marked (per_block v) m k) 1) (sym blocks);
+      counted = λ count. of_told (IsCounted now) mark.map told mark.is (counted count);
     }

@@ -40,6 +40,7 @@ module _ (o : Origin) (v : Room) (m : ℕ → Option (List ℕ)) (owns : Owns o 
     were_free = λ k has none. let some : 0 < times k (whole_at o.sizes (contents m) o.id) = has in absurd (omega (arith, some, none));
     free = λ k. by_count k (times k (whole_at o.sizes (contents m) o.id)) (owns.taken k);
     marks = λ k low. same_new (times k (whole_at o.sizes (contents m) o.id) == 0) (marked (per_block v) m k);
+    counted = λ count. count;
     room = omega arith;
     others = λ k out none. refl;
     first = λ none. refl;
@@ -130,6 +131,7 @@ module _ (o : Origin) (v now later : Room) (m : ℕ → Option (List ℕ)) (fres
         (still_some (times k (whole_at o.sizes (contents m) o.id)) (times k (whole_at o.sizes (contents one.map) o.id)) (whole_grows o v now m fresh told1 c0 c1 one k))
         (still_some (times k (whole_at o.sizes (contents one.map) o.id)) (times k (whole_at o.sizes (contents two.map) o.id)) (whole_kept k))
         (one.marks k low) (now_marks k low);
+    counted = λ count. two.counted (one.counted count);
     room = room_twice (room_at o.sizes (contents m) o.id) (room_at o.sizes (contents one.map) o.id) (room_at o.sizes (contents two.map) o.id) (length fresh) (length more) (length (fresh ++ more)) one.room two.room (length-append fresh more);
     others = λ k out none. two.others k (outside_now k out) none ∙ one.others k out (frame_gone k none);
     first = λ none. two.first none ∙ one.first (frame_gone 0 none);

@@ -146,10 +146,10 @@ written_low s array a b inside h k e = by_side (h k e)
 
 -- the inode's other fields stay where nothing was written, and through two writes
 pub keeps_none : (bytes : List ℕ) → KeepsRest bytes bytes
-keeps_none bytes = (refl, refl)
+keeps_none bytes = (refl, refl, (refl, refl, refl))
 
 pub keeps_twice : (a b c : List ℕ) → KeepsRest a b → KeepsRest b c → KeepsRest a c
-keeps_twice a b c one two = (two.0 ∙ ap (λ (x : Inode). record x { stream_bytes = (inode_at c).stream_bytes }) one.0, two.1 ∙ one.1)
+keeps_twice a b c one two = (two.0 ∙ ap (λ (x : Inode). record x { stream_bytes = (inode_at c).stream_bytes }) one.0, two.1 ∙ one.1, (two.2.0 ∙ one.2.0, two.2.1 ∙ one.2.1, two.2.2 ∙ one.2.2))
 
 -- a block of the volume was set, and then blocks with bits changed
 pub set_then_bits : (s : Sizes) (v : Room) (x y : ℕ) (a b c : ℕ → Bool) → x ≡ y → y < s.blocks → ((k : ℕ) → b k ≡ with_number x a k) → ((k : ℕ) → c k ≡ true → (b k ≡ true) ⊎ IsBitmapBlock v k) → (k : ℕ) → c k ≡ true → (a k ≡ true) ⊎ (IsBitmapBlock v k ⊎ (k < s.blocks))

@@ -3,9 +3,9 @@ use Rattle.std.specs.List.{flat_map}
 use Rattle.std.specs.Prelude.{◌≡◌, ◌≤◌, ◌<◌, ◌⊎◌, ℕ, ◌+◌, ◌-◌, ◌*◌, ◌==◌, ◌&&◌, List, [], ◌++◌, length, Option, Some, Bool, true, false, slice_set, replicate, All, not, if◌then◌else◌}
 use Rattle.bfs_base.specs.Lists.{times, Has, IsOnce}
 use Rattle.bfs_bytes.specs.declared.Run.{Run}
-use Rattle.bfs_bitmap.specs.Runs.{Room, Fits, HasNoRun, per_block, is_free, marked}
+use Rattle.bfs_bitmap.specs.Runs.{Room, Fits, IsCounted, HasNoRun, per_block, is_free, marked}
 use Rattle.bfs_bitmap.specs.Fills.{IsBitmapBlock}
-use Rattle.bfs_inode.specs.Inode.{Stream, stream_at, inode_at}
+use Rattle.bfs_inode.specs.Inode.{Stream, KeepsOutside, stream_at, inode_at}
 use Rattle.bfs_txn.specs.Told.{with_block}
 use Rattle.bfs_stream.specs.Sizes.{Sizes, Origin, IsWhole, array_length, table_length}
 use Rattle.bfs_stream.specs.Places.{run_blocks, blocks_of, array_runs, used_runs, fields, level_blocks, levels_at, places_at, frame_at, whole_at, second_arrays}
@@ -33,7 +33,8 @@ pub record Owns (o : Origin) (v : Room) (hand : List ℕ) (m : ℕ → Option (L
   pub bits : (k : ℕ) → per_block v * (k - 1) < v.blocks → is_free v m k ≡ false
   pub fits : Fits v m
 
--- A run was taken: its blocks were free and are so no more, and but for bits nothing changed.
+-- A run was taken: its blocks were free and are so no more, and but for bits nothing changed; a right count of the used
+-- blocks stays right.
 pub record Took (s : Sizes) (v now : Room) (run : Run) (m : ℕ → Option (List ℕ)) (told : Option (ℕ → Option (List ℕ))) : Type 0 where
   pub map : ℕ → Option (List ℕ)
   pub is : told ≡ Some map
@@ -43,6 +44,7 @@ pub record Took (s : Sizes) (v now : Room) (run : Run) (m : ℕ → Option (List
   pub were_free : (k : ℕ) → Has (run_blocks s run) k → is_free v m k ≡ true
   pub free : (k : ℕ) → is_free now map k ≡ (is_free v m k && (times k (run_blocks s run) == 0))
   pub marks : (k : ℕ) → k < v.blocks → marked (per_block v) map k ≡ (if times k (run_blocks s run) == 0 then marked (per_block v) m k else 1)
+  pub counted : IsCounted v m → IsCounted now map
 
 -- how many blocks more the double indirect level can take: its array lists as many tables as it has places for runs, and
 -- each table as many runs
@@ -53,9 +55,12 @@ room_at s blocks id = array_length s * (table_length s * table_length s) - lengt
 abbrev pub AreWritten : Room → (ℕ → Bool) → (ℕ → Bool) → List ℕ → Type 0
 AreWritten v old new xs = (k : ℕ) → new k ≡ true → (old k ≡ true) ⊎ (IsBitmapBlock v k ⊎ Has xs k)
 
--- the fields of the inode beside its stream are the same, and so is the size in the stream
+-- the fields of the inode beside its stream are the same, and so is the size in the stream; and no byte beside the stream's
+-- has changed
 abbrev pub KeepsRest : List ℕ → List ℕ → Type 0
-KeepsRest old new = (inode_at new ≡ record (inode_at old) { stream_bytes = (inode_at new).stream_bytes }) × ((stream_at new).size ≡ (stream_at old).size)
+KeepsRest old new =
+    (inode_at new ≡ record (inode_at old) { stream_bytes = (inode_at new).stream_bytes }) × ((stream_at new).size ≡ (stream_at old).size)
+    × KeepsOutside old new
 
 -- is the number in the second list, and not in the first?
 abbrev pub is_new : List ℕ → List ℕ → ℕ → Bool
@@ -63,7 +68,8 @@ is_new before after k = (times k before == 0) && not (times k after == 0)
 
 -- The stream has grown by fresh blocks: what it has now and had not was free, and its bit is set; no other bit changed;
 -- what is free now was free and is not in it; the room of the double indirect level fell by no more; but for its inode,
--- its arrays and bits nothing changed; and of the inode the ranges and runs alone.
+-- its arrays and bits nothing changed; of the inode the ranges and runs alone; and a right count of the used blocks stays
+-- right.
 pub record Grown (o : Origin) (v now : Room) (m : ℕ → Option (List ℕ)) (fresh : List ℕ) (told : Option (ℕ → Option (List ℕ))) (old new : ℕ → Bool) : Type 0 where
   pub map : ℕ → Option (List ℕ)
   pub is : told ≡ Some map
@@ -73,6 +79,7 @@ pub record Grown (o : Origin) (v now : Room) (m : ℕ → Option (List ℕ)) (fr
   pub were_free : (k : ℕ) → Has (whole_at o.sizes (contents map) o.id) k → times k (whole_at o.sizes (contents m) o.id) ≡ 0 → is_free v m k ≡ true
   pub free : (k : ℕ) → is_free now map k ≡ (is_free v m k && (times k (whole_at o.sizes (contents map) o.id) == 0))
   pub marks : (k : ℕ) → k < v.blocks → marked (per_block v) map k ≡ (if is_new (whole_at o.sizes (contents m) o.id) (whole_at o.sizes (contents map) o.id) k then 1 else marked (per_block v) m k)
+  pub counted : IsCounted v m → IsCounted now map
   pub room : room_at o.sizes (contents m) o.id ≤ room_at o.sizes (contents map) o.id + length fresh
   pub others : (k : ℕ) → IsOutside v k → times k (frame_at o.sizes (contents map) o.id) ≡ 0 → map k ≡ m k
   pub first : times 0 (frame_at o.sizes (contents map) o.id) ≡ 0 → map 0 ≡ m 0

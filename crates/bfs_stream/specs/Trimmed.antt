@@ -1,14 +1,19 @@
 -- How a stream is cut.
 use Rattle.std.specs.Prelude.{◌≡◌, ◌≤◌, ◌<◌, ◌⊎◌, ℕ, ◌+◌, ◌-◌, ◌*◌, ◌==◌, ◌||◌, List, [], ◌∷◌, ◌++◌, length, Option, Some, Bool, true, not, if◌then◌else◌}
-use Rattle.bfs_base.specs.Lists.{times, Has}
+use Rattle.bfs_base.specs.Lists.{times, Has, IsOnce}
 use Rattle.bfs_super.specs.Conditions.{natural}
-use Rattle.bfs_bitmap.specs.Runs.{Room, Fits, per_block, is_free, is_reserved, marked}
+use Rattle.bfs_bitmap.specs.Runs.{Room, Fits, IsCounted, per_block, is_free, is_reserved, marked}
 use Rattle.bfs_stream.specs.Sizes.{Origin, array_length, table_length}
 use Rattle.bfs_stream.specs.Places.{Levels, used_runs, level_blocks, fields, second_arrays, levels_at, places_at, frame_at, whole_at}
 use Rattle.bfs_stream.specs.Told.{contents}
 use Rattle.bfs_stream.specs.Grown.{IsOutside, Owns, AreWritten, KeepsRest, UsesDouble, is_new}
 
--- Blocks were given back: their bits are clear and they are reserved, and but for bits nothing changed.
+-- each of these blocks that the volume has is marked as used
+abbrev pub AreMarked : Room → List ℕ → (ℕ → Option (List ℕ)) → Type 0
+AreMarked v xs m = (k : ℕ) → k < v.blocks → Has xs k → marked (per_block v) m k ≡ 1
+
+-- Blocks were given back: their bits are clear and they are reserved, and but for bits nothing changed; where each was given
+-- back once and was used, a right count of the used blocks stays right.
 pub record Gave (v now : Room) (xs : List ℕ) (m : ℕ → Option (List ℕ)) (told : Option (ℕ → Option (List ℕ))) : Type 0 where
   pub map : ℕ → Option (List ℕ)
   pub is : told ≡ Some map
@@ -17,10 +22,12 @@ pub record Gave (v now : Room) (xs : List ℕ) (m : ℕ → Option (List ℕ)) (
   pub first : map 0 ≡ m 0
   pub reserved : (k : ℕ) → is_reserved now.given k ≡ (is_reserved v.given k || not (times k xs == 0))
   pub marks : (k : ℕ) → k < v.blocks → marked (per_block v) map k ≡ (if times k xs == 0 then marked (per_block v) m k else 0)
+  pub counted : IsOnce xs → AreMarked v xs m → IsCounted v m → IsCounted now map
 
 -- The stream has been cut: these blocks at its end are in it no more. It has no block that it had not; what was its and is
 -- so no more has no bit set and is reserved; no other bit changed, and nothing else is reserved; the same blocks are free; but
--- for bits nothing changed that isn't its inode or an array which it has still; and of the inode the ranges and runs alone.
+-- for bits nothing changed that isn't its inode or an array which it has still; of the inode the ranges and runs alone; and
+-- where its blocks were used, a right count of the used blocks stays right.
 pub record Trimmed (o : Origin) (v now : Room) (m : ℕ → Option (List ℕ)) (gone : List ℕ) (told : Option (ℕ → Option (List ℕ))) (old new : ℕ → Bool) : Type 0 where
   pub map : ℕ → Option (List ℕ)
   pub is : told ≡ Some map
@@ -30,6 +37,7 @@ pub record Trimmed (o : Origin) (v now : Room) (m : ℕ → Option (List ℕ)) (
   pub fewer : (k : ℕ) → times k (whole_at o.sizes (contents map) o.id) ≤ times k (whole_at o.sizes (contents m) o.id)
   pub reserved : (k : ℕ) → is_reserved now.given k ≡ (is_reserved v.given k || is_new (whole_at o.sizes (contents map) o.id) (whole_at o.sizes (contents m) o.id) k)
   pub marks : (k : ℕ) → k < v.blocks → marked (per_block v) map k ≡ (if is_new (whole_at o.sizes (contents map) o.id) (whole_at o.sizes (contents m) o.id) k then 0 else marked (per_block v) m k)
+  pub counted : AreMarked v (whole_at o.sizes (contents m) o.id) m → IsCounted v m → IsCounted now map
   pub free : (k : ℕ) → is_free now map k ≡ is_free v m k
   pub touched : List ℕ
   pub still : (k : ℕ) → Has touched k → Has (frame_at o.sizes (contents map) o.id) k

@@ -24,7 +24,7 @@ use Rattle.bfs_stream.proofs.Writes.{wrote_none, wrote_left, wrote_more, wrote_t
 use Rattle.bfs_stream_pages.specs.Held.{Held}
 use Rattle.bfs_stream_pages.specs.Moves.{KeepsInode}
 use Rattle.bfs_stream_pages.specs.Steps.{HasRoom, IsToldWhole, IsUndamaged, all_of}
-use Rattle.bfs_stream_pages.specs.MovesLaws.{with_size, moved_none, moved_grown, moved_rewritten, moved_twice, owns_now, places_same, whole_same}
+use Rattle.bfs_stream_pages.specs.MovesLaws.{with_size, keeps_inode_none, moved_none, moved_grown, moved_rewritten, moved_twice, owns_now, places_same, whole_same}
 use Rattle.bfs_stream_pages.specs.GoesLaws.{long_fits}
 
 got_inside : (xs : List ℕ) (i n : ℕ) → slice_get xs i ≡ Some n → i < length xs
@@ -127,7 +127,7 @@ module _ (o : Origin) (v now : Room) (long : ℕ) (m : ℕ → Option (List ℕ)
         by_frame (suc j) e = filled.kept k (grown.grown.2.owns.stands.told k (let p : 0 < times k (frame_at o.sizes (contents grown.grown.2.map) o.id) = omega (arith, e) in p))
 
     kept : KeepsInode (contents grown.grown.2.map o.id) (contents filled.map o.id)
-    kept = let e = agree_frame o.id (has_first o.id (arrays_at o.sizes (contents grown.grown.2.map) o.id)) in subst (KeepsInode (contents grown.grown.2.map o.id)) (sym e) refl
+    kept = let e = agree_frame o.id (has_first o.id (arrays_at o.sizes (contents grown.grown.2.map) o.id)) in subst (KeepsInode (contents grown.grown.2.map o.id)) (sym e) (keeps_inode_none (contents grown.grown.2.map o.id))
 
     low_size : pos 0 ≤ℤ pos long
     low_size = omega (arith, ints)

@@ -21,7 +21,7 @@ use Rattle.bfs_stream_pages.specs.Moves.{KeepsInode}
 use Rattle.bfs_stream_pages.specs.Steps.{Comes, HasWritten, HasSize}
 use Rattle.bfs_stream_pages.specs.BytesLaws.{write_of}
 use Rattle.bfs_stream_pages.specs.GoesLaws.{are_blocks}
-use Rattle.bfs_stream_pages.specs.MovesLaws.{with_size, places_same, whole_same, owns_now, moved_rewritten}
+use Rattle.bfs_stream_pages.specs.MovesLaws.{with_size, keeps_inode_none, places_same, whole_same, owns_now, moved_rewritten}
 
 pub is_equal : (k n : ℕ) → (k == n) ≡ true → k ≡ n
 is_equal k n e = grind (arith, e)
@@ -130,7 +130,7 @@ module _ (o : Origin) (v : Room) (long : ℕ) (m : ℕ → Option (List ℕ)) (h
   levels = levels_same (contents m) (contents (with_block n bytes m)) o.sizes o.id agree ∙ ap (λ (z : ℤ). with_size (levels_at o.sizes (contents m) o.id) z) held.size
 
   kept : KeepsInode (contents m o.id) (contents (with_block n bytes m) o.id)
-  kept = let e = agree o.id (has_first o.id (arrays_at o.sizes (contents m) o.id)) in subst (KeepsInode (contents m o.id)) (sym e) refl
+  kept = let e = agree o.id (has_first o.id (arrays_at o.sizes (contents m) o.id)) in subst (KeepsInode (contents m o.id)) (sym e) (keeps_inode_none (contents m o.id))
 
   fits : long ≤ o.sizes.block_size * length (places_at o.sizes (contents m) o.id)
   fits = let h = held.owns.stands.sound.size_high in subst (λ (z : ℤ). natural z ≤ o.sizes.block_size * length (places_at o.sizes (contents m) o.id)) held.size h

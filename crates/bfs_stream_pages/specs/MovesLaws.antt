@@ -12,7 +12,7 @@ use Rattle.bfs_stream.specs.Told.{contents, AreTold}
 use Rattle.bfs_stream.specs.Grown.{Owns, Grown, IsOutside}
 use Rattle.bfs_stream.proofs.Doubles.{times-append}
 use Rattle.bfs_stream.proofs.Taking.{some_test}
-use Rattle.bfs_stream.proofs.Finish.{free_same, marked_same, fits_same}
+use Rattle.bfs_stream.proofs.Finish.{free_same, marked_same, fits_same, counted_same}
 use Rattle.bfs_stream_pages.specs.Moves.{Moved, KeepsInode}
 
 both_free : (b : Bool) (x y : ℕ) → (0 < x → 0 < y) → ((b && (x == 0)) && (y == 0)) ≡ (b && (y == 0))
@@ -49,6 +49,13 @@ none_taken true zero taken = refl
 none_taken false zero taken = refl
 none_taken b (suc n) taken = let used = taken (omega arith) in used ∙ ap (λ (c : Bool). c && (suc n == 0)) (sym used)
 
+-- an inode keeps what stands beside its stream where nothing is written, and through two changes
+pub keeps_inode_none : (bytes : List ℕ) → KeepsInode bytes bytes
+keeps_inode_none bytes = (refl, (refl, refl, refl))
+
+keeps_inode_twice : (a b c : List ℕ) → KeepsInode a b → KeepsInode b c → KeepsInode a c
+keeps_inode_twice a b c one two = (two.0 ∙ ap (λ (x : Inode). record x { stream_bytes = (inode_at c).stream_bytes }) one.0, (two.1.0 ∙ one.1.0, two.1.1 ∙ one.1.1, two.1.2 ∙ one.1.2))
+
 -- a stream that grows only moves on
 pub moved_grown : (o : Origin) (v now : Room) (m : ℕ → Option (List ℕ)) (fresh : List ℕ) (told : Option (ℕ → Option (List ℕ))) (old new : ℕ → Bool) (g : Grown o v now m fresh told old new) → now ≡ record v { tally = now.tally } → Moved o v now m g.map
 moved_grown o v now m fresh told old new g rest = record {
@@ -60,9 +67,10 @@ moved_grown o v now m fresh told old new g rest = record {
   were_free = g.were_free;
   free = g.free;
   marks = g.marks;
+  counted = g.counted;
   others = λ k out none. g.others k out (let parts = times-append k (frame_at o.sizes (contents g.map) o.id) (places_at o.sizes (contents g.map) o.id) in omega (arith, none, parts));
   first = λ none. g.first (let parts = times-append 0 (frame_at o.sizes (contents g.map) o.id) (places_at o.sizes (contents g.map) o.id) in omega (arith, none, parts));
-  kept = g.kept.0;
+  kept = (g.kept.0, g.kept.2);
 }
 
 -- nothing has moved
@@ -76,9 +84,10 @@ moved_none o v m owns = record {
   were_free = λ k has none. let some : 0 < times k (whole_at o.sizes (contents m) o.id) = has in absurd (omega (arith, some, none));
   free = λ k. none_taken (is_free v m k) (times k (whole_at o.sizes (contents m) o.id)) (owns.taken k);
   marks = λ k low. same_new (times k (whole_at o.sizes (contents m) o.id) == 0) (marked (per_block v) m k);
+  counted = λ count. count;
   others = λ k out none. refl;
   first = λ none. refl;
-  kept = refl;
+  kept = keeps_inode_none (contents m o.id);
 }
 
 -- what was the stream's still is
@@ -140,9 +149,10 @@ module _ (o : Origin) (v now later : Room) (m mid map : ℕ → Option (List ℕ
         (still_some (times k (whole_at o.sizes (contents m) o.id)) (times k (whole_at o.sizes (contents mid) o.id)) (whole_moves o v now m mid one k))
         (still_some (times k (whole_at o.sizes (contents mid) o.id)) (times k (whole_at o.sizes (contents map) o.id)) (whole_kept k))
         (one.marks k low) (now_marks k low);
+    counted = λ count. two.counted (one.counted count);
     others = λ k out none. two.others k (outside_now k out) none ∙ one.others k out (none_before k none);
     first = λ none. two.first none ∙ one.first (none_before 0 none);
-    kept = two.kept ∙ ap (λ (x : Inode). record x { stream_bytes = (inode_at (contents map o.id)).stream_bytes }) one.kept;
+    kept = keeps_inode_twice (contents m o.id) (contents mid o.id) (contents map o.id) one.kept two.kept;
   }
 
 -- the levels with another size
@@ -222,6 +232,7 @@ module _ (o : Origin) (v : Room) (m map : ℕ → Option (List ℕ)) (owns : Own
     marks = λ k low.
         marked_same v m map stay k low ∙ same_new (times k (whole_at s (contents m) o.id) == 0) (marked (per_block v) m k)
         ∙ ap (λ (l : List ℕ). cond ((times k (whole_at s (contents m) o.id) == 0) && not (times k l == 0)) 1 (marked (per_block v) m k)) (sym whole_same);
+    counted = λ count. counted_same v m map (λ k low. marked_same v m map stay k low) count;
     others = λ k out none. same k (ap (times k) (sym whole_same) ∙ none);
     first = λ none. same 0 (ap (times 0) (sym whole_same) ∙ none);
     kept = kept;

@@ -1,8 +1,9 @@
 use Rattle.std.proofs.Common.{◌≡◌, ◌<◌, ◌∙◌, ap, map, filter, sym, subst, List, refl, not}
 use Rattle.bfs_bitmap.specs.declared.given.Given.{Given}
 use Rattle.bfs_bitmap.specs.Givens.{numbered, is_left}
-use Rattle.bfs_bitmap.specs.Runs.{Room, is_reserved}
+use Rattle.bfs_bitmap.specs.Runs.{Room, AreKeptFirst, is_reserved}
 use Rattle.bfs_bitmap.proofs.Back.{fits_numbered, settled_numbered, AreAll, LiesIn, IsClosedBy, all_map, closed_numbered, all_leave, reserved-map}
+use Rattle.bfs_bitmap.proofs.Settled.{first_map}
 use Rattle.bfs_bitmap.proofs.bitmap.Bitmap.close_group.Goals as goal
 
 pub invariant_of-self : goal.invariant_of-self
@@ -16,6 +17,7 @@ invariant_of-self c = record {
   tally_kept = c.self.invariant.tally_kept;
   given = subst (AreAll (LiesIn c.self.inside.blocks)) (sym c.number_all.ensures) (all_map (LiesIn c.self.inside.blocks) (LiesIn c.self.inside.blocks) (numbered c.args.group) c.self.inside.given.items (λ g h. h) c.self.invariant.given);
   closed = subst (AreAll (IsClosedBy c.args.group)) (sym c.number_all.ensures) (all_map (IsClosedBy c.self.inside.last) (IsClosedBy c.args.group) (numbered c.args.group) c.self.inside.given.items (closed_numbered c.self.inside.last c.args.group (subst (λ (v : Room). v.last < c.args.group) (sym c.self.view_is) c.requires)) c.self.invariant.closed);
+  kept = subst AreKeptFirst (sym c.number_all.ensures) (first_map (numbered c.args.group) c.self.inside.given.items (λ g. refl) c.self.invariant.kept);
 }
 
 pub returns-clause-leaves : goal.returns-clause-leaves

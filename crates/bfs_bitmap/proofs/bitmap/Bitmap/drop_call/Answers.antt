@@ -1,7 +1,8 @@
 use Rattle.std.proofs.Common.{◌≡◌, ◌∙◌, ap, sym, subst, List, true}
 use Rattle.bfs_bitmap.specs.declared.given.Given.{Given}
-use Rattle.bfs_bitmap.specs.Runs.{Room, as_kept, is_reserved}
+use Rattle.bfs_bitmap.specs.Runs.{Room, AreKeptFirst, as_kept, is_reserved}
 use Rattle.bfs_bitmap.proofs.Back.{settled_dropped, AreAll, LiesIn, IsClosedBy, all_filter, reserved_filter}
+use Rattle.bfs_bitmap.proofs.Settled.{first_filter}
 use Rattle.bfs_bitmap.proofs.bitmap.Bitmap.drop_call.Goals as goal
 
 pub invariant_of-self : goal.invariant_of-self
@@ -15,6 +16,7 @@ invariant_of-self c = record {
   tally_kept = c.self.invariant.tally_kept;
   given = subst (AreAll (LiesIn c.self.inside.blocks)) (sym c.drop_unsettled.ensures) (all_filter (LiesIn c.self.inside.blocks) (λ g. g.kept) c.self.inside.given.items c.self.invariant.given);
   closed = subst (AreAll (IsClosedBy c.self.inside.last)) (sym c.drop_unsettled.ensures) (all_filter (IsClosedBy c.self.inside.last) (λ g. g.kept) c.self.inside.given.items c.self.invariant.closed);
+  kept = subst AreKeptFirst (sym c.drop_unsettled.ensures) (first_filter (λ g. g.kept) c.self.inside.given.items c.self.invariant.kept);
 }
 
 pub returns-clause-reserved : goal.returns-clause-reserved

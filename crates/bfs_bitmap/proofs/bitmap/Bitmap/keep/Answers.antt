@@ -1,8 +1,9 @@
 use Rattle.std.proofs.Common.{◌≡◌, ◌∙◌, ap, map, sym, subst, List, refl}
 use Rattle.bfs_bitmap.specs.declared.given.Given.{Given}
 use Rattle.bfs_bitmap.specs.Givens.{settled}
-use Rattle.bfs_bitmap.specs.Runs.{Room, is_reserved}
+use Rattle.bfs_bitmap.specs.Runs.{Room, AreKeptFirst, is_reserved}
 use Rattle.bfs_bitmap.proofs.Back.{fits_kept, settled_kept, AreAll, LiesIn, IsClosedBy, all_map, reserved-map}
+use Rattle.bfs_bitmap.proofs.Settled.{first_settled}
 use Rattle.bfs_bitmap.proofs.bitmap.Bitmap.keep.Goals as goal
 
 pub invariant_of-self : goal.invariant_of-self
@@ -16,6 +17,7 @@ invariant_of-self c = record {
   tally_kept = c.self.invariant.tally;
   given = subst (AreAll (LiesIn c.self.inside.blocks)) (sym c.settle_all.ensures) (all_map (LiesIn c.self.inside.blocks) (LiesIn c.self.inside.blocks) settled c.self.inside.given.items (λ g h. h) c.self.invariant.given);
   closed = subst (AreAll (IsClosedBy c.self.inside.last)) (sym c.settle_all.ensures) (all_map (IsClosedBy c.self.inside.last) (IsClosedBy c.self.inside.last) settled c.self.inside.given.items (λ g h. h) c.self.invariant.closed);
+  kept = subst AreKeptFirst (sym c.settle_all.ensures) (first_settled c.self.inside.given.items);
 }
 
 pub returns-clause-reserved : goal.returns-clause-reserved

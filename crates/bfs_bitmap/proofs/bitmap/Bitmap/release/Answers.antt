@@ -3,8 +3,9 @@ use Rattle.bfs_bitmap.specs.declared.given.Given.{Given}
 use Rattle.bfs_bitmap.specs.declared.tally.Tally.{Tally}
 use Rattle.bfs_bitmap.specs.Givens.{is_left}
 use Rattle.bfs_bitmap.specs.Tallies.{IsWithin, lowered_by}
-use Rattle.bfs_bitmap.specs.Runs.{Room, is_reserved}
+use Rattle.bfs_bitmap.specs.Runs.{Room, AreKeptFirst, is_reserved}
 use Rattle.bfs_bitmap.proofs.Back.{fits_left, settled_left, lowered_within, AreAll, LiesIn, IsClosedBy, all_filter, reserved_filter}
+use Rattle.bfs_bitmap.proofs.Settled.{first_filter}
 use Rattle.bfs_bitmap.proofs.bitmap.Bitmap.release.Goals as goal
 use Rattle.bfs_bitmap.proofs.bitmap.Bitmap.release.Goals.{After-drop_left}
 
@@ -39,6 +40,7 @@ invariant_of-self c = record {
   tally_kept = subst (IsWithin c.self.inside.blocks) (sym (kept_is c)) (lowered_within c.self.inside.blocks c.args.group c.self.inside.given.items c.self.inside.tally_kept c.self.invariant.tally_kept);
   given = subst (AreAll (LiesIn c.self.inside.blocks)) (sym c.drop_left.ensures) (all_filter (LiesIn c.self.inside.blocks) (λ g. not (is_left c.args.group g)) c.self.inside.given.items c.self.invariant.given);
   closed = subst (AreAll (IsClosedBy c.self.inside.last)) (sym c.drop_left.ensures) (all_filter (IsClosedBy c.self.inside.last) (λ g. not (is_left c.args.group g)) c.self.inside.given.items c.self.invariant.closed);
+  kept = subst AreKeptFirst (sym c.drop_left.ensures) (first_filter (λ g. not (is_left c.args.group g)) c.self.inside.given.items c.self.invariant.kept);
 }
 
 pub returns-clause-reserved : goal.returns-clause-reserved

@@ -20,5 +20,5 @@ returns-else-place-lt12 c =
         max_double_indirect_range = signed64_at bytes 200;
         size = signed64_at bytes 208;
       };
-      rest = (refl, refl);
+      rest = (refl, refl, (refl, refl, refl));
     }

@@ -5,11 +5,11 @@ use Rattle.bfs_txn.specs.declared.fault.BlockFault.{BlockFault}
 use Rattle.bfs_stream.proofs.Giving.{gave_is}
 use Rattle.bfs_stream.proofs.stream.Stream.give.Goals as goal
 
-both : {P Q S : Type 0} (r : Result (Unit {0}) BlockFault) → OnOk r P → OnOk r Q → (P → Q → S) → OnOk r S
-both (Ok x) p q f = f p q
-both (Err x) p q f = p
+all : {P Q A B T S : Type 0} (r : Result (Unit {0}) BlockFault) → OnOk r P → OnOk r Q → (A → B → OnOk r T) → (P → Q → (A → B → T) → S) → OnOk r S
+all (Ok x) p q t f = f p q t
+all (Err x) p q t f = p
 
 pub returns-clause-gave : goal.returns-clause-gave
 returns-clause-gave g c m is fits =
-    both c.give_back.result c.give_back.ensures.given (c.give_back.ensures.marked m is fits)
-    (λ given mark. gave_is c.args.self.now.sizes c.args.bitmap.now c.give_back.new.self c.args.run m (g.E.Blocks.told c.give_back.new.edits) c.requires.volume (ap (λ (v : Room). v.given) given) mark)
+    all c.give_back.result c.give_back.ensures.given (c.give_back.ensures.marked m is fits) (c.give_back.ensures.counted m is fits.has)
+    (λ given mark counted. gave_is c.args.self.now.sizes c.args.bitmap.now c.give_back.new.self c.args.run m (g.E.Blocks.told c.give_back.new.edits) c.requires.volume (ap (λ (v : Room). v.given) given) mark c.requires.inside counted)

@@ -1,0 +1,9 @@
+pub mod Files
+pub mod Bits
+pub mod Taken
+pub mod Restamped
+pub mod Streamed
+pub mod Named
+pub mod Listed
+pub mod Found
+pub mod Ends

@@ -1,0 +1,52 @@
+-- How the steps of a call are put together, where a call begins, and what is known at its end.
+use Rattle.std.specs.Prelude.{◌≡◌, ◌⊎◌, ◌↔◌, ℕ, List, [], ◌++◌, length, Bool, true, Option, IsSome}
+use Rattle.std.specs.FinMap.{empty}
+use Rattle.bfs_base.specs.Lists.{times}
+use Rattle.bfs_super.specs.declared.geometry.Geometry.{Geometry}
+use Rattle.bfs_bitmap.specs.Runs.{Room, Fits, IsCounted}
+use Rattle.bfs_stream.specs.Told.{contents}
+use Rattle.bfs_stream.specs.Grown.{IsOfVolume}
+use Rattle.bfs_tree.specs.Trees.{Tree, IsPlain}
+use Rattle.bfs_sound.specs.Volumes.{sizes, IsMarked}
+use Rattle.bfs_sound.specs.Owners.{fixed_blocks, reach, IsMetadata}
+use Rattle.bfs_sound.specs.Whole.{IsSound}
+use Rattle.bfs_sound.specs.Laws.{changed}
+use Rattle.bfs_shift.specs.Lists.{Lists, Agrees}
+use Rattle.bfs_shift.specs.Laws.{lists_of}
+use Rattle.bfs_shift.specs.Shifts.{volume_in}
+use Rattle.bfs_moves.specs.Work.{IsAtWork, GoesOn}
+
+-- nothing was done, and two steps were
+abbrev pub GoesOnSame : Type 0
+GoesOnSame = (g : Geometry) (v : Room) (m : ℕ → Option (List ℕ)) (tree : Tree) (old : ℕ → Bool) → GoesOn g v v m m tree tree old old
+
+abbrev pub GoesOnTwice : Type 0
+GoesOnTwice = (g : Geometry) (v now later : Room) (m mid map : ℕ → Option (List ℕ)) (tree between after : Tree) (old new last : ℕ → Bool)
+    → GoesOn g v now m mid tree between old new → GoesOn g now later mid map between after new last → GoesOn g v later m map tree after old last
+
+-- A call begins on a sound volume, where the bitmap is that of the volume, and metadata is told.
+abbrev pub WorkBegins : Type 0
+WorkBegins = (g : Geometry) (v : Room) (m : ℕ → Option (List ℕ)) (tree : Tree) → IsOfVolume (sizes g) v → Fits v m → IsSound (volume_in g m) tree
+    → ((k : ℕ) → IsMetadata (volume_in g m) tree k → times k (fixed_blocks (volume_in g m)) ≡ 0 → IsSome (m k))
+    → IsAtWork g v m tree (lists_of (volume_in g m) tree) [] × Agrees tree (lists_of (volume_in g m) tree)
+
+-- A call has ended on a volume with nothing loose: each block that was marked is, and is metadata just where it was; what was changed
+-- is metadata.
+pub record IsCallKept (g : Geometry) (m map : ℕ → Option (List ℕ)) (tree after : Tree) (old new : ℕ → Bool) : Type 0 where
+  pub marked : (k : ℕ) → IsMarked (volume_in g m) k → IsMarked (volume_in g map) k
+  pub metadata : (k : ℕ) → IsMarked (volume_in g m) k → IsMetadata (volume_in g m) tree k ↔ IsMetadata (volume_in g map) after k
+  pub changed : (k : ℕ) → new k ≡ true → (old k ≡ true) ⊎ IsMetadata (volume_in g map) after k
+
+abbrev pub CallIsKept : Type 0
+CallIsKept = (g : Geometry) (v now : Room) (m map : ℕ → Option (List ℕ)) (tree after : Tree) (before lists : Lists) (old new : ℕ → Bool)
+    → IsAtWork g v m tree before [] → IsAtWork g now map after lists [] → GoesOn g v now m map tree after old new → IsCallKept g m map tree after old new
+
+-- The used blocks that the bitmap counts are what is reached, with the loose blocks.
+abbrev pub UsedIsReach : Type 0
+UsedIsReach = (g : Geometry) (v : Room) (m : ℕ → Option (List ℕ)) (tree : Tree) (lists : Lists) (loose : List ℕ) → IsAtWork g v m tree lists loose → IsCounted v m
+    → v.tally.used ≡ length (reach (volume_in g m) tree ++ loose)
+
+-- A call ends on a sound volume, whose count of used blocks is the bitmap's.
+abbrev pub WorkEnds : Type 0
+WorkEnds = (g : Geometry) (v : Room) (m : ℕ → Option (List ℕ)) (tree : Tree) (lists : Lists) → IsAtWork g v m tree lists [] → IsCounted v m → Agrees tree lists → IsPlain tree
+    → tree.root ≡ g.root → (tree.indices ≡ empty → g.indices ≡ 0) → IsSound (changed (volume_in g m) (contents m) v.tally.used) tree

@@ -1,0 +1,43 @@
+-- A volume at work: what a call knows of it between two of its steps, and what the steps so far have kept.
+use Rattle.std.specs.Prelude.{◌≡◌, ◌⊎◌, ℕ, List, Option, Some, Bool, true, IsSome}
+use Rattle.bfs_base.specs.Lists.{times, Has, AreSame}
+use Rattle.bfs_super.specs.declared.geometry.Geometry.{Geometry}
+use Rattle.bfs_bitmap.specs.Runs.{Room, Fits}
+use Rattle.bfs_stream.specs.Told.{contents}
+use Rattle.bfs_stream.specs.Grown.{IsOfVolume}
+use Rattle.bfs_tree.specs.Trees.{Node, Tree, IsNode, is_file}
+use Rattle.bfs_sound.specs.Volumes.{sizes, IsMarked}
+use Rattle.bfs_sound.specs.Inodes.{stream_blocks}
+use Rattle.bfs_sound.specs.Owners.{fixed_blocks, file_data, IsMetadata}
+use Rattle.bfs_shift.specs.Lists.{Lists}
+use Rattle.bfs_shift.specs.Stocked.{Stocked}
+use Rattle.bfs_shift.specs.Shifts.{volume_in}
+
+-- The volume that a told map is, with its bitmap, stands for a tree but for what is listed, with some loose blocks: it is stocked;
+-- the bitmap is that of the volume; and told is each metadata block of the tree, but block 0 and those of the log. Nothing is asked
+-- of the bytes of files, of loose blocks, and of free and reserved ones.
+pub record IsAtWork (g : Geometry) (v : Room) (m : ℕ → Option (List ℕ)) (tree : Tree) (lists : Lists) (loose : List ℕ) : Type 0 where
+  pub volume : IsOfVolume (sizes g) v
+  pub fits : Fits v m
+  pub stocked : Stocked (volume_in g m) tree lists loose
+  pub told : (k : ℕ) → IsMetadata (volume_in g m) tree k → times k (fixed_blocks (volume_in g m)) ≡ 0 → IsSome (m k)
+
+-- What steps that give nothing back have kept of a volume and of its tree, and what they have changed. The bitmap's view is the same
+-- but for its tally. What was marked is. Each file is the same node on the same blocks, no other block is file data, and no file data was
+-- written. What was changed is marked and no file data: where no block is loose, that is metadata.
+pub record GoesOn (g : Geometry) (v now : Room) (m map : ℕ → Option (List ℕ)) (tree after : Tree) (old new : ℕ → Bool) : Type 0 where
+  pub rest : now ≡ record v { tally = now.tally }
+  pub marked : (k : ℕ) → IsMarked (volume_in g m) k → IsMarked (volume_in g map) k
+  pub files : (id : ℕ) (n : Node) → IsNode tree id n → is_file n.kind ≡ true
+      → IsNode after id n × (stream_blocks (volume_in g map) id ≡ stream_blocks (volume_in g m) id)
+  pub same_data : AreSame (file_data (volume_in g m) tree) (file_data (volume_in g map) after)
+  pub bytes : (k : ℕ) → Has (file_data (volume_in g m) tree) k → contents map k ≡ contents m k
+  pub written : (k : ℕ) → new k ≡ true
+      → (old k ≡ true) ⊎ (IsMarked (volume_in g map) k × (times k (file_data (volume_in g map) after) ≡ 0))
+
+-- A step was made: what is told now is at work with this tree, these lists and these loose blocks, and goes on from what was told.
+pub record IsStepped (g : Geometry) (v now : Room) (m : ℕ → Option (List ℕ)) (tree after : Tree) (lists : Lists) (loose : List ℕ) (told : Option (ℕ → Option (List ℕ))) (old new : ℕ → Bool) : Type 0 where
+  pub map : ℕ → Option (List ℕ)
+  pub is : told ≡ Some map
+  pub work : IsAtWork g now map after lists loose
+  pub goes_on : GoesOn g v now m map tree after old new

@@ -1,0 +1,18 @@
+// What a call of a space does to a volume, step by step: each step is a function over blocks that can be changed, whose contract
+// speaks of the volume within the call (specs/Work.antt) and of nothing below it.
+#![tactic(auto)]
+
+mod find;
+mod inode;
+mod laws;
+mod pairs;
+mod rows;
+mod stamp;
+mod take;
+
+pub use find::find_index;
+pub use laws::{call_is_kept, goes_on_same, goes_on_twice, used_is_reach, work_begins, work_ends};
+pub use pairs::{list_pair, unlist_pair};
+pub use rows::put_name;
+pub use stamp::stamp_directory;
+pub use take::take_block;

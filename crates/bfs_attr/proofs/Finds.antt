@@ -31,14 +31,14 @@ use Rattle.bfs_attr.specs.SmallData.{attribute_in}
 use Rattle.bfs_attr.specs.declared.directory.InodeRow.{InodeRow}
 
 -- the order's test of two names is that of their bytes
-same_test : (name other : List ℕ) → eq_by_cmp text_cmp name other ≡ bytes_eq other name
+pub same_test : (name other : List ℕ) → eq_by_cmp text_cmp name other ≡ bytes_eq other name
 same_test name other = (eq_by_cmp_equiv nat_list_cmp_total).symm name other ∙ is_eq-slice_cmp other name
 
 -- an item as an attribute with its name
-abbrev entry : Item → Named
+abbrev pub entry : Item → Named
 entry item = (item.name, record { code = item.kind; bytes = item.bytes })
 
-no_more : (name : List ℕ) (items : List Item) → count_by (λ item. bytes_eq item.name name) items ≤ 0 → named name items ≡ None
+pub no_more : (name : List ℕ) (items : List Item) → count_by (λ item. bytes_eq item.name name) items ≤ 0 → named name items ≡ None
 no_more name [] few = refl
 no_more name (x ∷ xs) few = by_test (bytes_eq x.name name) (subst (λ (k : ℕ). k ≤ 0) (sum_by-cons (λ (i : Item). cond (bytes_eq i.name name) 1 0) x xs) few) (no_more name xs)
   where

@@ -4,3 +4,14 @@ pub mod Pieces
 pub mod Finds
 pub mod Listed
 pub mod Tops
+pub mod Changes
+pub mod Fronts
+pub mod Apart
+pub mod Stays
+pub mod Puts
+pub mod Zeros
+pub mod News
+pub mod Chunks
+pub mod Stored
+pub mod Grows
+pub mod Owned

@@ -1,6 +1,6 @@
 -- An item that was looked for by its name.
-use Rattle.std.proofs.Common.{◌≡◌, ⊎_elim, ℕ, List, [], ◌∷◌, Option, Some, None, refl, sym, ◌∙◌, ap}
-use Rattle.std.specs.Prelude.{IsSome}
+use Rattle.std.proofs.Common.{◌≡◌, ⊎_elim, ℕ, List, [], ◌∷◌, Bool, true, false, not, Option, Some, None, refl, sym, ◌∙◌, ap, subst}
+use Rattle.std.specs.Prelude.{IsSome, IfSome, IsTrue}
 use Rattle.std.specs.Option.{option_and_then}
 use Rattle.std.specs.Str.{bytes_eq}
 use Rattle.std.proofs.lemmas.Bool.{cases_Bool, cond-true, cond-false}
@@ -8,6 +8,8 @@ use Rattle.std.proofs.lemmas.Slice.Eq.{bytes_eq-Decides}
 use Rattle.bfs_smalldata.specs.Items.{Item, items_of}
 use Rattle.bfs_smalldata.specs.Edits.{named, Finds, IsPlaceOf}
 use Rattle.bfs_smalldata.specs.declared.item.Item as found
+use Rattle.bfs_sound.specs.Attributes.{is_name_item}
+use Rattle.bfs_attr.specs.SmallData.{HasAttribute, HasSmall}
 
 -- an item that is found by a name has it
 pub named_has : (name : List ℕ) (items : List Item) (item : Item) → named name items ≡ Some item → item.name ≡ name
@@ -44,3 +46,15 @@ found_item area name place part some finds bytes = in_items (items_of area) refl
     in_items : (o : Option (List Item)) → items_of area ≡ o → IsSome o → Finds area (option_and_then (named name) o) (Some place) → IsFound area name place.kind part
     in_items None e some finds = cc
     in_items (Some items) e some finds = in_found items e (named name items) refl finds
+
+-- an item that was found is an attribute, or a node's own name
+pub is_attribute : (r : Bool) (area name : List ℕ) (items : List Item) (item : Item) → items_of area ≡ Some items → named name items ≡ Some item → r ≡ is_name_item item → (IsTrue (not r) → HasSmall area name) × (HasSmall area name → IsTrue (not r))
+is_attribute true area name items item are is own = (
+  λ bad. let b : false ≡ true = bad in cc,
+  λ has.
+      let h : HasAttribute name items = subst (λ (o : Option (List Item)). IfSome o (HasAttribute name)) are has in
+      let same : h.0 ≡ item = let e : Some h.0 ≡ Some item = sym h.1 ∙ is in cc in
+      let bad : true ≡ false = own ∙ ap is_name_item (sym same) ∙ h.2 in
+      cc,
+)
+is_attribute false area name items item are is own = (λ t. subst (λ (o : Option (List Item)). IfSome o (HasAttribute name)) (sym are) (item, is, sym own), λ has. refl)

@@ -4,3 +4,7 @@ pub mod SmallData
 pub mod Directories
 pub mod Refused
 pub mod Laws
+pub mod Changed
+pub mod Written
+pub mod Made
+pub mod Filled

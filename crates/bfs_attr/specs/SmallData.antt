@@ -16,6 +16,14 @@ attribute_in item = record { code = item.kind; bytes = item.bytes }
 abbrev pub item_rows : Item → List AttributeRow
 item_rows item = if is_name_item item then [] else record { kind = item.kind; name = item.name } ∷ []
 
+-- among these items the first of a name is an attribute
+abbrev pub HasAttribute : List ℕ → List Item → Type 0
+HasAttribute name items = (item : Item) × (named name items ≡ Some item) × (is_name_item item ≡ false)
+
+-- so it is among those of an area of small data
+abbrev pub HasSmall : List ℕ → List ℕ → Type 0
+HasSmall area name = IfSome (items_of area) (HasAttribute name)
+
 -- The first item of this name is an attribute, with this type and these bytes; or there is none, or it is the node's own name;
 -- or an item runs past the area.
 abbrev pub IsSmall : List ℕ → List ℕ → Small → Type 0

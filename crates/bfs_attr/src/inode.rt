@@ -41,9 +41,17 @@ pub(crate) fn damaged(block: u64) -> MapFault
 }
 
 /// A block of a volume has at least 1,024 bytes.
-fn has_long_blocks(sup: Super)
+pub(crate) fn has_long_blocks(sup: Super)
     requires { IsValid sup }
     ensures { 1024 ≤ sup.block_size }
+{
+    let _ = sup;
+}
+
+/// A block of a volume has at most 8,192 bytes.
+pub(crate) fn has_short_blocks(sup: Super)
+    requires { IsValid sup }
+    ensures { sup.block_size ≤ 8192 }
 {
     let _ = sup;
 }

@@ -3,16 +3,22 @@
 // `attributes_at`, as a map, in specs/Bearers.antt.
 #![tactic(auto)]
 
+mod area;
 mod attrs;
+mod bearing;
 mod directory;
+mod filling;
 mod inode;
 mod laws;
+mod making;
 mod reading;
 mod rows;
 mod small;
+mod storing;
 
+pub use area::{puts_attribute, takes_attribute};
 pub use attrs::Attrs;
-pub use laws::nodes_bear_attributes;
+pub use laws::{nodes_bear_attributes, small_data_changes};
 pub use rows::{AttrItem, AttrRows};
 
 #[cfg(test)]

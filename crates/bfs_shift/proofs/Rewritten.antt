@@ -118,7 +118,7 @@ module _ (v : Volume) (new : ℕ → List ℕ) (d : ℕ) (kept : KeepsPlace (v.b
 -- where the stream alone was written, the status is the same
 module _ (v : Volume) (new : ℕ → List ℕ) (d : ℕ) (kept : KeepsInode (v.blocks d) (new d)) (bytes : HasBytes (v.blocks d) (new d)) where
   mode_same : mode_bits (with_blocks v new) d ≡ mode_bits v d
-  mode_same = words_same (v.blocks d) (new d) 20 bytes.before.mode bytes.after.mode (ap (λ (i : Inode). i.mode) kept)
+  mode_same = words_same (v.blocks d) (new d) 20 bytes.before.mode bytes.after.mode (ap (λ (i : Inode). i.mode) kept.0)
 
   pub bit_kept : (i : ℕ) → HasBit (mode_bits v d) i → HasBit (mode_bits (with_blocks v new) d) i
   bit_kept i h = subst (λ bits. HasBit bits i) (sym mode_same) h
@@ -127,9 +127,9 @@ module _ (v : Volume) (new : ℕ → List ℕ) (d : ℕ) (kept : KeepsInode (v.b
   same_status n h = record {
     kind = ap (λ bits. bits / 4096 % 16) mode_same ∙ h.kind;
     mode = h.mode ∙ sym (ap (λ bits. bits % 4096) mode_same);
-    uid = h.uid ∙ sym (ap (λ (i : Inode). i.uid) kept);
-    gid = h.gid ∙ sym (ap (λ (i : Inode). i.gid) kept);
-    created = h.created ∙ sym (ap (λ (i : Inode). i.create_time) kept);
-    modified = h.modified ∙ sym (ap (λ (i : Inode). i.last_modified_time) kept);
-    changed = h.changed ∙ sym (ap (λ (i : Inode). i.status_change_time) kept);
+    uid = h.uid ∙ sym (ap (λ (i : Inode). i.uid) kept.0);
+    gid = h.gid ∙ sym (ap (λ (i : Inode). i.gid) kept.0);
+    created = h.created ∙ sym (ap (λ (i : Inode). i.create_time) kept.0);
+    modified = h.modified ∙ sym (ap (λ (i : Inode). i.last_modified_time) kept.0);
+    changed = h.changed ∙ sym (ap (λ (i : Inode). i.status_change_time) kept.0);
   }

@@ -35,6 +35,15 @@ least_of n (inr (inr (inr e))) = omega (arith, e)
 pub least_bytes : (s : Super) → IsValid s → 1024 ≤ s.block_size
 least_bytes s valid = least_of s.block_size (valid_sizes s valid).block_size
 
+most_of : (n : ℕ) → IsBlockSize n → n ≤ 8192
+most_of n (inl e) = omega (arith, e)
+most_of n (inr (inl e)) = omega (arith, e)
+most_of n (inr (inr (inl e))) = omega (arith, e)
+most_of n (inr (inr (inr e))) = omega (arith, e)
+
+pub most_bytes : (s : Super) → IsValid s → s.block_size ≤ 8192
+most_bytes s valid = most_of s.block_size (valid_sizes s valid).block_size
+
 -- what was read of a block that is told
 pub read_is : (m : ℕ → Option (List ℕ)) (k : ℕ) (told : Option (ℕ → Option (List ℕ))) (bytes : List ℕ) → told ≡ Some m → IsSome (m k) → AreOfBlock told k bytes → bytes ≡ contents m k
 read_is m k told bytes is some of = by_block (m k) refl some (subst (λ (t : Option (ℕ → Option (List ℕ))). AreOfBlock t k bytes) is of)

@@ -51,11 +51,11 @@ module _ (g : Geometry) (v now later : Room) (m mid map : ℕ → Option (List �
       by_last k (inl e) = by_first k (one.written k e)
       by_last k (inr h) = inr h
 
-pub work_begins : (g : Geometry) (v : Room) (m : ℕ → Option (List ℕ)) (tree : Tree) → IsOfVolume (sizes g) v → Fits v m → IsSound (volume_in g m) tree
+pub work_begins : (g : Geometry) (v : Room) (m : ℕ → Option (List ℕ)) (tree : Tree) → IsOfVolume (sizes g) v → Fits v m → IsCounted v m → IsSound (volume_in g m) tree
     → ((k : ℕ) → IsMetadata (volume_in g m) tree k → times k (fixed_blocks (volume_in g m)) ≡ 0 → IsSome (m k))
     → IsAtWork g v m tree (lists_of (volume_in g m) tree) [] × Agrees tree (lists_of (volume_in g m) tree)
-work_begins g v m tree of fits sound told = (
-  record { volume = of; fits = fits; stocked = sound_stocked (volume_in g m) tree sound; told = told },
+work_begins g v m tree of fits counted sound told = (
+  record { volume = of; fits = fits; counted = counted; stocked = sound_stocked (volume_in g m) tree sound; told = told },
   sound_agrees (volume_in g m) tree sound,
 )
 
@@ -81,11 +81,11 @@ call_is_kept g v now m map tree after before lists old new began ended goes = re
     by_cause k (inl e) = inl e
     by_cause k (inr h) = inr ((reached (volume_in g map) after lists ended.stocked k).0 h.0, h.1)
 
-pub used_is_reach : (g : Geometry) (v : Room) (m : ℕ → Option (List ℕ)) (tree : Tree) (lists : Lists) (loose : List ℕ) → IsAtWork g v m tree lists loose → IsCounted v m
+pub used_is_reach : (g : Geometry) (v : Room) (m : ℕ → Option (List ℕ)) (tree : Tree) (lists : Lists) (loose : List ℕ) → IsAtWork g v m tree lists loose
     → v.tally.used ≡ length (reach (volume_in g m) tree ++ loose)
-used_is_reach g v m tree lists loose work counted = counted ∙ count_is_reach g v m tree lists loose work.volume work.stocked
+used_is_reach g v m tree lists loose work = work.counted ∙ count_is_reach g v m tree lists loose work.volume work.stocked
 
-pub work_ends : (g : Geometry) (v : Room) (m : ℕ → Option (List ℕ)) (tree : Tree) (lists : Lists) → IsAtWork g v m tree lists [] → IsCounted v m → Agrees tree lists → IsPlain tree
+pub work_ends : (g : Geometry) (v : Room) (m : ℕ → Option (List ℕ)) (tree : Tree) (lists : Lists) → IsAtWork g v m tree lists [] → Agrees tree lists → IsPlain tree
     → tree.root ≡ g.root → (tree.indices ≡ empty → g.indices ≡ 0) → IsSound (changed (volume_in g m) (contents m) v.tally.used) tree
-work_ends g v m tree lists work counted agrees plain root none =
-    counted_sound (volume_in g m) tree v.tally.used lists work.stocked agrees plain root none (used_is_reach g v m tree lists [] work counted ∙ ap length (append-nil (reach (volume_in g m) tree)))
+work_ends g v m tree lists work agrees plain root none =
+    counted_sound (volume_in g m) tree v.tally.used lists work.stocked agrees plain root none (used_is_reach g v m tree lists [] work ∙ ap length (append-nil (reach (volume_in g m) tree)))

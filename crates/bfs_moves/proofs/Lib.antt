@@ -7,3 +7,10 @@ pub mod Named
 pub mod Listed
 pub mod Found
 pub mod Ends
+pub mod Loosened
+pub mod Joined
+pub mod Births
+pub mod Empty
+pub mod Newborn
+pub mod Filed
+pub mod Keys

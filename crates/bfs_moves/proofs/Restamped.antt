@@ -14,7 +14,7 @@ use Rattle.bfs_inode.specs.Inode.{Inode, inode_at, stream_at}
 use Rattle.bfs_txn.specs.Told.{with_block}
 use Rattle.bfs_stream.specs.Told.{contents}
 use Rattle.bfs_stream.proofs.Doubles.{times-append}
-use Rattle.bfs_stream.proofs.Finish.{fits_same}
+use Rattle.bfs_stream.proofs.Finish.{counted_same, fits_same, marked_same}
 use Rattle.bfs_tree.specs.Changes.{touched}
 use Rattle.bfs_tree.specs.declared.call.Kind.TheVariants.{Dir}
 use Rattle.bfs_tree.specs.Trees.{Node, Tree, IsNode, is_file}
@@ -38,16 +38,16 @@ use Rattle.bfs_moves.specs.Written.{IsRestamped}
 use Rattle.bfs_moves.proofs.Bits.{some_bytes}
 use Rattle.bfs_moves.proofs.Files.{has_own, metadata_in, all_split, node_unfiled, not_loose, apart_of, stream_same, data_stays, bytes_same, marks_stay, told_since}
 
-not_one : (k d : ℕ) → k ≢ d → times k (d ∷ []) ≡ 0
+pub not_one : (k d : ℕ) → k ≢ d → times k (d ∷ []) ≡ 0
 not_one k d apart = grind (arith, apart)
 
-just_one : (d : ℕ) → times d (d ∷ []) ≡ 1
+pub just_one : (d : ℕ) → times d (d ∷ []) ≡ 1
 just_one d = grind arith
 
-not_there : (k d : ℕ) → times k (d ∷ []) ≡ 0 → k ≢ d
+pub not_there : (k d : ℕ) → times k (d ∷ []) ≡ 0 → k ≢ d
 not_there k d none e = let p : times d (d ∷ []) ≡ 0 = subst (λ (j : ℕ). times j (d ∷ []) ≡ 0) e none in let one = just_one d in omega (arith, p, one)
 
-zero_fixed : (l : List ℕ) → 0 < times 0 (0 ∷ l)
+pub zero_fixed : (l : List ℕ) → 0 < times 0 (0 ∷ l)
 zero_fixed l = let e : times 0 (0 ∷ l) ≡ 1 + times 0 l = grind arith in omega (arith, e)
 
 module _ (s : Super) (v : Room) (m : ℕ → Option (List ℕ)) (tree : Tree) (lists : Lists) (loose : List ℕ) (d : ℕ) (n : Node) (work : IsAtWork (geometry_of s) v m tree lists loose) (is : IsNode tree d n) where
@@ -199,6 +199,7 @@ module _ (s : Super) (v : Room) (m : ℕ → Option (List ℕ)) (tree : Tree) (l
   work_now = record {
     volume = work.volume;
     fits = fits_same v m map stays work.fits;
+    counted = counted_same v m map (λ k low. marked_same v m map stays k low) work.counted;
     stocked = stocked;
     told = told_since geometry m map tree after lists lists loose loose (d ∷ []) (d ∷ []) work.stocked stocked shift same_data work.told (λ k none. inl (elsewhere k (not_there k d none)))
         (λ k h none. told_here k (is_d k h)) (λ k. omega arith);

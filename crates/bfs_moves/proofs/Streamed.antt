@@ -83,6 +83,7 @@ module _ (s : Super) (v now : Room) (m : ℕ → Option (List ℕ)) (tree : Tree
   work_now = record {
     volume = subst (IsOfVolume (sizes g)) (sym moved.rest) (record { block_size = work.volume.block_size; blocks = work.volume.blocks; group_blocks = work.volume.group_blocks });
     fits = moved.owns.fits;
+    counted = moved.counted work.counted;
     stocked = stocked;
     told = told_since g m map tree tree lists since loose loose xs ys work.stocked stocked shift (λ k. ap (times k) (sym same)) work.told or_is (λ k h none. ours k h) (λ k. omega arith);
   }

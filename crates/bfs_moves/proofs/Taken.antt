@@ -9,12 +9,13 @@ use Rattle.bfs_super.specs.Conditions.{IsValid, natural, block_of_run}
 use Rattle.bfs_super.specs.Geometry.{geometry_of}
 use Rattle.bfs_super.specs.declared.geometry.Geometry.{Geometry}
 use Rattle.bfs_super.specs.declared.sup.Super.{Super}
-use Rattle.bfs_bitmap.specs.Fills.{IsBitmapBlock}
+use Rattle.bfs_bitmap.specs.Fills.{IsBitmapBlock, IsTold}
 use Rattle.bfs_bitmap.specs.Runs as bits
-use Rattle.bfs_bitmap.specs.Runs.{Room, IsInside, IsTaken, first_of}
+use Rattle.bfs_bitmap.specs.Runs.{Room, IsInside, IsTaken, IsCounted, first_of}
 use Rattle.bfs_stream.specs.Told.{contents}
 use Rattle.bfs_stream.specs.Grown.{IsOfVolume}
 use Rattle.bfs_stream.proofs.Doubles.{times-append}
+use Rattle.bfs_stream.proofs.Taking.{of_told}
 use Rattle.bfs_tree.specs.Trees.{Node, Tree, is_file}
 use Rattle.bfs_sound.specs.Volumes.{Volume, sizes, bitmap_blocks, IsMarked}
 use Rattle.bfs_sound.specs.Owners.{node_blocks, file_data, reach}
@@ -34,7 +35,7 @@ one_more d l = grind arith
 
 module _ (s : Super) (v now : Room) (run : Run) (m : ℕ → Option (List ℕ)) (tree : Tree) (lists : Lists) (loose : List ℕ) (told : Option (ℕ → Option (List ℕ))) (old new : ℕ → Bool) (valid : IsValid s) (work : IsAtWork (geometry_of s) v m tree lists loose)
     (inside : IsInside v run) (low : 1 ≤ run.len) (high : run.len ≤ 1) (taken : IsTaken v m 1 1 (first_of v run) run.len) (mark : bits.IsMarked v now (first_of v run) run.len 1 m told) (rest : now ≡ record v { tally = now.tally })
-    (changed : (k : ℕ) → new k ≡ true → (old k ≡ true) ⊎ IsBitmapBlock v k) where
+    (changed : (k : ℕ) → new k ≡ true → (old k ≡ true) ⊎ IsBitmapBlock v k) (count : IsCounted v m → IsTold (IsCounted now) told) where
   abbrev g : Geometry
   g = geometry_of s
 
@@ -78,6 +79,7 @@ module _ (s : Super) (v now : Room) (run : Run) (m : ℕ → Option (List ℕ)) 
   work_now = record {
     volume = subst (IsOfVolume (sizes g)) (sym rest) (record { block_size = work.volume.block_size; blocks = work.volume.blocks; group_blocks = work.volume.group_blocks });
     fits = mark.fits;
+    counted = of_told (IsCounted now) mark.map told mark.is (count work.counted);
     stocked = since;
     told = told_since g m mark.map tree tree lists lists loose (first ∷ loose) [] (first ∷ []) work.stocked since shift (λ k. ap (times k) (sym same)) work.told (λ k none. or_is k)
         (λ k h none. let has : 0 < times k (first ∷ []) = h in let l = loose_is k in absurd (omega (arith, has, l, none)))

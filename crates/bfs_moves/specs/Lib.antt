@@ -1,3 +1,4 @@
 pub mod Work
 pub mod Written
+pub mod Born
 pub mod Laws

@@ -2,7 +2,7 @@
 use Rattle.std.specs.Prelude.{◌≡◌, ◌⊎◌, ℕ, List, Option, Some, Bool, true, IsSome}
 use Rattle.bfs_base.specs.Lists.{times, Has, AreSame}
 use Rattle.bfs_super.specs.declared.geometry.Geometry.{Geometry}
-use Rattle.bfs_bitmap.specs.Runs.{Room, Fits}
+use Rattle.bfs_bitmap.specs.Runs.{Room, Fits, IsCounted}
 use Rattle.bfs_stream.specs.Told.{contents}
 use Rattle.bfs_stream.specs.Grown.{IsOfVolume}
 use Rattle.bfs_tree.specs.Trees.{Node, Tree, IsNode, is_file}
@@ -14,11 +14,12 @@ use Rattle.bfs_shift.specs.Stocked.{Stocked}
 use Rattle.bfs_shift.specs.Shifts.{volume_in}
 
 -- The volume that a told map is, with its bitmap, stands for a tree but for what is listed, with some loose blocks: it is stocked;
--- the bitmap is that of the volume; and told is each metadata block of the tree, but block 0 and those of the log. Nothing is asked
--- of the bytes of files, of loose blocks, and of free and reserved ones.
+-- the bitmap is that of the volume, and keeps the number of its used blocks; and told is each metadata block of the tree, but block 0
+-- and those of the log. Nothing is asked of the bytes of files, of loose blocks, and of free and reserved ones.
 pub record IsAtWork (g : Geometry) (v : Room) (m : ℕ → Option (List ℕ)) (tree : Tree) (lists : Lists) (loose : List ℕ) : Type 0 where
   pub volume : IsOfVolume (sizes g) v
   pub fits : Fits v m
+  pub counted : IsCounted v m
   pub stocked : Stocked (volume_in g m) tree lists loose
   pub told : (k : ℕ) → IsMetadata (volume_in g m) tree k → times k (fixed_blocks (volume_in g m)) ≡ 0 → IsSome (m k)
 

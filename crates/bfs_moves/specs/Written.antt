@@ -1,5 +1,5 @@
 -- An inode's block that was written.
-use Rattle.std.specs.Prelude.{◌≡◌, ◌≤◌, ℕ, ℤ, pos, List, length, Bool, Option, Some}
+use Rattle.std.specs.Prelude.{◌≡◌, ◌≤◌, ℕ, ℤ, pos, List, length, Bool, Option, Some, None}
 use Rattle.bfs_base.specs.declared.kind.KeyKind.{KeyKind}
 use Rattle.bfs_base.specs.declared.kind.KeyKind.TheVariants.{Text}
 use Rattle.bfs_super.specs.declared.geometry.Geometry.{Geometry}
@@ -8,7 +8,10 @@ use Rattle.bfs_inode.specs.Inode.{inode_at, stream_at}
 use Rattle.bfs_node.specs.Page.{Row}
 use Rattle.bfs_pages.specs.Maps.{assoc}
 use Rattle.bfs_txn.specs.Told.{with_block}
-use Rattle.bfs_stream.specs.Sizes.{Origin}
+use Rattle.bfs_stream.specs.Sizes.{Origin, Sizes}
+use Rattle.bfs_stream.specs.declared.fault.GrowFault.{GrowFault}
+use Rattle.bfs_node.specs.declared.fault.TreeFault.{TreeFault}
+use Rattle.bfs_index.specs.Refused.{IsPairFault}
 use Rattle.bfs_stream.specs.Told.{contents}
 use Rattle.bfs_tree.specs.declared.call.Kind.TheVariants.{Dir}
 use Rattle.bfs_tree.specs.Trees.{Node, Tree, IsNode}
@@ -68,3 +71,8 @@ pub record HasWork (g : Geometry) (v : Room) (m : ℕ → Option (List ℕ)) : T
   pub lists : Lists
   pub loose : List ℕ
   pub work : IsAtWork g v m tree lists loose
+
+-- why a node wasn't listed: as a call on the index says; and where there is no index, nothing is answered
+abbrev pub IsListFault : Sizes → Room → (ℕ → Option (List ℕ)) → Option ℕ → TreeFault GrowFault → Type 0
+IsListFault s v m None fault = ⊥
+IsListFault s v m (Some inode) fault = IsPairFault (record { id = inode; sizes = s }) v m fault

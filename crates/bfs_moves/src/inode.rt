@@ -34,6 +34,15 @@ pub(crate) fn buffer(alloc: Global, sup: &Super) -> Result<Vec<u8>, BlockFault>
     }
 }
 
+/// A block of a volume has at least 1,024 bytes and at most 8,192.
+pub(crate) fn has_few_bytes(sup: &Super)
+    requires { IsValid sup.now }
+    ensures least { 1024 ≤ sup.now.block_size }
+    ensures most { sup.now.block_size ≤ 8192 }
+{
+    let _ = sup;
+}
+
 /// The mode and the flags in a block of bytes take four bytes.
 fn note_words(block: &[u8])
     requires { 1024 ≤ length block.now }

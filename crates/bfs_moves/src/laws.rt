@@ -1,5 +1,5 @@
 // How the steps of a call are put together.
-ghost use Rattle.bfs_moves.specs.Laws.{GoesOnSame, GoesOnTwice, WorkBegins, CallIsKept, UsedIsReach, WorkEnds};
+ghost use Rattle.bfs_moves.specs.Laws.{GoesOnSame, GoesOnTwice, WorkBegins, CallIsKept, UsedIsReach, WorkEnds, NodeIsListed};
 
 /// Nothing was done.
 pub fn goes_on_same()
@@ -29,4 +29,9 @@ pub fn used_is_reach()
 /// A call ends.
 pub fn work_ends()
     ensures { WorkEnds }
+{}
+
+/// The pairs of an index once a node has come.
+pub fn node_is_listed()
+    ensures { NodeIsListed }
 {}

@@ -2,16 +2,24 @@
 // speaks of the volume within the call (specs/Work.antt) and of nothing below it.
 #![tactic(auto)]
 
+mod birth;
 mod find;
 mod inode;
 mod laws;
+mod listing;
+mod node;
 mod pairs;
 mod rows;
 mod stamp;
 mod take;
 
 pub use find::find_index;
-pub use laws::{call_is_kept, goes_on_same, goes_on_twice, used_is_reach, work_begins, work_ends};
+pub use laws::{
+    call_is_kept, goes_on_same, goes_on_twice, node_is_listed, used_is_reach, work_begins,
+    work_ends,
+};
+pub use listing::list_where;
+pub use node::{make_file, make_link};
 pub use pairs::{list_pair, unlist_pair};
 pub use rows::put_name;
 pub use stamp::stamp_directory;

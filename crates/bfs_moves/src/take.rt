@@ -1,10 +1,10 @@
 // A free block is taken.
-ghost use Rattle.std.specs.Prelude.{◌≡◌, ◌<◌, ◌⊎◌, ◌∷◌, ℕ, List, Option, Some, None, true, OnOk, OnErr, IfOk, IfErr};
+ghost use Rattle.std.specs.Prelude.{◌≡◌, ◌<◌, ◌⊎◌, ◌∷◌, ℕ, List, Option, Some, None, true, OnErr, IfOk, IfErr};
 ghost use Rattle.std.specs.FinMap.{get};
 ghost use Rattle.bfs_super.specs.Conditions.{IsValid, natural};
 ghost use Rattle.bfs_super.specs.Geometry.{geometry_of};
-ghost use Rattle.bfs_bitmap.specs.Runs.{IsCounted, IsNoRun, IsRunCause};
-ghost use Rattle.bfs_bitmap.specs.Fills.{IsBitmapBlock, IsTold};
+ghost use Rattle.bfs_bitmap.specs.Runs.{IsNoRun, IsRunCause};
+ghost use Rattle.bfs_bitmap.specs.Fills.{IsBitmapBlock};
 ghost use Rattle.bfs_txn.specs.Faults.{AreLater};
 ghost use Rattle.bfs_stream.specs.Grown.{IsOfVolume};
 ghost use Rattle.bfs_stream.specs.Sizes.{sizes_of};
@@ -28,7 +28,6 @@ pub fn take_block<E: Edits>(
     ensures taken { (m : ℕ → Option (List ℕ)) (tree : Tree) (lists : Lists) (loose : List ℕ) → E.told edits.old ≡ Some m → IsAtWork (geometry_of sup.now) bitmap.old m tree lists loose → IfOk result (λ block. IsStepped (geometry_of sup.now) bitmap.old bitmap.new m tree tree lists (block ∷ loose) (E.told edits.new) (E.changed edits.old) (E.changed edits.new)) }
     ensures no_node { (m : ℕ → Option (List ℕ)) (tree : Tree) (lists : Lists) (loose : List ℕ) → E.told edits.old ≡ Some m → IsAtWork (geometry_of sup.now) bitmap.old m tree lists loose → IfOk result (λ block. get tree.nodes block ≡ None) }
     ensures inside { IfOk result (λ block. block < natural sup.now.num_blocks) }
-    ensures counted { (m : ℕ → Option (List ℕ)) (tree : Tree) (lists : Lists) (loose : List ℕ) → E.told edits.old ≡ Some m → IsAtWork (geometry_of sup.now) bitmap.old m tree lists loose → IsCounted bitmap.old m → OnOk result (IsTold (IsCounted bitmap.new) (E.told edits.new)) }
     ensures refused { (m : ℕ → Option (List ℕ)) (tree : Tree) (lists : Lists) (loose : List ℕ) → E.told edits.old ≡ Some m → IsAtWork (geometry_of sup.now) bitmap.old m tree lists loose → IfErr result (IsNoRun bitmap.old m 1) }
     ensures rest { bitmap.new ≡ record bitmap.old { tally = bitmap.new.tally } }
     ensures err { OnErr result (bitmap.new ≡ bitmap.old) }

@@ -16,7 +16,7 @@ use Rattle.bfs_device.specs.Layouts.{layout_of, ring_count}
 use Rattle.bfs_device.specs.Books.{IsSealed}
 use Rattle.bfs_device.specs.Orders.{IsOnce}
 use Rattle.bfs_core.specs.Spaces.{SpaceView, IsGroupFor}
-use Rattle.bfs_space.specs.Books.{HasParts}
+use Rattle.bfs_space.specs.Books.{HasParts, MayBeSealed}
 
 -- blocks that ascend are there once
 ascending_once : (pairs : List (ℕ × List ℕ)) → Ascends pairs → IsOnce pairs
@@ -43,6 +43,15 @@ released_used group (g ∷ gs) t = released_used group gs (cond (is_left group g
 abbrev pub first_room : Super → Room
 first_room sup = record { block_size = sup.block_size; blocks = natural sup.num_blocks; group_blocks = group_blocks sup; given = []; last = 0; tally = first_tally (min (natural sup.used_blocks) (natural sup.num_blocks)); tally_kept = first_tally (min (natural sup.used_blocks) (natural sup.num_blocks)) }
 
+-- an open group without blocks
+pub nothing_sealed : (sup : Super) → IsValid sup → MayBeSealed (layout_of sup) sup.block_size []
+nothing_sealed sup valid = record {
+  ascends = λ i j lt inside. absurd (omega (arith, inside));
+  sized = λ i inside. absurd (omega (arith, inside));
+  places = λ i inside. absurd (omega (arith, inside));
+  room = (let two = valid.log.2 in let none : ring_count [] ≡ 0 = refl in omega (arith, two, none));
+}
+
 pub parts_opened : (sup : Super) → IsValid sup → sup.log_start ≡ sup.log_end → HasParts sup (first_room sup) [] 0 0
 parts_opened sup valid emptied = record {
   valid = valid;
@@ -52,12 +61,7 @@ parts_opened sup valid emptied = record {
   used = omega arith;
   covered = omega arith;
   closed = omega arith;
-  group = record {
-    ascends = λ i j lt inside. absurd (omega (arith, inside));
-    sized = λ i inside. absurd (omega (arith, inside));
-    places = λ i inside. absurd (omega (arith, inside));
-    room = (let two = valid.log.2 in let none : ring_count [] ≡ 0 = refl in omega (arith, two, none));
-  };
+  group = nothing_sealed sup valid;
 }
 
 -- what a space has may be sealed

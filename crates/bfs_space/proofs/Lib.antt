@@ -1,2 +1,4 @@
 pub mod Stamps
 pub mod Groups
+pub mod Called
+pub mod Fits

@@ -1,10 +1,19 @@
 // The namespace of a volume: its history, the open group of its changes, and the entries that sessions are promised
-// (specs/Books.antt). A space holds no disk: what it changes it keeps as blocks, until they are sealed as a group.
+// (specs/Books.antt), and what a call of it begins with and leaves (specs/Called.antt). A space holds no disk: what it changes it
+// keeps as blocks, until they are sealed as a group.
 #![tactic(auto)]
 
+mod answers;
+mod calling;
+mod keep;
+mod laws;
 mod space;
 mod stamp;
 
+pub use answers::Answers;
+pub use calling::{CallFault, answer_call};
+pub use keep::Unkept;
+pub use laws::{call_is_entered, face_is_at_work};
 pub use space::Space;
 
 #[cfg(test)]

@@ -1,14 +1,18 @@
-// A space without calls: what it is promised, what is noted and what is sealed. The volume is the one that `mk --blocks 4096`
-// makes, with 529 used blocks.
+// A space without calls: what it is promised, what is noted and what is sealed; and a call that fails over an open group. The volume
+// is the one that `mk --blocks 4096` makes, with 529 used blocks.
 ghost use Rattle.std.specs.Prelude.{◌≡◌, ◌<◌, ◌^◌, IfOk};
 ghost use Rattle.bfs_base.specs.Lists.{times};
 ghost use Rattle.bfs_super.specs.Conditions.{IsValid};
 
-use crate::Space;
+use crate::{Answers, CallFault, Space, answer_call};
+use bfs_bitmap::Bitmap;
 use bfs_bytes::{Run, put_run, put_u32};
+use bfs_node::TreeFault;
+use bfs_stream_pages::MapFault;
 use bfs_super::{Super, SuperFault};
 use bfs_tree::{Call, Reply};
-use std::alloc::AllocError;
+use bfs_txn::{BlockFault, Blocks, Changed, Edits, MemBlocks};
+use std::alloc::{AllocError, Global};
 use std::test::Fail;
 
 /// A run in the first group.
@@ -98,5 +102,99 @@ fn what_is_promised_is_noted_with_rising_stamps_and_sealed_once(
     }
     assert_eq!(rt; history.len(), 4);
     assert_eq!(rt; stamps, [65536000, 65536001, 65536002, 65601536]);
+    Ok(())
+}
+
+/// Blocks in memory, which tell nothing of what they hold.
+#[derive(Drop)]
+struct Silent {
+    blocks: MemBlocks,
+}
+
+impl Blocks for Silent {
+    ghost use Rattle.std.specs.Prelude.{None, [], false};
+    ghost use Rattle.bfs_txn.specs.Told.{read_last};
+
+    ghost told = { λ s. None };
+
+    ghost size = { λ s. s.blocks.block_size };
+
+    ghost counts = { λ s. record { faults = 0; stops = 0; stop = None } };
+
+    ghost changed = { λ s k. false };
+
+    ghost pairs = { λ s. 0 };
+
+    ghost last = { λ s. read_last s.blocks };
+
+    ghost Note = { Unit {0} };
+
+    ghost frame = { λ s. record { note = tt; names = []; kept = []; below = None } };
+
+    ghost sized = { λ s. tt };
+
+    fn get(&mut self, block: u64, into: &mut [u8]) -> Result<(), BlockFault> {
+        self.blocks.get(block, into)
+    }
+}
+
+/// Changes one block, and has no answer, as if it wanted memory.
+#[derive(Drop)]
+struct Failing {
+    block: u64,
+}
+
+impl Answers for Failing {
+    fn answer<E: Edits>(
+        &self,
+        alloc: Global,
+        sup: &Super,
+        _bitmap: &mut Bitmap,
+        edits: &mut E,
+        _call: &Call,
+        _stamp: i64,
+    ) -> Result<Reply, MapFault> {
+        let Ok(bytes) = vec![in alloc; 7u8; sup.block_size as usize] else {
+            return Err(TreeFault::NoMemory);
+        };
+        match edits.set(self.block, &bytes) {
+            Ok(()) => Err(TreeFault::NoMemory),
+            Err(_) => Err(TreeFault::NoMemory),
+        }
+    }
+}
+
+/// Whether a call was refused for the reason that `Failing` has.
+fn is_refused(answer: &Result<Reply, CallFault>) -> bool {
+    matches!(answer, Err(CallFault::Map(TreeFault::NoMemory)))
+}
+
+#[test]
+fn what_a_failed_call_changed_is_given_up(rt: HostRuntime) -> Result<(), Fail> {
+    let alloc = rt.alloc();
+    let sup = superblock()?;
+    let size = sup.block_size;
+    assert_eq!(rt; size, 1024);
+    assert_eq!(rt; sup.log_blocks.len, 512);
+    let bytes = vec![in alloc; 0u8; 8192]?;
+    let mut under = Silent {
+        blocks: MemBlocks::new(bytes, size),
+    };
+    let mut bitmap = Bitmap::of(alloc, &sup);
+    let mut group = Changed::new(alloc);
+    let answers = Failing { block: 600 };
+    let answer = answer_call(
+        alloc,
+        &sup,
+        &answers,
+        &mut bitmap,
+        &mut group,
+        &mut under,
+        &Call::IndexList,
+        0,
+    );
+    assert!(rt; is_refused(&answer));
+    assert_eq!(rt; group.len(), 0);
+    assert_eq!(rt; bitmap.used(), 529);
     Ok(())
 }

@@ -1,0 +1,38 @@
+use Rattle.std.proofs.Common.{rules, ◌≡◌, ℕ, ℤ, List, Some, take, sym, ap, subst, ◌∙◌, w64, to_z, of_z}
+use Rattle.std.specs.Option.{option_map}
+use Rattle.bfs_super.specs.Geometry.{geometry_of}
+use Rattle.bfs_txn.specs.Changed.{AreOfSize, over}
+use Rattle.bfs_device.specs.Layouts.{layout_of}
+use Rattle.bfs_space.specs.Books.{MayBeSealed}
+use Rattle.bfs_space.specs.Called.{is_changed}
+use Rattle.bfs_space.specs.Answered.{HasReady, IsReady, IsAnswered, IsKept}
+use Rattle.bfs_space.proofs.Fits.{kept_of, may_be_sealed, whole}
+use Rattle.bfs_space.proofs.calling.answer_call.Goals as goal
+
+pub answer_over-requires-clause-ready : goal.answer_over-requires-clause-ready
+answer_over-requires-clause-ready g c = λ m e. subst (λ (ps : List (ℕ × List ℕ)). HasReady (geometry_of c.args.sup.now) c.args.bitmap.now (over ps m)) (sym c.begin-overlay.ensures.open_now)
+    (c.requires.ready m (ap g.B.Blocks.told (sym c.begin-overlay.ensures.under_now) ∙ e))
+
+pub returns-in-Ok-clause-kept : goal.returns-in-Ok-clause-kept
+returns-in-Ok-clause-kept g c = λ m tree lists told ready.
+    let under : g.B.Blocks.told c.begin-overlay.result.under.now ≡ Some m = ap g.B.Blocks.told c.begin-overlay.ensures.under_now ∙ told in
+    let below : g.B.Blocks.told c.answer_over.new.overlay.under.now ≡ Some m = c.answer_over.ensures.told ∙ under in
+    let same : to_z w64 (of_z w64 c.args.stamp) ≡ c.args.stamp = search rules in
+    let first = subst (λ (z : ℤ). IsAnswered (geometry_of c.args.sup.now) c.args.bitmap.now c.answer_over.new.bitmap (over c.begin-overlay.result.group.now m) tree z c.args.call.now c.in-Ok.reply (option_map (over c.answer_over.new.overlay.group.now) (g.B.Blocks.told c.answer_over.new.overlay.under.now)) (is_changed c.begin-overlay.result.group.now) (is_changed c.answer_over.new.overlay.group.now)) same
+        (c.in-Ok.ensures.answered m tree lists under (subst (λ (ps : List (ℕ × List ℕ)). IsReady (geometry_of c.args.sup.now) c.args.bitmap.now (over ps m) tree lists) (sym c.begin-overlay.ensures.open_now) ready)) in
+    let answered = subst (λ (ps : List (ℕ × List ℕ)). IsAnswered (geometry_of c.args.sup.now) c.args.bitmap.now c.answer_over.new.bitmap (over ps m) tree c.args.stamp c.args.call.now c.in-Ok.reply (option_map (over c.answer_over.new.overlay.group.now) (g.B.Blocks.told c.answer_over.new.overlay.under.now)) (is_changed ps) (is_changed c.answer_over.new.overlay.group.now)) c.begin-overlay.ensures.open_now first in
+    subst (λ (ps : List (ℕ × List ℕ)). IsKept (geometry_of c.args.sup.now) c.args.bitmap.now c.keep-in-Ok.new.self m c.args.group.now ps tree c.args.stamp c.args.call.now c.in-Ok.reply) (search rules)
+    (kept_of (geometry_of c.args.sup.now) c.args.bitmap.now c.answer_over.new.bitmap c.keep-in-Ok.new.self m tree c.args.stamp c.args.call.now c.in-Ok.reply c.args.group.now c.answer_over.new.overlay.group.now c.keep.new.self.0 (g.B.Blocks.told c.answer_over.new.overlay.under.now) below c.keep.ensures.reads c.keep-in-Ok.ensures.given answered)
+
+pub returns-in-Ok-clause-group : goal.returns-in-Ok-clause-group
+returns-in-Ok-clause-group g c =
+    let open_is : take c.begin-overlay.result.mark c.begin-overlay.result.group.now ≡ c.args.group.now = whole c.begin-overlay.result.mark c.begin-overlay.result.group.now c.args.group.now c.begin-overlay.ensures.mark c.begin-overlay.ensures.open_now in
+    let size : g.B.Blocks.size c.keep.new.self.1.0 ≡ c.args.sup.now.block_size = ap g.B.Blocks.size c.keep.ensures.under ∙ c.answer_over.ensures.size ∙ ap g.B.Blocks.size c.begin-overlay.ensures.under_now ∙ c.requires.size in
+    subst (λ (ps : List (ℕ × List ℕ)). MayBeSealed (layout_of c.args.sup.now) c.args.sup.now.block_size ps) (search rules)
+    (may_be_sealed (layout_of c.args.sup.now) c.args.sup.now.block_size c.answer_over.new.overlay.mark c.args.group.now c.answer_over.new.overlay.group.now c.keep.new.self.0 c.requires.group (c.answer_over.ensures.open ∙ open_is) c.answer_over.new.overlay.layered.within c.in-Ok.ensures.fit
+        c.keep.ensures.reads c.keep.ensures.ascends (subst (λ (n : ℕ). AreOfSize n c.keep.new.self.0) size c.keep.ensures.sized) c.keep.ensures.len)
+
+pub returns-in-Err-clause-unanswered : goal.returns-in-Err-clause-unanswered
+returns-in-Err-clause-unanswered g c = λ m tree lists told ready.
+    let under : g.B.Blocks.told c.begin-overlay.result.under.now ≡ Some m = ap g.B.Blocks.told c.begin-overlay.ensures.under_now ∙ told in
+    c.in-Err.ensures.unanswered m tree lists under (subst (λ (ps : List (ℕ × List ℕ)). IsReady (geometry_of c.args.sup.now) c.args.bitmap.now (over ps m) tree lists) (sym c.begin-overlay.ensures.open_now) ready)

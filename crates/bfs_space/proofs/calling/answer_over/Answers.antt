@@ -1,0 +1,40 @@
+use Rattle.std.proofs.Common.{rules, ◌≡◌, ◌≤◌, ℕ, ℤ, length, take, sym, ap, subst, ◌∙◌, w64, to_z, of_z}
+use Rattle.std.specs.Option.{option_map}
+use Rattle.bfs_super.specs.Geometry.{geometry_of}
+use Rattle.bfs_txn.specs.Changed.{over}
+use Rattle.bfs_txn.specs.Told.{Frame}
+use Rattle.bfs_device.specs.Layouts.{layout_of}
+use Rattle.bfs_space.specs.Called.{is_changed}
+use Rattle.bfs_space.specs.Answered.{HasReady, AreFit, IsAnswered}
+use Rattle.bfs_space.proofs.Fits.{mapped, same_mark, kept_but}
+use Rattle.bfs_space.proofs.calling.answer_over.Goals as goal
+
+pub answer-requires-clause-ready : goal.answer-requires-clause-ready
+answer-requires-clause-ready g c = λ m e. let r = mapped (over c.args.overlay.now.group.now) (g.B.Blocks.told c.args.overlay.now.under.now) m e in
+    subst (HasReady (geometry_of c.args.sup.now) c.args.bitmap.now) r.1.1 (c.requires.ready r.0 r.1.0)
+
+pub may_be_kept-requires-clause-mark : goal.may_be_kept-requires-clause-mark
+may_be_kept-requires-clause-mark g c =
+    let kept : take c.answer.new.edits.mark c.answer.new.edits.group.now ≡ take c.args.overlay.now.mark c.args.overlay.now.group.now = ap (λ (f : Frame _). f.kept) c.answer.ensures.frame in
+    let same = same_mark c.answer.new.edits.mark c.args.overlay.now.mark c.answer.new.edits.group.now c.args.overlay.now.group.now c.answer.new.edits.layered.within c.args.overlay.now.layered.within kept in
+    subst (λ (x : ℕ). x ≤ length c.answer.new.edits.group.now) (same ∙ sym c.requires.mark) c.answer.new.edits.layered.within
+
+pub returns-in-Ok-may_be_kept-clause-answered : goal.returns-in-Ok-may_be_kept-clause-answered
+returns-in-Ok-may_be_kept-clause-answered g c = λ m tree lists told ready.
+    let same : to_z w64 (of_z w64 c.args.stamp) ≡ c.args.stamp = search rules in
+    subst (λ (z : ℤ). IsAnswered (geometry_of c.args.sup.now) c.args.bitmap.now c.answer.new.bitmap (over c.args.overlay.now.group.now m) tree z c.args.call.now c.in-Ok.reply (option_map (over c.answer.new.edits.group.now) (g.B.Blocks.told c.answer.new.edits.under.now)) (is_changed c.args.overlay.now.group.now) (is_changed c.answer.new.edits.group.now)) same
+        (c.in-Ok.ensures.answered (over c.args.overlay.now.group.now m) tree lists (ap (option_map (over c.args.overlay.now.group.now)) told) ready)
+
+pub returns-in-Ok-may_be_kept-clause-fit : goal.returns-in-Ok-may_be_kept-clause-fit
+returns-in-Ok-may_be_kept-clause-fit g c =
+    let kept : take c.answer.new.edits.mark c.answer.new.edits.group.now ≡ take c.args.overlay.now.mark c.args.overlay.now.group.now = ap (λ (f : Frame _). f.kept) c.answer.ensures.frame in
+    let same = same_mark c.answer.new.edits.mark c.args.overlay.now.mark c.answer.new.edits.group.now c.args.overlay.now.group.now c.answer.new.edits.layered.within c.args.overlay.now.layered.within kept in
+    subst (AreFit (layout_of c.args.sup.now) c.answer.new.edits.group.now) (c.requires.mark ∙ sym same) c.in-Ok-may_be_kept.ensures.ok
+
+pub returns-in-Err-may_be_kept-clause-unanswered : goal.returns-in-Err-may_be_kept-clause-unanswered
+returns-in-Err-may_be_kept-clause-unanswered g c = λ m tree lists told ready.
+    kept_but c.args.sup.now c.args.bitmap.now c.answer.new.bitmap (over c.args.overlay.now.group.now m) tree _ c.args.call.now c.in-Ok.reply _ c.args.overlay.now.group.now c.answer.new.edits.group.now c.args.mark c.in-Err-may_be_kept.why c.requires.open
+        (c.in-Ok.ensures.answered (over c.args.overlay.now.group.now m) tree lists (ap (option_map (over c.args.overlay.now.group.now)) told) ready) c.in-Err-may_be_kept.ensures.err
+
+pub returns-in-Err-clause-unanswered : goal.returns-in-Err-clause-unanswered
+returns-in-Err-clause-unanswered g c = λ m tree lists told ready. c.in-Err.ensures.unanswered (over c.args.overlay.now.group.now m) tree lists (ap (option_map (over c.args.overlay.now.group.now)) told) ready

@@ -1,0 +1,109 @@
+-- What a call's answer makes of a volume, and when its changes may be kept.
+use Rattle.std.specs.Prelude.{◌≡◌, ◌≤◌, ◌<◌, ℕ, ℤ, List, [], length, map, Bool, Option, Some}
+use Rattle.bfs_super.specs.declared.geometry.Geometry.{Geometry}
+use Rattle.bfs_bitmap.specs.Givens.{settled}
+use Rattle.bfs_bitmap.specs.Runs.{Room}
+use Rattle.bfs_txn.specs.Changed.{number_at, over}
+use Rattle.bfs_txn.specs.Faults.{Counts}
+use Rattle.bfs_node.specs.declared.fault.TreeFault.{TreeFault}
+use Rattle.bfs_node.specs.declared.fault.TreeFault.TheVariants as tree
+use Rattle.bfs_stream.specs.declared.fault.GrowFault.{GrowFault}
+use Rattle.bfs_stream.specs.declared.fault.GrowFault.TheVariants as grow
+use Rattle.bfs_stream.specs.Faults.{IsGrowCause}
+use Rattle.bfs_stream.specs.Scans.{IsDamage}
+use Rattle.bfs_tree.specs.declared.call.Call.{Call}
+use Rattle.bfs_tree.specs.declared.reply.Reply.{Reply}
+use Rattle.bfs_tree.specs.States.{State}
+use Rattle.bfs_tree.specs.Steps.{ByTree}
+use Rattle.bfs_tree.specs.Trees.{Tree, IsPlain}
+use Rattle.bfs_device.specs.Layouts.{Layout, IsData, ring_count}
+use Rattle.bfs_shift.specs.Lists.{Lists, Agrees}
+use Rattle.bfs_moves.specs.Work.{IsAtWork}
+use Rattle.bfs_space.specs.Called.{IsCalled, is_changed}
+use Rattle.bfs_space.specs.declared.calling.CallFault.{CallFault}
+use Rattle.bfs_space.specs.declared.calling.CallFault.TheVariants as calling
+use Rattle.bfs_space.specs.declared.keep.Unkept.{Unkept}
+use Rattle.bfs_space.specs.declared.keep.Unkept.TheVariants.{Damaged, TooMany}
+
+-- A volume stands for a plain tree whose lists agree with it, and no block is loose.
+pub record IsReady (g : Geometry) (v : Room) (m : ℕ → Option (List ℕ)) (tree : Tree) (lists : Lists) : Type 0 where
+  pub work : IsAtWork g v m tree lists []
+  pub agrees : Agrees tree lists
+  pub plain : IsPlain tree
+  pub root : tree.root ≡ g.root
+
+-- for some tree
+pub record HasReady (g : Geometry) (v : Room) (m : ℕ → Option (List ℕ)) : Type 0 where
+  pub tree : Tree
+  pub lists : Lists
+  pub ready : IsReady g v m tree lists
+
+-- A call was answered: what is told now is what the call has made of the volume, and the answer and the tree since are those of the plain
+-- tree, in every state that has this tree.
+pub record IsAnswered (g : Geometry) (v now : Room) (m : ℕ → Option (List ℕ)) (tree : Tree) (stamp : ℤ) (call : Call) (reply : Reply) (told : Option (ℕ → Option (List ℕ))) (old new : ℕ → Bool) : Type 0 where
+  pub map : ℕ → Option (List ℕ)
+  pub is : told ≡ Some map
+  pub after : Tree
+  pub called : IsCalled g v now m map tree after old new
+  pub by_tree : (s : State) (session : ℕ) → s.tree ≡ tree → (t : State) × (t.tree ≡ after) × ByTree session stamp call reply s t
+
+-- Why a call isn't answered, of a volume that is told and stands for a tree: a block could not be had, or a run of blocks or a place in
+-- the double indirect level of a stream, or there is no memory. No block is damaged.
+abbrev pub IsUnanswered : TreeFault GrowFault → Type 0
+IsUnanswered tree.Exists = ⊥
+IsUnanswered tree.Absent = ⊥
+IsUnanswered (tree.Damaged page sort) = ⊥
+IsUnanswered (tree.Pages (grow.NoRun wanted free)) = Unit {0}
+IsUnanswered (tree.Pages (grow.Full room)) = Unit {0}
+IsUnanswered (tree.Pages (grow.Block fault)) = ¬ IsDamage fault
+IsUnanswered tree.NoMemory = Unit {0}
+
+-- the cause of it in what lies below
+abbrev pub HasAnswerCause : Counts → Counts → TreeFault GrowFault → Type 0
+HasAnswerCause old new tree.Exists = ⊥
+HasAnswerCause old new tree.Absent = ⊥
+HasAnswerCause old new (tree.Damaged page sort) = Unit {0}
+HasAnswerCause old new (tree.Pages fault) = IsGrowCause 1 old new fault
+HasAnswerCause old new tree.NoMemory = Unit {0}
+
+-- the same of a call over an open group, whose changes may not be kept where a block is changed that no group may have, as never over a
+-- volume that is told, or more than the log has room for
+abbrev pub IsCallFault : CallFault → Type 0
+IsCallFault (calling.Map fault) = IsUnanswered fault
+IsCallFault (calling.Unkept (Damaged block)) = ⊥
+IsCallFault (calling.Unkept TooMany) = Unit {0}
+
+abbrev pub HasCallCause : Counts → Counts → CallFault → Type 0
+HasCallCause old new (calling.Map fault) = HasAnswerCause old new fault
+HasCallCause old new (calling.Unkept why) = Unit {0}
+
+-- the blocks that a call changed, behind so many pairs of an open group, may go into a group: they are blocks of data, and all fit the log
+pub record AreFit (l : Layout) (pairs : List (ℕ × List ℕ)) (mark : ℕ) : Type 0 where
+  pub places : (i : ℕ) → mark ≤ i → i < length pairs → IsData l (number_at pairs i)
+  pub room : ring_count pairs < l.len
+
+-- a block that the call changed is no block of data
+pub record IsStray (l : Layout) (pairs : List (ℕ × List ℕ)) (mark block : ℕ) : Type 0 where
+  pub place : ℕ
+  pub own : mark ≤ place
+  pub inside : place < length pairs
+  pub is : number_at pairs place ≡ block
+  pub stray : ¬ IsData l block
+
+-- why they may not
+abbrev pub IsUnfit : Layout → List (ℕ × List ℕ) → ℕ → Unkept → Type 0
+IsUnfit l pairs mark (Damaged block) = IsStray l pairs mark block
+IsUnfit l pairs mark TooMany = l.len ≤ ring_count pairs
+
+-- the bitmap of a call that was kept
+abbrev pub room_kept : Room → Room
+room_kept v = record v { given = map settled v.given; tally_kept = v.tally }
+
+-- A call was answered and kept: what its open group has made of the volume, over what is told below it, by the bitmap as it was when the
+-- call was answered; and answer and tree are those of the plain tree.
+pub record IsKept (g : Geometry) (v new : Room) (m : ℕ → Option (List ℕ)) (before now : List (ℕ × List ℕ)) (tree : Tree) (stamp : ℤ) (call : Call) (reply : Reply) : Type 0 where
+  pub room : Room
+  pub kept : new ≡ room_kept room
+  pub after : Tree
+  pub called : IsCalled g v room (over before m) (over now m) tree after (is_changed before) (is_changed now)
+  pub by_tree : (s : State) (session : ℕ) → s.tree ≡ tree → (t : State) × (t.tree ≡ after) × ByTree session stamp call reply s t

@@ -9,9 +9,4 @@ pub mod Fronts
 pub mod Apart
 pub mod Stays
 pub mod Puts
-pub mod Zeros
-pub mod News
-pub mod Chunks
-pub mod Stored
-pub mod Grows
 pub mod Owned

@@ -24,7 +24,8 @@ use Rattle.bfs_attr.specs.Written.{IsPutInto, IsTakenFrom}
 use Rattle.bfs_attr.proofs.Apart.{distinct_put, distinct_taken, apart_put, apart_taken, none_behind, put_named}
 use Rattle.bfs_attr.proofs.Changes.{other_item, puts, takes}
 use Rattle.bfs_attr.proofs.Finds.{small_there}
-use Rattle.bfs_attr.proofs.Stays.{attributes_now, attributes_there, block_here}
+use Rattle.bfs_make.proofs.Written.{block_here}
+use Rattle.bfs_attr.proofs.Stays.{attributes_now, attributes_there}
 use Rattle.bfs_attr.proofs.Tops.{value_is}
 
 module _ (b : Bearer) (v : Room) (m : ℕ → Option (List ℕ)) (holds : Holds b v m) (told : Option (ℕ → Option (List ℕ))) (old new : ℕ → Bool) (written : (k : ℕ) → new k ≡ true → (old k ≡ true) ⊎ (k ≡ b.id)) where

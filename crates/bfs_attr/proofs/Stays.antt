@@ -32,6 +32,7 @@ use Rattle.bfs_sound.specs.Nodes.{AreApart}
 use Rattle.bfs_sound.specs.Attributes.{Named, is_zero, attributes_in, attributes_of, attribute_directory, attribute_inodes, HasDirectory}
 use Rattle.bfs_sound.proofs.Counts.{times_member}
 use Rattle.bfs_sound.proofs.Rows.{has_directory_stays, attributes_stay, attribute_inodes_stay, inodes_stay}
+use Rattle.bfs_make.proofs.Written.{block_here, block_other, block_told, bits_stay}
 use Rattle.bfs_attr.specs.Bearers.{Bearer, volume_at, origin, HasAttributes, entries_with, entries_at}
 use Rattle.bfs_attr.specs.Changed.{attribute_blocks, Holds, AttributesNow}
 use Rattle.bfs_attr.proofs.Fronts.{run_front, inode_front}
@@ -63,24 +64,6 @@ small_changes v id new items has run agree area distinct apart =
       ap (λ (x : Option (List Item)). entries_with w id (unwrap_or x [])) area ∙ ap (λ (l : List Named). attributes_in items ++ l) attributes,
     )
 
--- a block that was written, and the others
-pub block_here : (m : ℕ → Option (List ℕ)) (id : ℕ) (block : List ℕ) → with_block id block m id ≡ Some block
-block_here m id block = ap (λ (b : Bool). cond b (Some block) (m id)) (same_test id)
-
-pub block_other : (m : ℕ → Option (List ℕ)) (id : ℕ) (block : List ℕ) (k : ℕ) → k ≢ id → with_block id block m k ≡ m k
-block_other m id block k apart = by_test (k == id) refl
-  where
-    by_test : (b : Bool) → (k == id) ≡ b → cond b (Some block) (m k) ≡ m k
-    by_test true e = absurd (apart (is_equal k id e))
-    by_test false e = refl
-
-pub block_told : (m : ℕ → Option (List ℕ)) (id : ℕ) (block : List ℕ) (k : ℕ) → IsSome (m k) → IsSome (with_block id block m k)
-block_told m id block k some = by_test (k == id)
-  where
-    by_test : (b : Bool) → IsSome (cond b (Some block) (m k))
-    by_test true = refl
-    by_test false = some
-
 -- what isn't in a list isn't one of it
 not_of : (xs : List ℕ) (k id : ℕ) → Has xs k → times id xs ≡ 0 → k ≢ id
 not_of xs k id has none e = let some : 0 < times id xs = subst (Has xs) e has in omega (arith, some, none)
@@ -88,13 +71,6 @@ not_of xs k id has none e = let some : 0 < times id xs = subst (Has xs) e has in
 module _ (v : Room) (m : ℕ → Option (List ℕ)) (id : ℕ) (block : List ℕ) (out : IsOutside v id) where
   abbrev map : ℕ → Option (List ℕ)
   map = with_block id block m
-
-  -- no block with bits was written
-  pub bits_stay : (b : ℕ) → per_block v * (b - 1) < v.blocks → map b ≡ m b
-  bits_stay b low = block_other m id block b (λ e.
-      let here : per_block v * (id - 1) < v.blocks = subst (λ (k : ℕ). per_block v * (k - 1) < v.blocks) e low in
-      let far : v.blocks ≤ per_block v * (id - 1) = out in
-      omega (arith, here, far))
 
   -- a stream without the inode among its blocks
   module _ (o : Origin) (long : ℕ) (held : Held o v long m) (apart : times id (whole_at o.sizes (contents m) o.id) ≡ 0) where
@@ -120,10 +96,10 @@ module _ (v : Room) (m : ℕ → Option (List ℕ)) (id : ℕ) (block : List ℕ
           sound = subst (HasLevels o.sizes) (sym levels) held.owns.stands.sound;
         };
         once = λ k. subst (λ (x : Levels). times k ((o.id ∷ arrays_of o.sizes x) ++ places_of o.sizes x) ≤ 1) (sym levels) (held.owns.once k);
-        taken = λ k has. free_same v m map bits_stay k ∙ held.owns.taken k (mine k has);
+        taken = λ k has. free_same v m map (bits_stay v m id block out) k ∙ held.owns.taken k (mine k has);
         outside = λ k has. held.owns.outside k (mine k has);
-        bits = λ k low. free_same v m map bits_stay k ∙ held.owns.bits k low;
-        fits = fits_same v m map bits_stay held.owns.fits;
+        bits = λ k low. free_same v m map (bits_stay v m id block out) k ∙ held.owns.bits k low;
+        fits = fits_same v m map (bits_stay v m id block out) held.owns.fits;
       };
       told = λ k has.
           let before : Has (places_at o.sizes (contents m) o.id) k = subst (λ (x : Levels). Has (places_of o.sizes x) k) levels has in

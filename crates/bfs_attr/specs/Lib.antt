@@ -1,4 +1,3 @@
-pub mod Sites
 pub mod Bearers
 pub mod SmallData
 pub mod Directories
@@ -7,4 +6,3 @@ pub mod Laws
 pub mod Changed
 pub mod Written
 pub mod Made
-pub mod Filled

@@ -9,10 +9,10 @@ ghost use Rattle.bfs_maps.specs.Refused.{HasReadCause, IsUndone};
 ghost use Rattle.bfs_attr.specs.Bearers.{volume_at, bearer_of, HasAttributes, CanRead, attributes_at, entries_at, shown};
 ghost use Rattle.bfs_attr.specs.Refused.{IsAttributeFault};
 
-use crate::inode::Site;
 use crate::reading::{attribute_of, rows_of};
 use crate::rows::{AttrItem, AttrRows};
 use bfs_bitmap::Bitmap;
+use bfs_make::Site;
 use bfs_stream_pages::MapFault;
 use bfs_super::Super;
 use bfs_txn::Edits;

@@ -16,8 +16,9 @@ ghost use Rattle.bfs_attr.specs.Changed.{Holds, IsPutInSmall, IsTakenFromSmall};
 ghost use Rattle.bfs_attr.specs.Written.{IsPutInto, IsTakenFrom};
 
 use crate::area::{put_small, take_small};
-use crate::inode::{Site, blocked, damaged, read_block};
+use crate::inode::{blocked, damaged, read_block};
 use bfs_inode::SMALL_DATA;
+use bfs_make::Site;
 use bfs_node::TreeFault;
 use bfs_smalldata::list_end;
 use bfs_stream_pages::MapFault;

@@ -16,10 +16,11 @@ ghost use Rattle.bfs_sound.specs.Inodes.{is_proper};
 ghost use Rattle.bfs_attr.specs.Bearers.{volume_at};
 ghost use Rattle.bfs_attr.specs.Directories.{IsDirectoryOf, AreInodes, inode_rows, inodes_among, AreBelow, IsPushed, IsShort};
 ghost use Rattle.bfs_attr.specs.Refused.{IsDirectoryFault, IsFaultOf};
-ghost use Rattle.bfs_attr.specs.Sites.{stream_in};
+ghost use Rattle.bfs_make.specs.Sites.{stream_in};
 
-use crate::inode::{Site, damaged};
+use crate::inode::damaged;
 use bfs_bytes::{Run, run_at};
+use bfs_make::Site;
 use bfs_maps::{TreeAt, rows_from};
 use bfs_node::{KeyKind, TreeFault};
 use bfs_range::{KeyBytes, Ranged, RangedRow};

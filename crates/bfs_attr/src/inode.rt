@@ -9,22 +9,14 @@ ghost use Rattle.bfs_stream.specs.Places.{places_at};
 ghost use Rattle.bfs_stream.specs.Scans.{IsDamage};
 ghost use Rattle.bfs_stream.specs.Sizes.{sizes_of};
 ghost use Rattle.bfs_stream.specs.Told.{contents, AreTold, Stands};
-ghost use Rattle.bfs_attr.specs.Sites.{stream_in};
+ghost use Rattle.bfs_make.specs.Sites.{stream_in};
 
 use bfs_inode::InodeView;
+use bfs_make::{Site, has_long_blocks};
 use bfs_node::TreeFault;
 use bfs_stream::{GrowFault, Stream, StreamFault};
 use bfs_stream_pages::MapFault;
-use bfs_super::Super;
 use bfs_txn::{BlockFault, Blocks};
-use std::alloc::Global;
-
-/// A volume that is read: its superblock, and what memory is taken from.
-#[derive(Clone, Copy)]
-pub struct Site {
-    pub alloc: Global,
-    pub sup: Super,
-}
 
 /// A block could not be had.
 pub(crate) fn blocked(fault: BlockFault) -> MapFault
@@ -38,22 +30,6 @@ pub(crate) fn damaged(block: u64) -> MapFault
     ensures { result ≡ TreeFault.Pages (GrowFault.Block (BlockFault.Damaged block)) }
 {
     blocked(BlockFault::Damaged { block })
-}
-
-/// A block of a volume has at least 1,024 bytes.
-pub(crate) fn has_long_blocks(sup: Super)
-    requires { IsValid sup }
-    ensures { 1024 ≤ sup.block_size }
-{
-    let _ = sup;
-}
-
-/// A block of a volume has at most 8,192 bytes.
-pub(crate) fn has_short_blocks(sup: Super)
-    requires { IsValid sup }
-    ensures { sup.block_size ≤ 8192 }
-{
-    let _ = sup;
 }
 
 /// The bytes of a block.

@@ -21,14 +21,15 @@ ghost use Rattle.bfs_sound.specs.Owners.{In};
 ghost use Rattle.bfs_attr.specs.Bearers.{volume_at, bearer_of, HasAttributes, CanRead, entries_at, shown, value_at};
 ghost use Rattle.bfs_attr.specs.Directories.{AreInodes, directory_in, kind_row, AreThere};
 ghost use Rattle.bfs_attr.specs.Refused.{IsDirectoryFault, IsAttributeFault, IsNoPage};
-ghost use Rattle.bfs_attr.specs.Sites.{stream_in};
+ghost use Rattle.bfs_make.specs.Sites.{stream_in};
 ghost use Rattle.bfs_attr.specs.SmallData.{item_rows};
 
 use crate::directory::{Directory, InodeRow, directory_of, named_inodes};
-use crate::inode::{Site, blocked, damaged, read_block, size_in, stream_bytes};
+use crate::inode::{blocked, damaged, read_block, size_in, stream_bytes};
 use crate::rows::{AttrItem, AttrRows};
 use crate::small::{Small, small_attribute, small_rows};
 use bfs_inode::{InodeView, SMALL_DATA};
+use bfs_make::Site;
 use bfs_node::TreeFault;
 use bfs_smalldata::list_end;
 use bfs_stream_pages::MapFault;

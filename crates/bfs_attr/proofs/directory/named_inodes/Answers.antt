@@ -11,7 +11,7 @@ use Rattle.bfs_range.specs.declared.ranged.RangedRow.{RangedRow}
 use Rattle.bfs_values.specs.Rows.{rows_in}
 use Rattle.bfs_sound.specs.Inodes.{is_proper}
 use Rattle.bfs_attr.specs.Directories.{IsInodeRow, AreBelow, inode_rows, inodes_among}
-use Rattle.bfs_attr.specs.Sites.{stream_in}
+use Rattle.bfs_make.specs.Sites.{stream_in}
 use Rattle.bfs_attr.proofs.Listed.{found_inodes, still_inodes, below_among, short_undone}
 use Rattle.bfs_attr.proofs.Tops.{few_blocks}
 use Rattle.bfs_attr.proofs.directory.named_inodes.Goals as goal

@@ -3,7 +3,7 @@ use Rattle.bfs_txn.specs.Faults.{AreLater}
 use Rattle.bfs_stream.specs.Places.{places_at}
 use Rattle.bfs_stream.specs.Sizes.{sizes_of}
 use Rattle.bfs_stream.specs.Told.{contents, AreTold, Stands}
-use Rattle.bfs_attr.specs.Sites.{stream_in}
+use Rattle.bfs_make.specs.Sites.{stream_in}
 use Rattle.bfs_attr.proofs.Pieces.{IsPartly}
 use Rattle.bfs_attr.proofs.inode.stream_bytes.Given as goal
 

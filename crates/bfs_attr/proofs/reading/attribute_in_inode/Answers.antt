@@ -5,7 +5,7 @@ use Rattle.bfs_super.specs.Geometry.{geometry_of}
 use Rattle.bfs_stream.specs.Told.{contents}
 use Rattle.bfs_maps.specs.Refused.{IsUndone}
 use Rattle.bfs_maps.proofs.Sized.{size_here}
-use Rattle.bfs_attr.specs.Sites.{stream_in}
+use Rattle.bfs_make.specs.Sites.{stream_in}
 use Rattle.bfs_attr.proofs.Tops.{room_of, content_is, attribute_is}
 use Rattle.bfs_attr.proofs.reading.attribute_in_inode.Goals as goal
 

@@ -14,7 +14,7 @@ use Rattle.bfs_sound.specs.Attributes.{attribute_at}
 use Rattle.bfs_sound.specs.Inodes.{is_proper}
 use Rattle.bfs_attr.specs.Bearers.{volume_at}
 use Rattle.bfs_attr.specs.Directories.{inode_rows}
-use Rattle.bfs_attr.specs.Sites.{stream_in}
+use Rattle.bfs_make.specs.Sites.{stream_in}
 use Rattle.bfs_attr.specs.declared.directory.InodeRow.{InodeRow}
 use Rattle.bfs_attr.proofs.Finds.{first_of, first_none, first_is, first_below, first_in, behind_is}
 use Rattle.bfs_attr.proofs.reading.attribute_named.Goals as goal

@@ -9,7 +9,7 @@ use Rattle.bfs_tree.specs.declared.rows.AttributeRow.{AttributeRow}
 use Rattle.bfs_sound.specs.Inodes.{is_proper}
 use Rattle.bfs_attr.specs.Bearers.{volume_at}
 use Rattle.bfs_attr.specs.Directories.{inode_rows, kind_row, AreThere}
-use Rattle.bfs_attr.specs.Sites.{stream_in}
+use Rattle.bfs_make.specs.Sites.{stream_in}
 use Rattle.bfs_attr.proofs.Listed.{all_between, rows_there, kinds_are}
 use Rattle.bfs_attr.proofs.reading.rows_with.Goals as goal
 

@@ -1,118 +1,25 @@
-use Rattle.std.proofs.Common.{rules, ◌≡◌, ◌∙◌, List, inl, inr, ℕ, ℤ, pos, [], sym, ap, subst, arith, length, max, to_z, of_z}
+use Rattle.std.proofs.Common.{rules, ◌≡◌, ◌∙◌, ℤ, ap, subst, to_z, of_z}
+use Rattle.std.specs.Prelude.{IfOk}
 use Rattle.std.specs.Int.{w64}
-use Rattle.bfs_inode.specs.Inode.{Stream}
-use Rattle.bfs_super.specs.Conditions.{ceil}
-use Rattle.bfs_stream.specs.Faults.{IsGrowFault}
-use Rattle.bfs_stream.specs.Grown.{Owns}
-use Rattle.bfs_stream.specs.Places.{places_at, fields}
-use Rattle.bfs_stream.specs.Sizes.{sizes_of, first_block}
-use Rattle.bfs_stream.specs.Told.{contents}
-use Rattle.bfs_stream.proofs.Stops.{cause_wider}
-use Rattle.bfs_stream.proofs.Writes.{later_none}
-use Rattle.bfs_maps.specs.Mapped.{StreamNow}
-use Rattle.bfs_attr.specs.Made.{HasMade, HasStored, IsAttributeInode, attribute_mode, attribute_flags}
-use Rattle.bfs_attr.specs.declared.making.NewInode.{NewInode}
-use Rattle.std.specs.Prelude.{IfSome, Some, Option}
-use Rattle.bfs_super.specs.Geometry.{geometry_of}
-use Rattle.bfs_txn.specs.Told.{AreSized}
-use Rattle.bfs_stream_pages.specs.GoesLaws.{sized_of}
-use Rattle.bfs_attr.specs.Bearers.{volume_at}
-use Rattle.bfs_attr.proofs.Owned.{attribute_inode_is}
-use Rattle.bfs_attr.proofs.Grows.{has_stored_inode, made_empty}
+use Rattle.bfs_stream.specs.Sizes.{sizes_of}
+use Rattle.bfs_make.specs.Made.{formed_at, HasStored}
+use Rattle.bfs_make.specs.declared.making.InodeForm.{InodeForm}
+use Rattle.bfs_attr.specs.Made.{attribute_form}
+use Rattle.bfs_attr.proofs.Owned.{attribute_stored}
 use Rattle.bfs_attr.proofs.storing.store_attribute.Goals as goal
 
-pub write_stream-requires-clause-inside : goal.write_stream-requires-clause-inside
-write_stream-requires-clause-inside g c =
-    let at = c.run_start.ensures in
-    let inside = c.in-Ok.ensures.inside.inside in
-    let one = c.in-Ok.ensures.one in
-    omega (arith, at, inside, one)
-
-pub returns-in-Ok-write_stream-clause-stored : goal.returns-in-Ok-write_stream-clause-stored
-returns-in-Ok-write_stream-clause-stored g c m is has =
-    let s = sizes_of c.args.site.sup in
-    let v = c.args.bitmap.now in
-    let now = c.new_attribute.new.bitmap in
-    let later = c.write_stream.new.bitmap in
-    let bytes = c.args.bytes.now in
-    let told1 = g.E.Blocks.told c.new_attribute.new.edits in
-    let told2 = g.E.Blocks.told c.write_stream.new.edits in
-    let old = g.E.Blocks.changed c.args.edits.now in
-    let mid = g.E.Blocks.changed c.new_attribute.new.edits in
-    let new = g.E.Blocks.changed c.write_stream.new.edits in
-    let n : NewInode = record { address = c.in-Ok.address; parent = c.args.parent; mode = attribute_mode; flags = attribute_flags; kind = c.args.kind; stamp = c.args.stamp } in
+pub returns-clause-stored : goal.returns-clause-stored
+returns-clause-stored g c m is has =
     let same : to_z w64 (of_z w64 c.args.stamp) ≡ c.args.stamp = search rules in
-    let made : HasMade s v now m n told1 old mid =
-    subst (λ (z : ℤ). HasMade s v now m (record { address = c.in-Ok.address; parent = c.args.parent; mode = attribute_mode; flags = attribute_flags; kind = c.args.kind; stamp = z }) told1 old mid) same (c.in-Ok.ensures.made m is has) in
-    let at = c.run_start.ensures in
-    let owns : Owns (record { id = c.run_start.result; sizes = s }) now [] made.map = subst (λ (k : ℕ). Owns (record { id = k; sizes = s }) now [] made.map) (sym at) made.stream.owns in
-    let empty : places_at s (contents made.map) c.run_start.result ≡ [] = subst (λ (k : ℕ). places_at s (contents made.map) k ≡ []) (sym at) (made_empty s v now m n told1 old mid made) in
-    let no_size : (fields s (contents made.map) c.run_start.result).size ≡ pos 0 = subst (λ (k : ℕ). (fields s (contents made.map) k).size ≡ pos 0) (sym at) (ap (λ (t : Stream). t.size) made.inode.stream) in
-    let stream : StreamNow (record { id = first_block s n.address; sizes = s }) now later made.map (λ all. all ≡ bytes) told2 mid new =
-    subst (λ (k : ℕ). StreamNow (record { id = k; sizes = s }) now later made.map (λ all. all ≡ bytes) told2 mid new) at (c.in-Ok-write_stream.ensures.written made.map made.is owns empty no_size) in
-    has_stored_inode s v now later m n bytes told1 told2 old mid new has made stream
+    let form_is : c.attribute_inode.result ≡ attribute_form c.args.parent c.args.kind c.args.stamp = c.attribute_inode.ensures ∙ ap (λ (z : ℤ). attribute_form c.args.parent c.args.kind z) same in
+    subst (λ (f : InodeForm). IfOk c.store.result (λ run. HasStored (sizes_of c.args.site.sup) c.args.bitmap.now c.store.new.bitmap m (formed_at run f) c.args.bytes.now (g.E.Blocks.told c.store.new.edits) (g.E.Blocks.changed c.args.edits.now) (g.E.Blocks.changed c.store.new.edits))) form_is
+    (c.store.ensures.stored m is has)
 
-pub returns-in-Ok-write_stream-clause-attribute : goal.returns-in-Ok-write_stream-clause-attribute
-returns-in-Ok-write_stream-clause-attribute g c m is has =
-    let s = sizes_of c.args.site.sup in
-    let v = c.args.bitmap.now in
-    let now = c.new_attribute.new.bitmap in
-    let later = c.write_stream.new.bitmap in
-    let bytes = c.args.bytes.now in
-    let told1 = g.E.Blocks.told c.new_attribute.new.edits in
-    let told2 = g.E.Blocks.told c.write_stream.new.edits in
-    let old = g.E.Blocks.changed c.args.edits.now in
-    let mid = g.E.Blocks.changed c.new_attribute.new.edits in
-    let new = g.E.Blocks.changed c.write_stream.new.edits in
-    let n : NewInode = record { address = c.in-Ok.address; parent = c.args.parent; mode = attribute_mode; flags = attribute_flags; kind = c.args.kind; stamp = c.args.stamp } in
+pub returns-clause-attribute : goal.returns-clause-attribute
+returns-clause-attribute g c m is has =
     let same : to_z w64 (of_z w64 c.args.stamp) ≡ c.args.stamp = search rules in
-    let made : HasMade s v now m n told1 old mid =
-    subst (λ (z : ℤ). HasMade s v now m (record { address = c.in-Ok.address; parent = c.args.parent; mode = attribute_mode; flags = attribute_flags; kind = c.args.kind; stamp = z }) told1 old mid) same (c.in-Ok.ensures.made m is has) in
-    let at = c.run_start.ensures in
-    let owns : Owns (record { id = c.run_start.result; sizes = s }) now [] made.map = subst (λ (k : ℕ). Owns (record { id = k; sizes = s }) now [] made.map) (sym at) made.stream.owns in
-    let empty : places_at s (contents made.map) c.run_start.result ≡ [] = subst (λ (k : ℕ). places_at s (contents made.map) k ≡ []) (sym at) (made_empty s v now m n told1 old mid made) in
-    let no_size : (fields s (contents made.map) c.run_start.result).size ≡ pos 0 = subst (λ (k : ℕ). (fields s (contents made.map) k).size ≡ pos 0) (sym at) (ap (λ (t : Stream). t.size) made.inode.stream) in
-    let stream : StreamNow (record { id = first_block s n.address; sizes = s }) now later made.map (λ all. all ≡ bytes) told2 mid new =
-    subst (λ (k : ℕ). StreamNow (record { id = k; sizes = s }) now later made.map (λ all. all ≡ bytes) told2 mid new) at (c.in-Ok-write_stream.ensures.written made.map made.is owns empty no_size) in
-    let stored : HasStored s v later m n bytes told2 old new = has_stored_inode s v now later m n bytes told1 told2 old mid new has made stream in
-    let sized : AreSized c.args.site.sup.block_size (Some stored.map) =
-    sized_of c.args.site.sup.block_size (g.E.Blocks.size c.write_stream.new.edits) told2 stored.map (c.in-Ok-write_stream.ensures.size ∙ c.in-Ok.ensures.size ∙ c.requires.size) stored.is (g.met.E.Blocks.sized c.write_stream.new.edits) in
-    subst (λ (o : Option (ℕ → Option (List ℕ))). IfSome o (λ map. IsAttributeInode (volume_at (geometry_of c.args.site.sup) map) (first_block s c.in-Ok.address) (record { code = c.args.kind; bytes = bytes }))) (sym stored.is)
-    (attribute_inode_is c.args.site.sup v later m c.in-Ok.address c.args.parent c.args.kind c.args.stamp bytes told2 old new stored c.in-Ok.ensures.inside c.in-Ok.ensures.one sized)
-
-pub returns-in-Err-clause-faults : goal.returns-in-Err-clause-faults
-returns-in-Err-clause-faults g c m is has = inl (c.in-Err.ensures.no_run m is has)
-
-pub returns-in-Err-write_stream-clause-faults : goal.returns-in-Err-write_stream-clause-faults
-returns-in-Err-write_stream-clause-faults g c m is has =
-    let s = sizes_of c.args.site.sup in
-    let v = c.args.bitmap.now in
-    let now = c.new_attribute.new.bitmap in
-    let told1 = g.E.Blocks.told c.new_attribute.new.edits in
-    let old = g.E.Blocks.changed c.args.edits.now in
-    let mid = g.E.Blocks.changed c.new_attribute.new.edits in
-    let n : NewInode = record { address = c.in-Ok.address; parent = c.args.parent; mode = attribute_mode; flags = attribute_flags; kind = c.args.kind; stamp = c.args.stamp } in
-    let same : to_z w64 (of_z w64 c.args.stamp) ≡ c.args.stamp = search rules in
-    let made : HasMade s v now m n told1 old mid =
-    subst (λ (z : ℤ). HasMade s v now m (record { address = c.in-Ok.address; parent = c.args.parent; mode = attribute_mode; flags = attribute_flags; kind = c.args.kind; stamp = z }) told1 old mid) same (c.in-Ok.ensures.made m is has) in
-    let at = c.run_start.ensures in
-    let owns : Owns (record { id = c.run_start.result; sizes = s }) now [] made.map = subst (λ (k : ℕ). Owns (record { id = k; sizes = s }) now [] made.map) (sym at) made.stream.owns in
-    let empty : places_at s (contents made.map) c.run_start.result ≡ [] = subst (λ (k : ℕ). places_at s (contents made.map) k ≡ []) (sym at) (made_empty s v now m n told1 old mid made) in
-    let no_size : (fields s (contents made.map) c.run_start.result).size ≡ pos 0 = subst (λ (k : ℕ). (fields s (contents made.map) k).size ≡ pos 0) (sym at) (ap (λ (t : Stream). t.size) made.inode.stream) in
-    inr (
-      first_block s n.address,
-      now,
-      made.map,
-      made.stream,
-      subst (λ (k : ℕ). IsGrowFault (record { id = k; sizes = s }) now made.map (ceil (length c.args.bytes.now) c.args.site.sup.block_size) c.in-Err-write_stream.fault) at (c.in-Err-write_stream.ensures.faults made.map made.is owns empty no_size),
-    )
-
-pub returns-in-Err-clause-cause : goal.returns-in-Err-clause-cause
-returns-in-Err-clause-cause g c =
-    let n = ceil (length c.args.bytes.now) c.args.site.sup.block_size in
-    cause_wider 1 (max 1 n) (g.E.Blocks.counts c.args.edits.now) (g.E.Blocks.counts c.args.edits.now) (g.E.Blocks.counts c.new_attribute.new.edits) c.in-Err.fault (omega arith) (later_none (g.E.Blocks.counts c.args.edits.now)) c.in-Err.ensures.cause
-
-pub returns-in-Err-write_stream-clause-cause : goal.returns-in-Err-write_stream-clause-cause
-returns-in-Err-write_stream-clause-cause g c =
-    let n = ceil (length c.args.bytes.now) c.args.site.sup.block_size in
-    cause_wider (max 1 n) (max 1 n) (g.E.Blocks.counts c.args.edits.now) (g.E.Blocks.counts c.new_attribute.new.edits) (g.E.Blocks.counts c.write_stream.new.edits) c.in-Err-write_stream.fault (omega arith) c.in-Ok.ensures.later c.in-Err-write_stream.ensures.cause
+    let form_is : c.attribute_inode.result ≡ attribute_form c.args.parent c.args.kind c.args.stamp = c.attribute_inode.ensures ∙ ap (λ (z : ℤ). attribute_form c.args.parent c.args.kind z) same in
+    attribute_stored c.args.site.sup c.args.bitmap.now c.store.new.bitmap m c.args.parent c.args.kind c.args.stamp c.args.bytes.now (g.E.Blocks.told c.store.new.edits) (g.E.Blocks.changed c.args.edits.now) (g.E.Blocks.changed c.store.new.edits) (g.E.Blocks.size c.store.new.edits) c.store.result
+    (c.store.ensures.size ∙ c.requires.size) (g.met.E.Blocks.sized c.store.new.edits) c.store.ensures.inside c.store.ensures.one
+    (subst (λ (f : InodeForm). IfOk c.store.result (λ run. HasStored (sizes_of c.args.site.sup) c.args.bitmap.now c.store.new.bitmap m (formed_at run f) c.args.bytes.now (g.E.Blocks.told c.store.new.edits) (g.E.Blocks.changed c.args.edits.now) (g.E.Blocks.changed c.store.new.edits))) form_is
+    (c.store.ensures.stored m is has))

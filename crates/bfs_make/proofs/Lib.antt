@@ -1,0 +1,11 @@
+pub mod Written
+pub mod Zeros
+pub mod News
+pub mod Chunks
+pub mod Stored
+pub mod Grows
+pub mod NewTrees
+pub mod Places
+pub mod Emptying
+pub mod Stripping
+pub mod Gone

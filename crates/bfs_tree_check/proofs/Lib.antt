@@ -1,0 +1,11 @@
+pub mod Joined
+pub mod Marking
+pub mod Opens
+pub mod Halves
+pub mod Looking
+pub mod Freeing
+pub mod Neighbours
+pub mod Tops
+pub mod Surveying
+pub mod Rising
+pub mod Ascending

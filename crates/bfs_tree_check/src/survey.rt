@@ -1,0 +1,67 @@
+// All pages of a tree from the root down to its leaves.
+ghost use Rattle.std.specs.Prelude.{◌≡◌, ◌<◌, ◌/◌, ℕ, List, [], ◌∷◌, length, Some, IfOk, IfErr};
+ghost use Rattle.std.specs.List.{AllByRecursion};
+ghost use Rattle.bfs_base.specs.Lists.{times};
+ghost use Rattle.bfs_base.specs.Keys.{IsTreeKind};
+ghost use Rattle.bfs_txn.specs.Faults.{AreLater};
+ghost use Rattle.bfs_pages.specs.Answers.{IsChild};
+ghost use Rattle.bfs_pages.specs.Trees.{state_of};
+ghost use Rattle.bfs_walk.specs.Wrong.{IsWrong, IsWalkCause};
+ghost use Rattle.bfs_tree_check.specs.Levels.{AreInside};
+ghost use Rattle.bfs_tree_check.specs.Surveyed.{IsSurveyed};
+ghost use Rattle.bfs_tree_check.specs.Marked.{marked};
+
+use crate::{Item, look_at_leaves, lowest_level, places_of};
+use bfs_node::KeyKind;
+use bfs_txn::{Pages, Steps};
+use bfs_walk::WalkFault;
+use std::alloc::Global;
+use std::sync::ledger::Ledger;
+
+/// What a survey of a tree found: its lowest level, which has the leaves and the keys between them, and the leaves alone.
+#[derive(Debug, Drop)]
+pub struct Survey {
+    pub level: Vec<Item>,
+    pub leaves: Vec<u64>,
+}
+
+/// Looks at all pages of a tree from the root down to its leaves, and marks them.
+pub fn survey_tree<P: Pages, L: Ledger>(
+    alloc: Global,
+    pages: &mut P,
+    kind: KeyKind,
+    root: u64,
+    levels: u32,
+    marks: &mut [bool],
+    steps: &mut Steps<L>,
+) -> Result<Survey, WalkFault<P::Fault>>
+    requires kind { IsTreeKind kind }
+    requires root { IsChild (P.size pages.old) root }
+    requires small { P.size pages.old < 9223372036854775808 }
+    requires length { length marks.old ≡ P.size pages.old / 1024 }
+    ensures surveyed { (b : List ℕ) → P.told pages.old ≡ Some b → root ≡ (state_of kind b).root → levels ≡ (state_of kind b).levels → ((x : ℕ) → marked (P.size pages.old) marks.old x ≡ times x (0 ∷ [])) → IfOk result (λ s. IsSurveyed kind b s.level.items s.leaves.items (marked (P.size pages.old) marks.new)) }
+    ensures wrong { (b : List ℕ) → P.told pages.old ≡ Some b → root ≡ (state_of kind b).root → levels ≡ (state_of kind b).levels → ((x : ℕ) → marked (P.size pages.old) marks.old x ≡ times x (0 ∷ [])) → IfErr result (IsWrong kind b) }
+    ensures inside { IfOk result (λ s. AreInside (P.size pages.old) s.level.items) }
+    ensures leaves { IfOk result (λ s. AllByRecursion (IsChild (P.size pages.old)) s.leaves.items) }
+    ensures length { length marks.new ≡ length marks.old }
+    ensures cause { IfErr result (IsWalkCause (P.is_cause pages.old pages.new)) }
+    ensures told { P.told pages.new ≡ P.told pages.old }
+    ensures size { P.size pages.new ≡ P.size pages.old }
+    ensures counts { AreLater (P.counts pages.old) (P.counts pages.new) }
+    ensures frame { P.frame pages.new ≡ P.frame pages.old }
+    ensures goes_on { P.goes_on pages.old pages.new }
+    ensures is_read { P.is_read pages.old pages.new }
+{
+    let level = match lowest_level(alloc, pages, kind, root, levels, marks, steps) {
+        Ok(level) => level,
+        Err(fault) => return Err(fault),
+    };
+    let leaves = match places_of(alloc, &level) {
+        Ok(leaves) => leaves,
+        Err(_) => return Err(WalkFault::NoMemory),
+    };
+    match look_at_leaves(pages, kind, &leaves, marks, steps) {
+        Ok(()) => Ok(Survey { level, leaves }),
+        Err(fault) => Err(fault),
+    }
+}

@@ -1,0 +1,9 @@
+use Rattle.std.proofs.Common.{◌≤◌, subst, arith}
+use Rattle.bfs_claims.specs.Claims.{Claimed}
+use Rattle.bfs_claims.proofs.Claiming.{below_few}
+use Rattle.bfs_claims.proofs.claims.Claims.count.Goals as goal
+
+pub returns-clause-few : goal.returns-clause-few
+returns-clause-few c =
+    subst (λ (v : Claimed). c.self.inside.count ≤ v.blocks) c.self.view_is
+    (let a = c.self.invariant.counted in let b = below_few c.self.inside.bits.items c.self.inside.blocks in omega (arith, a, b))

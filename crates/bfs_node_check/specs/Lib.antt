@@ -1,0 +1,4 @@
+pub mod Roles
+pub mod Areas
+pub mod Inodes
+pub mod Names

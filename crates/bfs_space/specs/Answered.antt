@@ -15,28 +15,13 @@ use Rattle.bfs_tree.specs.declared.call.Call.{Call}
 use Rattle.bfs_tree.specs.declared.reply.Reply.{Reply}
 use Rattle.bfs_tree.specs.States.{State}
 use Rattle.bfs_tree.specs.Steps.{ByTree}
-use Rattle.bfs_tree.specs.Trees.{Tree, IsPlain}
+use Rattle.bfs_tree.specs.Trees.{Tree}
 use Rattle.bfs_device.specs.Layouts.{Layout, IsData, ring_count}
-use Rattle.bfs_shift.specs.Lists.{Lists, Agrees}
-use Rattle.bfs_moves.specs.Work.{IsAtWork}
 use Rattle.bfs_space.specs.Called.{IsCalled, is_changed}
 use Rattle.bfs_space.specs.declared.calling.CallFault.{CallFault}
 use Rattle.bfs_space.specs.declared.calling.CallFault.TheVariants as calling
 use Rattle.bfs_space.specs.declared.keep.Unkept.{Unkept}
 use Rattle.bfs_space.specs.declared.keep.Unkept.TheVariants.{Damaged, TooMany}
-
--- A volume stands for a plain tree whose lists agree with it, and no block is loose.
-pub record IsReady (g : Geometry) (v : Room) (m : ℕ → Option (List ℕ)) (tree : Tree) (lists : Lists) : Type 0 where
-  pub work : IsAtWork g v m tree lists []
-  pub agrees : Agrees tree lists
-  pub plain : IsPlain tree
-  pub root : tree.root ≡ g.root
-
--- for some tree
-pub record HasReady (g : Geometry) (v : Room) (m : ℕ → Option (List ℕ)) : Type 0 where
-  pub tree : Tree
-  pub lists : Lists
-  pub ready : IsReady g v m tree lists
 
 -- A call was answered: what is told now is what the call has made of the volume, and the answer and the tree since are those of the plain
 -- tree, in every state that has this tree.

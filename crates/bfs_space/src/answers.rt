@@ -8,7 +8,8 @@ ghost use Rattle.bfs_stream.specs.Grown.{IsOfVolume};
 ghost use Rattle.bfs_stream.specs.Sizes.{sizes_of};
 ghost use Rattle.bfs_tree.specs.Trees.{Tree};
 ghost use Rattle.bfs_shift.specs.Lists.{Lists};
-ghost use Rattle.bfs_space.specs.Answered.{IsReady, HasReady, IsAnswered, IsUnanswered, HasAnswerCause};
+ghost use Rattle.bfs_look.specs.Ready.{IsReady, HasReady};
+ghost use Rattle.bfs_space.specs.Answered.{IsAnswered, IsUnanswered, HasAnswerCause};
 
 use bfs_bitmap::Bitmap;
 use bfs_stream_pages::MapFault;

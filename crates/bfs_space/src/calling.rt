@@ -13,7 +13,8 @@ ghost use Rattle.bfs_device.specs.Layouts.{layout_of};
 ghost use Rattle.bfs_shift.specs.Lists.{Lists};
 ghost use Rattle.bfs_space.specs.Books.{MayBeSealed};
 ghost use Rattle.bfs_space.specs.Called.{is_changed};
-ghost use Rattle.bfs_space.specs.Answered.{IsReady, HasReady, IsAnswered, IsKept, AreFit, IsCallFault, HasCallCause};
+ghost use Rattle.bfs_look.specs.Ready.{IsReady, HasReady};
+ghost use Rattle.bfs_space.specs.Answered.{IsAnswered, IsKept, AreFit, IsCallFault, HasCallCause};
 
 use crate::keep::may_be_kept;
 use crate::{Answers, Unkept};

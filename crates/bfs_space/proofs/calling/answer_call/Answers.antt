@@ -5,7 +5,8 @@ use Rattle.bfs_txn.specs.Changed.{AreOfSize, over}
 use Rattle.bfs_device.specs.Layouts.{layout_of}
 use Rattle.bfs_space.specs.Books.{MayBeSealed}
 use Rattle.bfs_space.specs.Called.{is_changed}
-use Rattle.bfs_space.specs.Answered.{HasReady, IsReady, IsAnswered, IsKept}
+use Rattle.bfs_look.specs.Ready.{HasReady, IsReady}
+use Rattle.bfs_space.specs.Answered.{IsAnswered, IsKept}
 use Rattle.bfs_space.proofs.Fits.{kept_of, may_be_sealed, whole}
 use Rattle.bfs_space.proofs.calling.answer_call.Goals as goal
 

@@ -5,7 +5,8 @@ use Rattle.bfs_txn.specs.Changed.{over}
 use Rattle.bfs_txn.specs.Told.{Frame}
 use Rattle.bfs_device.specs.Layouts.{layout_of}
 use Rattle.bfs_space.specs.Called.{is_changed}
-use Rattle.bfs_space.specs.Answered.{HasReady, AreFit, IsAnswered}
+use Rattle.bfs_look.specs.Ready.{HasReady}
+use Rattle.bfs_space.specs.Answered.{AreFit, IsAnswered}
 use Rattle.bfs_space.proofs.Fits.{mapped, same_mark, kept_but}
 use Rattle.bfs_space.proofs.calling.answer_over.Goals as goal
 

@@ -1,0 +1,12 @@
+pub mod Blocks
+pub mod Few
+pub mod Climbing
+pub mod Children
+pub mod Replying
+pub mod Known
+pub mod Going
+pub mod Keyed
+pub mod Listed
+pub mod Claiming
+pub mod Linked
+pub mod Looked

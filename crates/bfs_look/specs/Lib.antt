@@ -1,0 +1,5 @@
+pub mod Ready
+pub mod Claims
+pub mod Climbs
+pub mod Names
+pub mod Infos

@@ -36,7 +36,11 @@ fn in_ring(blocks: usize) -> usize
 }
 
 /// Whether the blocks that a call changed, behind `mark` pairs of an open group, may go into a group.
-pub fn may_be_kept<B: Blocks>(overlay: &Overlay<'_, B>, sup: &Super, mark: usize) -> Result<(), Unkept>
+pub fn may_be_kept<B: Blocks>(
+    overlay: &Overlay<'_, B>,
+    sup: &Super,
+    mark: usize,
+) -> Result<(), Unkept>
     requires valid { IsValid sup.now }
     requires mark { mark ≤ length overlay.now.group.now }
     ensures ok { OnOk result (AreFit (layout_of sup.now) overlay.now.group.now mark) }

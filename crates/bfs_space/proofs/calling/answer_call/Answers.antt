@@ -20,7 +20,7 @@ returns-in-Ok-clause-kept g c = λ m tree lists told ready.
     let below : g.B.Blocks.told c.answer_over.new.overlay.under.now ≡ Some m = c.answer_over.ensures.told ∙ under in
     let same : to_z w64 (of_z w64 c.args.stamp) ≡ c.args.stamp = search rules in
     let first = subst (λ (z : ℤ). IsAnswered (geometry_of c.args.sup.now) c.args.bitmap.now c.answer_over.new.bitmap (over c.begin-overlay.result.group.now m) tree z c.args.call.now c.in-Ok.reply (option_map (over c.answer_over.new.overlay.group.now) (g.B.Blocks.told c.answer_over.new.overlay.under.now)) (is_changed c.begin-overlay.result.group.now) (is_changed c.answer_over.new.overlay.group.now)) same
-        (c.in-Ok.ensures.answered m tree lists under (subst (λ (ps : List (ℕ × List ℕ)). IsReady (geometry_of c.args.sup.now) c.args.bitmap.now (over ps m) tree lists) (sym c.begin-overlay.ensures.open_now) ready)) in
+    (c.in-Ok.ensures.answered m tree lists under (subst (λ (ps : List (ℕ × List ℕ)). IsReady (geometry_of c.args.sup.now) c.args.bitmap.now (over ps m) tree lists) (sym c.begin-overlay.ensures.open_now) ready)) in
     let answered = subst (λ (ps : List (ℕ × List ℕ)). IsAnswered (geometry_of c.args.sup.now) c.args.bitmap.now c.answer_over.new.bitmap (over ps m) tree c.args.stamp c.args.call.now c.in-Ok.reply (option_map (over c.answer_over.new.overlay.group.now) (g.B.Blocks.told c.answer_over.new.overlay.under.now)) (is_changed ps) (is_changed c.answer_over.new.overlay.group.now)) c.begin-overlay.ensures.open_now first in
     subst (λ (ps : List (ℕ × List ℕ)). IsKept (geometry_of c.args.sup.now) c.args.bitmap.now c.keep-in-Ok.new.self m c.args.group.now ps tree c.args.stamp c.args.call.now c.in-Ok.reply) (search rules)
     (kept_of (geometry_of c.args.sup.now) c.args.bitmap.now c.answer_over.new.bitmap c.keep-in-Ok.new.self m tree c.args.stamp c.args.call.now c.in-Ok.reply c.args.group.now c.answer_over.new.overlay.group.now c.keep.new.self.0 (g.B.Blocks.told c.answer_over.new.overlay.under.now) below c.keep.ensures.reads c.keep-in-Ok.ensures.given answered)
@@ -31,7 +31,7 @@ returns-in-Ok-clause-group g c =
     let size : g.B.Blocks.size c.keep.new.self.1.0 ≡ c.args.sup.now.block_size = ap g.B.Blocks.size c.keep.ensures.under ∙ c.answer_over.ensures.size ∙ ap g.B.Blocks.size c.begin-overlay.ensures.under_now ∙ c.requires.size in
     subst (λ (ps : List (ℕ × List ℕ)). MayBeSealed (layout_of c.args.sup.now) c.args.sup.now.block_size ps) (search rules)
     (may_be_sealed (layout_of c.args.sup.now) c.args.sup.now.block_size c.answer_over.new.overlay.mark c.args.group.now c.answer_over.new.overlay.group.now c.keep.new.self.0 c.requires.group (c.answer_over.ensures.open ∙ open_is) c.answer_over.new.overlay.layered.within c.in-Ok.ensures.fit
-        c.keep.ensures.reads c.keep.ensures.ascends (subst (λ (n : ℕ). AreOfSize n c.keep.new.self.0) size c.keep.ensures.sized) c.keep.ensures.len)
+    c.keep.ensures.reads c.keep.ensures.ascends (subst (λ (n : ℕ). AreOfSize n c.keep.new.self.0) size c.keep.ensures.sized) c.keep.ensures.len)
 
 pub returns-in-Err-clause-unanswered : goal.returns-in-Err-clause-unanswered
 returns-in-Err-clause-unanswered g c = λ m tree lists told ready.

@@ -24,7 +24,7 @@ pub returns-in-Ok-may_be_kept-clause-answered : goal.returns-in-Ok-may_be_kept-c
 returns-in-Ok-may_be_kept-clause-answered g c = λ m tree lists told ready.
     let same : to_z w64 (of_z w64 c.args.stamp) ≡ c.args.stamp = search rules in
     subst (λ (z : ℤ). IsAnswered (geometry_of c.args.sup.now) c.args.bitmap.now c.answer.new.bitmap (over c.args.overlay.now.group.now m) tree z c.args.call.now c.in-Ok.reply (option_map (over c.answer.new.edits.group.now) (g.B.Blocks.told c.answer.new.edits.under.now)) (is_changed c.args.overlay.now.group.now) (is_changed c.answer.new.edits.group.now)) same
-        (c.in-Ok.ensures.answered (over c.args.overlay.now.group.now m) tree lists (ap (option_map (over c.args.overlay.now.group.now)) told) ready)
+    (c.in-Ok.ensures.answered (over c.args.overlay.now.group.now m) tree lists (ap (option_map (over c.args.overlay.now.group.now)) told) ready)
 
 pub returns-in-Ok-may_be_kept-clause-fit : goal.returns-in-Ok-may_be_kept-clause-fit
 returns-in-Ok-may_be_kept-clause-fit g c =
@@ -35,7 +35,7 @@ returns-in-Ok-may_be_kept-clause-fit g c =
 pub returns-in-Err-may_be_kept-clause-unanswered : goal.returns-in-Err-may_be_kept-clause-unanswered
 returns-in-Err-may_be_kept-clause-unanswered g c = λ m tree lists told ready.
     kept_but c.args.sup.now c.args.bitmap.now c.answer.new.bitmap (over c.args.overlay.now.group.now m) tree _ c.args.call.now c.in-Ok.reply _ c.args.overlay.now.group.now c.answer.new.edits.group.now c.args.mark c.in-Err-may_be_kept.why c.requires.open
-        (c.in-Ok.ensures.answered (over c.args.overlay.now.group.now m) tree lists (ap (option_map (over c.args.overlay.now.group.now)) told) ready) c.in-Err-may_be_kept.ensures.err
+    (c.in-Ok.ensures.answered (over c.args.overlay.now.group.now m) tree lists (ap (option_map (over c.args.overlay.now.group.now)) told) ready) c.in-Err-may_be_kept.ensures.err
 
 pub returns-in-Err-clause-unanswered : goal.returns-in-Err-clause-unanswered
 returns-in-Err-clause-unanswered g c = λ m tree lists told ready. c.in-Err.ensures.unanswered (over c.args.overlay.now.group.now m) tree lists (ap (option_map (over c.args.overlay.now.group.now)) told) ready

@@ -15,3 +15,6 @@ pub use info::stat;
 pub use listing::list;
 pub use looking::lookup;
 pub use node::node_at;
+
+#[cfg(test)]
+mod tests;

@@ -7,7 +7,6 @@ use Rattle.std.proofs.lemmas.Nat.{div-mul-add, mod-mul-add}
 use Rattle.std.proofs.lemmas.Bool.{false≢true}
 use Rattle.bfs_txn.specs.Told.{AreOfBlock}
 use Rattle.bfs_bitmap.specs.Bits.{bit_of, is_clear}
-use Rattle.bfs_bitmap.specs.Runs.{marked}
 use Rattle.bfs_claims.specs.Claims.{Claimed, is_claimed}
 use Rattle.bfs_bitmap_check.specs.declared.fault.BitFault.{BitFault}
 use Rattle.bfs_bitmap_check.specs.declared.fault.BitFault.TheVariants.{Unset, Extra, Block}

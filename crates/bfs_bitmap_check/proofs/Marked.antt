@@ -1,7 +1,6 @@
 -- From bits to the marked blocks of a volume.
-use Rattle.std.proofs.Common.{◌≡◌, ◌≤◌, ◌<◌, ◌+◌, ◌-◌, ◌*◌, ◌/◌, ◌%◌, ◌^◌, ℕ, List, [], length, get_or, Bool, true, false, not, cond, ◌==◌, Option, Some, refl, sym, ap, ◌∙◌, subst, arith, inl, inr, ◌⊎◌}
-use Rattle.std.specs.Prelude.{IsSome, ◌↔◌, unwrap_or}
-use Rattle.std.specs.Int.{bit_at}
+use Rattle.std.proofs.Common.{◌≡◌, ◌≤◌, ◌<◌, ◌+◌, ◌-◌, ◌*◌, ◌/◌, ◌%◌, ℕ, List, [], Bool, true, false, not, cond, ◌==◌, Option, refl, sym, ap, ◌∙◌, subst, arith, inl, inr}
+use Rattle.std.specs.Prelude.{◌↔◌, unwrap_or}
 use Rattle.std.proofs.lemmas.Bool.{false≢true}
 use Rattle.std.proofs.lemmas.Nat.{le-div}
 use Rattle.bfs_base.specs.Lists.{times, Has}
@@ -20,8 +19,8 @@ use Rattle.bfs_sound.specs.Whole.{volume_of}
 use Rattle.bfs_claims.specs.Claims.{Claimed, is_claimed, AreClaimed}
 use Rattle.bfs_bitmap_check.specs.declared.fault.BitFault.{BitFault}
 use Rattle.bfs_bitmap_check.specs.declared.fault.BitFault.TheVariants.{Unset, Extra, Block}
-use Rattle.bfs_bitmap_check.specs.Bitmaps.{IsBitmapTold, is_set, AreSameIn, Differs, IsFirstIn}
-use Rattle.bfs_bitmap_check.specs.Marks.{AreMarkedBelow, IsWrongBit, IsMarkFault}
+use Rattle.bfs_bitmap_check.specs.Bitmaps.{IsBitmapTold, is_set, AreSameIn, IsFirstIn}
+use Rattle.bfs_bitmap_check.specs.Marks.{IsWrongBit, IsMarkFault}
 
 by_size : (n : ℕ) → IsBlockSize n → (0 < n) × (n ≤ 8192)
 by_size n (inl e) = (omega (arith, e), omega (arith, e))

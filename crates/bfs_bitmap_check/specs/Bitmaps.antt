@@ -1,5 +1,5 @@
 -- How a bitmap and what is claimed differ.
-use Rattle.std.specs.Prelude.{◌≡◌, ◌≤◌, ◌<◌, ◌+◌, ◌*◌, ℕ, List, length, Bool, true, false, not, ◌==◌, Option, Some, IsSome}
+use Rattle.std.specs.Prelude.{◌≡◌, ◌≤◌, ◌<◌, ◌+◌, ◌*◌, ℕ, List, Bool, true, false, not, ◌==◌, Option, IsSome}
 use Rattle.bfs_bitmap.specs.Bits.{is_clear}
 use Rattle.bfs_bitmap.specs.Runs.{marked}
 use Rattle.bfs_txn.specs.Faults.{Counts, IsCauseOf}

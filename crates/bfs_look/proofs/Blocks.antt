@@ -1,5 +1,5 @@
 -- A block has room for an inode; and the part of a list before the first byte that passes a test.
-use Rattle.std.proofs.Common.{◌≡◌, ◌≤◌, ◌≤ℤ◌, ◌⊎◌, inl, inr, ℕ, ℤ, pos, negsuc, List, Bool, length, take, Some, None, sym, subst, arith}
+use Rattle.std.proofs.Common.{◌≡◌, ◌≤◌, ◌≤ℤ◌, inl, inr, ℕ, ℤ, pos, negsuc, List, Bool, length, take, Some, None, sym, subst, arith}
 use Rattle.std.specs.Prelude.{position}
 use Rattle.std.specs.List.{before_first}
 use Rattle.std.proofs.lemmas.Int.{ints}

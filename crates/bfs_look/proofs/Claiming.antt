@@ -1,13 +1,11 @@
 -- What the inode of a node says.
-use Rattle.std.proofs.Common.{◌≡◌, ◌≢◌, ◌≤◌, ◌+◌, ◌-◌, ℕ, ℤ, pos, List, [], ◌∷◌, length, length-drop, take, drop, arith, refl, sym, ap, ◌∙◌, subst, Bool, true, false, cond, Option, Some, None}
+use Rattle.std.proofs.Common.{◌≡◌, ◌≢◌, ◌+◌, ◌-◌, ℕ, ℤ, pos, List, [], ◌∷◌, length, length-drop, take, drop, arith, refl, sym, ap, ◌∙◌, Bool, true, false, cond, Option, Some, None}
 use Rattle.std.specs.Prelude.{IfSome, IsSome, ◌==◌, ◌&&◌}
 use Rattle.std.specs.Option.{option_and_then}
 use Rattle.std.specs.Str.{bytes_eq}
 use Rattle.std.proofs.lemmas.List.{take_all}
 use Rattle.bfs_bytes.specs.Fields.{run_in}
-use Rattle.bfs_bytes.specs.declared.Run.{Run}
-use Rattle.bfs_inode.specs.Refusals.{Names, number_of}
-use Rattle.bfs_super.specs.declared.geometry.Geometry.{Geometry}
+use Rattle.bfs_inode.specs.Refusals.{Names}
 use Rattle.bfs_smalldata.specs.Items.{Item, items_of}
 use Rattle.bfs_smalldata.specs.Edits.{named, Finds}
 use Rattle.bfs_smalldata.specs.declared.item.Item as found

@@ -1,20 +1,19 @@
 -- The two ways between the root and a node, step by step.
-use Rattle.std.proofs.Common.{◌≡◌, ◌≢◌, ◌≤◌, ◌<◌, ◌-◌, ◌⊎◌, inl, inr, ℕ, zero, suc, pos, List, [], ◌∷◌, ◌++◌, length, take, refl, sym, ap, ◌∙◌, subst, arith, Bool, true, false, Option, Some, None}
+use Rattle.std.proofs.Common.{◌≡◌, ◌≢◌, ◌≤◌, ◌<◌, ◌-◌, ℕ, zero, suc, pos, List, [], ◌∷◌, ◌++◌, length, take, refl, sym, ap, ◌∙◌, subst, arith, Bool, true, false, Option, Some, None}
 use Rattle.std.specs.Prelude.{get_or}
 use Rattle.bfs_base.specs.declared.kind.KeyKind.TheVariants.{Text}
 use Rattle.bfs_super.specs.Geometry.{geometry_of}
 use Rattle.bfs_super.specs.declared.sup.Super.{Super}
 use Rattle.bfs_bitmap.specs.Runs.{Room}
 use Rattle.bfs_pages.specs.Maps.{assoc}
-use Rattle.bfs_tree.specs.declared.call.Kind.{Kind}
 use Rattle.bfs_tree.specs.declared.call.Kind.TheVariants.{Dir}
 use Rattle.bfs_tree.specs.Trees.{Node, Tree, IsNode, is_dir}
 use Rattle.bfs_maps.specs.NumberTrees.{IsNumberAt}
 use Rattle.bfs_shift.specs.Lists.{Lists}
 use Rattle.bfs_look.specs.Climbs.{Climbs}
 use Rattle.bfs_look.specs.Ready.{IsReady, HasNodeAt}
-use Rattle.bfs_look.proofs.Climbing.{climbs_more, climbs_last, take_one_more, take_whole, HasRootAbove, root_here, root_above}
-use Rattle.bfs_look.proofs.Known.{dir_is, root_within, node_above, root_there, row_node, row_child}
+use Rattle.bfs_look.proofs.Climbing.{climbs_more, climbs_last, take_one_more, HasRootAbove, root_here, root_above}
+use Rattle.bfs_look.proofs.Known.{dir_is, root_within, node_above, row_node, row_child}
 
 -- a walk up from a node has come to this node, past these names, and the root is within so many steps more
 pub record IsOnWay (tree : Tree) (id : ℕ) (names : List (List ℕ)) (left at : ℕ) : Type 0 where

@@ -1,5 +1,5 @@
 -- What is known of the nodes and directories of a volume between two calls.
-use Rattle.std.proofs.Common.{◌≡◌, ◌≢◌, ◌≤◌, ◌<◌, ◌^◌, ◌≤ℤ◌, ◌⊎◌, inl, inr, ℕ, ℤ, pos, negsuc, List, [], refl, sym, ap, ◌∙◌, subst, arith, Bool, true, false, Option, Some, None}
+use Rattle.std.proofs.Common.{◌≡◌, ◌≢◌, ◌≤◌, ◌<◌, ◌^◌, ◌≤ℤ◌, inl, inr, ℕ, ℤ, pos, negsuc, List, [], refl, sym, ap, subst, arith, true, false, Option, Some, None}
 use Rattle.std.specs.Prelude.{IsSome}
 use Rattle.std.specs.FinMap.{get, len}
 use Rattle.std.proofs.lemmas.Int.{ints}
@@ -9,18 +9,17 @@ use Rattle.bfs_super.specs.Geometry.{geometry_of}
 use Rattle.bfs_super.specs.declared.geometry.Geometry.{Geometry}
 use Rattle.bfs_super.specs.declared.sup.Super.{Super}
 use Rattle.bfs_bitmap.specs.Runs.{Room}
-use Rattle.bfs_node.specs.Page.{Row}
 use Rattle.bfs_pages.specs.Maps.{assoc}
 use Rattle.bfs_txn.specs.Told.{AreSized}
-use Rattle.bfs_stream.specs.Sizes.{Origin, sizes_of}
+use Rattle.bfs_stream.specs.Sizes.{sizes_of}
 use Rattle.bfs_stream.specs.Told.{contents}
 use Rattle.bfs_stream_pages.specs.GoesLaws.{readable}
 use Rattle.bfs_stream_pages.specs.Held.{stream_of}
 use Rattle.bfs_tree.specs.declared.call.Kind.{Kind}
 use Rattle.bfs_tree.specs.declared.call.Kind.TheVariants.{File, Dir, Link}
 use Rattle.bfs_tree.specs.Trees.{Node, Tree, IsNode, is_dir, is_link}
-use Rattle.bfs_maps.specs.Mapped.{HasHeld, HasReadable, IsMap}
-use Rattle.bfs_maps.specs.NumberTrees.{AreNumbers, IsNumberTree, IsNumberAt}
+use Rattle.bfs_maps.specs.Mapped.{HasHeld, HasReadable}
+use Rattle.bfs_maps.specs.NumberTrees.{AreNumbers, IsNumberTree}
 use Rattle.bfs_sound.specs.Volumes.{Volume}
 use Rattle.bfs_sound.specs.Listings.{IsRow}
 use Rattle.bfs_sound.specs.Nodes.{HasNode}

@@ -1,9 +1,9 @@
 -- The stream of a long link can be read, and the record of a node is what its inode says.
-use Rattle.std.proofs.Common.{◌≡◌, ◌≢◌, ◌≤◌, ◌<◌, ◌+◌, ◌*◌, ℕ, ℤ, pos, List, [], ◌∷◌, ◌++◌, length, take, drop, refl, sym, ap, ◌∙◌, subst, arith, Bool, true, false, cond, Option, Some, None}
-use Rattle.std.specs.Prelude.{IsSome, ◌&&◌, ◌==◌}
+use Rattle.std.proofs.Common.{◌≡◌, ◌≤◌, ◌<◌, ◌+◌, ◌*◌, ℕ, List, [], ◌++◌, length, take, refl, sym, ap, ◌∙◌, subst, arith, Bool, true, false, cond, Option, Some}
+use Rattle.std.specs.Prelude.{◌&&◌}
 use Rattle.std.specs.List.{flat_map}
 use Rattle.std.proofs.lemmas.List.{length-take-le}
-use Rattle.bfs_base.specs.Lists.{times, Has}
+use Rattle.bfs_base.specs.Lists.{times}
 use Rattle.bfs_super.specs.Conditions.{IsValid, natural}
 use Rattle.bfs_super.specs.Geometry.{geometry_of}
 use Rattle.bfs_super.specs.declared.geometry.Geometry.{Geometry}
@@ -11,21 +11,19 @@ use Rattle.bfs_super.specs.declared.sup.Super.{Super}
 use Rattle.bfs_bitmap.specs.Runs.{Room}
 use Rattle.bfs_inode.specs.Inode.{stream_at}
 use Rattle.bfs_txn.specs.Told.{AreSized}
-use Rattle.bfs_stream.specs.Grown.{Owns}
-use Rattle.bfs_stream.specs.Places.{bytes_at, fields, places_at, whole_at, HasStream}
+use Rattle.bfs_stream.specs.Places.{places_at}
 use Rattle.bfs_stream.specs.Sizes.{Origin, sizes_of}
 use Rattle.bfs_stream.specs.Told.{contents, AreTold, Stands}
 use Rattle.bfs_stream.proofs.Doubles.{times-append}
 use Rattle.bfs_stream_pages.specs.GoesLaws.{readable, reads_stream, reads_fits, reads_all}
-use Rattle.bfs_stream_pages.specs.Held.{IsReadable, stream_of}
+use Rattle.bfs_stream_pages.specs.Held.{IsReadable}
 use Rattle.bfs_tree.specs.Answers.{info_of}
 use Rattle.bfs_tree.specs.declared.call.Kind.{Kind}
 use Rattle.bfs_tree.specs.declared.call.Kind.TheVariants.{File, Dir, Link}
-use Rattle.bfs_tree.specs.declared.reply.Info.{Info}
 use Rattle.bfs_tree.specs.Trees.{Node, Tree, IsNode, is_link}
 use Rattle.bfs_maps.specs.Mapped.{HasHeld}
-use Rattle.bfs_sound.specs.Volumes.{Volume, sizes}
-use Rattle.bfs_sound.specs.Inodes.{is_short, inode_blocks, content}
+use Rattle.bfs_sound.specs.Volumes.{Volume}
+use Rattle.bfs_sound.specs.Inodes.{is_short, inode_blocks}
 use Rattle.bfs_sound.specs.Nodes.{HasContent, HasTarget}
 use Rattle.bfs_sound.specs.Owners.{Owner, has_no_stream, owners, reach, In}
 use Rattle.bfs_sound.proofs.Nodes.{own_metadata, other_blocks, node_metadata}

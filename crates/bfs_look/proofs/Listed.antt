@@ -1,5 +1,5 @@
 -- What a directory's rows list.
-use Rattle.std.proofs.Common.{◌≡◌, ◌≢◌, ◌⊎◌, inl, inr, ℕ, ℤ, pos, List, [], ◌∷◌, ◌++◌, refl, sym, ap, append-nil, ◌∙◌, subst, Bool, true, false, not, Option, Some, None, map}
+use Rattle.std.proofs.Common.{◌≡◌, ◌≢◌, inl, inr, ℕ, ℤ, pos, List, [], ◌∷◌, ◌++◌, refl, sym, ap, append-nil, ◌∙◌, subst, Bool, true, false, not, Option, Some, None}
 use Rattle.std.specs.Prelude.{◌||◌, codes, if◌then◌else◌}
 use Rattle.std.specs.List.{flat_map}
 use Rattle.std.specs.Str.{bytes_eq}
@@ -17,7 +17,6 @@ use Rattle.bfs_tree.specs.Names.{is_bad_name}
 use Rattle.bfs_tree.specs.Trees.{Node, Tree, IsNode, child}
 use Rattle.bfs_tree.specs.declared.call.Kind.{Kind}
 use Rattle.bfs_tree.specs.declared.call.Kind.TheVariants.{Dir}
-use Rattle.bfs_tree.proofs.Members.{In}
 use Rattle.bfs_dir.specs.Directories.{listed}
 use Rattle.bfs_dir.specs.declared.rows.DirRow.{DirRow}
 use Rattle.bfs_sound.specs.Inodes.{content, is_proper}

@@ -1,5 +1,5 @@
 -- The answers to look-ups and listings, by what was read of a directory.
-use Rattle.std.proofs.Common.{◌≡◌, ℕ, pos, List, refl, sym, ap, ◌∙◌, subst, Bool, true, false, Option, Some, None}
+use Rattle.std.proofs.Common.{◌≡◌, ℕ, pos, List, sym, ap, ◌∙◌, subst, true, false, Option, Some, None}
 use Rattle.std.specs.List.{flat_map}
 use Rattle.std.specs.FinMap.{get}
 use Rattle.bfs_base.specs.declared.kind.KeyKind.TheVariants.{Text}

@@ -7,9 +7,8 @@ use Rattle.bfs_tree.specs.Answers.{info_of, names_in, rows_of_attributes, rows_o
 use Rattle.bfs_tree.specs.Listings.{kind_of_key, rows_between}
 use Rattle.bfs_tree.specs.Refusals.{own_refusal, first, at_node, at_child, at_index, is_kind}
 use Rattle.bfs_tree.specs.States.{State}
-use Rattle.bfs_tree.specs.Steps.{Reads, ByTree, refused, answered}
+use Rattle.bfs_tree.specs.Steps.{Reads, refused, answered}
 use Rattle.bfs_tree.specs.Trees.{Node, Attribute, IsNode, child, is_dir, is_link}
-use Rattle.bfs_tree.specs.declared.call.Call.{Call}
 use Rattle.bfs_tree.specs.declared.call.Call.TheVariants as calls
 use Rattle.bfs_tree.specs.declared.reply.Reply.{Reply}
 use Rattle.bfs_tree.specs.declared.reply.Reply.TheVariants as replies

@@ -1,4 +1,4 @@
-use Rattle.std.proofs.Common.{◌≡◌, ◌≤◌, ◌<◌, ◌+◌, ◌*◌, ℕ, length, min, arith, sym, true, false}
+use Rattle.std.proofs.Common.{◌*◌, ℕ, length, arith, sym, true, false}
 use Rattle.bfs_bitmap_check.proofs.Comparing.{same_in, differs, part_is}
 use Rattle.bfs_bitmap_check.proofs.bitmap.compare.Goals as goal
 

@@ -1,4 +1,4 @@
-use Rattle.std.proofs.Common.{◌≡◌, ◌∙◌, ◌+◌, ◌*◌, ◌<◌, ℕ, List, Option, Some, length, subst, sym, arith}
+use Rattle.std.proofs.Common.{◌≡◌, ◌∙◌, ◌+◌, ◌*◌, ◌<◌, ℕ, length, subst, arith}
 use Rattle.std.specs.Prelude.{IsSome}
 use Rattle.bfs_bitmap_check.proofs.Comparing.{told_at, wrong_at}
 use Rattle.bfs_bitmap_check.proofs.bitmap.compare_all.Goals as goal

@@ -1,4 +1,4 @@
-use Rattle.std.proofs.Common.{◌≡◌, ◌≤◌, ◌*◌, ℕ, length, subst, sym, arith}
+use Rattle.std.proofs.Common.{◌≡◌, ◌*◌, ℕ, length, subst, sym, arith}
 use Rattle.bfs_bitmap_check.specs.Bitmaps.{IsBitmapTold, AreSameIn, IsFirstIn}
 use Rattle.bfs_bitmap_check.proofs.Marked.{block_bytes, bitmap_told, marked_all, marks_list, wrong_bit, mark_fault}
 use Rattle.bfs_bitmap_check.proofs.volume.check_bitmap.Goals as goal

@@ -1,4 +1,4 @@
-use Rattle.std.proofs.Common.{◌≡◌, ◌∙◌, ℕ, List, drop, Some, None, sym, ap, subst}
+use Rattle.std.proofs.Common.{◌≡◌, ◌∙◌, ℕ, List, drop, Some, sym, ap, subst}
 use Rattle.bfs_bytes.specs.Fields.{run_in}
 use Rattle.bfs_inode.specs.Refusals.{Names}
 use Rattle.bfs_super.specs.Conditions.{natural}

@@ -1,4 +1,4 @@
-use Rattle.std.proofs.Common.{◌≡◌, ◌≢◌, ◌∙◌, sym}
+use Rattle.std.proofs.Common.{◌≢◌, ◌∙◌, sym}
 use Rattle.bfs_super.specs.Conditions.{block_of_run}
 use Rattle.bfs_stream.specs.Told.{contents}
 use Rattle.bfs_look.proofs.Known.{node_has}

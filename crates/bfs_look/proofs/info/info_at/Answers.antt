@@ -1,4 +1,4 @@
-use Rattle.std.proofs.Common.{◌≡◌, ◌∙◌, ℕ}
+use Rattle.std.proofs.Common.{◌∙◌}
 use Rattle.bfs_look.proofs.Known.{node_told, sized_at}
 use Rattle.bfs_look.proofs.info.info_at.Goals as goal
 

@@ -1,4 +1,4 @@
-use Rattle.std.proofs.Common.{◌≡◌, ◌∙◌, ℕ, List, sym, subst}
+use Rattle.std.proofs.Common.{◌∙◌, subst}
 use Rattle.bfs_look.specs.Ready.{IsKindOf}
 use Rattle.bfs_look.proofs.Looked.{stat_nothing, stat_there}
 use Rattle.bfs_look.proofs.info.stat.Goals as goal

@@ -1,9 +1,9 @@
-use Rattle.std.proofs.Common.{◌<◌, ◌≡◌, ◌∙◌, ℕ, List, Bool, true, false, Some, None, sym, ap, subst, Option}
+use Rattle.std.proofs.Common.{◌<◌, ◌∙◌, sym, ap, subst, Option}
 use Rattle.std.specs.Prelude.{IfSome}
 use Rattle.bfs_super.specs.Conditions.{natural}
 use Rattle.bfs_tree.specs.declared.call.Kind.{Kind}
 use Rattle.bfs_super.specs.Geometry.{geometry_of}
-use Rattle.bfs_tree.specs.Trees.{Node, is_dir}
+use Rattle.bfs_tree.specs.Trees.{is_dir}
 use Rattle.bfs_moves.specs.Written.{HasDirectoryAt}
 use Rattle.bfs_look.specs.Ready.{IsKindOf, IsReady}
 use Rattle.bfs_look.proofs.Known.{dir_is, has_directory}

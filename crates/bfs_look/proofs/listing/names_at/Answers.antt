@@ -1,4 +1,4 @@
-use Rattle.std.proofs.Common.{◌≡◌, ◌∙◌, ℕ, List, true, sym, ap}
+use Rattle.std.proofs.Common.{◌∙◌, ap}
 use Rattle.std.specs.List.{flat_map}
 use Rattle.bfs_look.specs.Names.{proper_name}
 use Rattle.bfs_look.proofs.Known.{dir_is}

@@ -1,4 +1,4 @@
-use Rattle.std.proofs.Common.{◌≡◌, ◌∙◌, sym}
+use Rattle.std.proofs.Common.{◌∙◌, sym}
 use Rattle.bfs_look.proofs.Listed.{pushed_none, pushed_one}
 use Rattle.bfs_look.proofs.listing.push_name.Goals as goal
 

@@ -1,4 +1,4 @@
-use Rattle.std.proofs.Common.{◌≡◌, ◌∙◌, ℕ, List, pos, Bool, true, false, Some, None, sym, ap, subst}
+use Rattle.std.proofs.Common.{◌∙◌, sym, subst}
 use Rattle.bfs_base.specs.declared.kind.KeyKind.TheVariants.{Text}
 use Rattle.bfs_maps.specs.NumberTrees.{IsNumberAt}
 use Rattle.bfs_look.proofs.Looked.{bad_reads, none_reads, row_in, found_reads}

@@ -1,4 +1,4 @@
-use Rattle.std.proofs.Common.{◌≡◌, ◌∙◌, ℕ, List, Bool, true, false, Option, Some, None, sym, ap, subst}
+use Rattle.std.proofs.Common.{◌≡◌, ◌∙◌, ℕ, List, true, false, Option, Some, sym, subst}
 use Rattle.std.specs.Prelude.{IfSome}
 use Rattle.bfs_look.specs.Climbs.{Climbs}
 use Rattle.bfs_look.specs.Ready.{HasNodeAt}

@@ -1,4 +1,4 @@
-use Rattle.std.proofs.Common.{◌≡◌, ◌≢◌, ◌≤◌, ◌<◌, ◌∙◌, ℕ, List, Bool, true, false, Option, Some, None, sym, ap, subst, arith}
+use Rattle.std.proofs.Common.{◌≡◌, ◌∙◌, true, false, sym, arith}
 use Rattle.bfs_look.specs.Ready.{HasNodeAt}
 use Rattle.bfs_look.proofs.Known.{node_low, not_there}
 use Rattle.bfs_look.proofs.node.node_at.Goals as goal

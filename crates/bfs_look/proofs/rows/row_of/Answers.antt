@@ -1,7 +1,7 @@
-use Rattle.std.proofs.Common.{◌≡◌, ◌∙◌, ℕ, List, sym, subst}
+use Rattle.std.proofs.Common.{List, sym, subst}
 use Rattle.bfs_base.specs.declared.kind.KeyKind.TheVariants.{Text}
 use Rattle.bfs_node.specs.Page.{Row}
-use Rattle.bfs_stream.specs.Sizes.{Origin, sizes_of}
+use Rattle.bfs_stream.specs.Sizes.{Origin}
 use Rattle.bfs_stream_pages.specs.Held.{stream_of}
 use Rattle.bfs_maps.specs.Mapped.{HasReadable}
 use Rattle.bfs_maps.specs.NumberTrees.{IsNumberAt, IsNumberTree}

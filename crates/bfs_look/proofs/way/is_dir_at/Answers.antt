@@ -1,4 +1,4 @@
-use Rattle.std.proofs.Common.{◌≡◌, ◌∙◌, ap}
+use Rattle.std.proofs.Common.{◌∙◌, ap}
 use Rattle.bfs_tree.specs.Trees.{is_dir}
 use Rattle.bfs_look.proofs.way.is_dir_at.Goals as goal
 

@@ -1,4 +1,4 @@
-use Rattle.std.proofs.Common.{◌≡◌, ◌∙◌, ℕ, List, Some, None, sym, ap}
+use Rattle.std.proofs.Common.{◌≡◌, ◌∙◌, Some, None, ap}
 use Rattle.bfs_stream.specs.Told.{contents}
 use Rattle.bfs_look.specs.Claims.{kind_in}
 use Rattle.bfs_look.proofs.Known.{node_told, node_kind}

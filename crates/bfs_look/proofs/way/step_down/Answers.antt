@@ -1,4 +1,4 @@
-use Rattle.std.proofs.Common.{◌≡◌, ◌≤◌, ◌<◌, ◌∙◌, Bool, true, false, sym, arith}
+use Rattle.std.proofs.Common.{◌≡◌, ◌∙◌, true, false, sym, arith}
 use Rattle.bfs_tree.specs.Trees.{is_dir}
 use Rattle.bfs_look.proofs.Known.{dir_is, node_low, has_directory}
 use Rattle.bfs_look.proofs.way.step_down.Goals as goal

@@ -1,4 +1,4 @@
-use Rattle.std.proofs.Common.{◌≡◌, ◌≢◌, ◌≤◌, ◌<◌, ◌∙◌, ◌++◌, ◌∷◌, ℕ, List, [], Some, sym, ap, subst, arith}
+use Rattle.std.proofs.Common.{◌≡◌, ◌∙◌, ◌++◌, ◌∷◌, ℕ, List, [], Some, sym, ap, subst, arith}
 use Rattle.bfs_stream.specs.Told.{contents}
 use Rattle.bfs_look.proofs.Known.{node_told, node_low, node_has}
 use Rattle.bfs_look.proofs.way.step_up.Goals as goal

@@ -1,5 +1,4 @@
-use Rattle.std.proofs.Common.{◌≡◌, ◌≤◌, ◌<◌, ◌-◌, ◌++◌, ◌∷◌, ◌∙◌, ℕ, List, [], length, take, Option, Some, None, refl, sym, ap, subst, arith}
-use Rattle.std.specs.Prelude.{get_or}
+use Rattle.std.proofs.Common.{◌≡◌, ◌≤◌, ◌<◌, ◌-◌, ◌++◌, ◌∷◌, ◌∙◌, ℕ, List, [], take, Some, None, refl, sym, ap, subst, arith}
 use Rattle.bfs_super.specs.Geometry.{geometry_of}
 use Rattle.bfs_look.specs.Climbs.{Climbs}
 use Rattle.bfs_look.specs.Ready.{IsReady, HasReady, HasNodeAt}

@@ -1,5 +1,4 @@
-use Rattle.std.proofs.Common.{◌≡◌, ◌≢◌, ◌≤◌, ◌<◌, ◌∙◌, ℕ, List, [], Some, None, refl, sym, ap, subst, arith}
-use Rattle.bfs_super.specs.Geometry.{geometry_of}
+use Rattle.std.proofs.Common.{◌≡◌, ◌≢◌, ◌∙◌, ℕ, Some, None, refl, sym, subst, arith}
 use Rattle.bfs_look.specs.Climbs.{Climbs}
 use Rattle.bfs_look.proofs.Going.{IsOnWay, way_begins, way_steps, way_has_left, less_left}
 use Rattle.bfs_look.proofs.way.way_up.Goals as goal

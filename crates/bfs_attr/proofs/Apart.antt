@@ -25,7 +25,7 @@ entries_named q entries = count_by (λ e. bytes_eq e.0 q) entries
 one_item : (q : List ℕ) (x : Item) (xs : List Item) → items_named q (x ∷ xs) ≡ cond (bytes_eq x.name q) 1 0 + items_named q xs
 one_item q x xs = sum_by-cons (λ (i : Item). cond (bytes_eq i.name q) 1 0) x xs
 
-one_entry : (q : List ℕ) (e : Named) (es : List Named) → entries_named q (e ∷ es) ≡ cond (bytes_eq e.0 q) 1 0 + entries_named q es
+pub one_entry : (q : List ℕ) (e : Named) (es : List Named) → entries_named q (e ∷ es) ≡ cond (bytes_eq e.0 q) 1 0 + entries_named q es
 one_entry q e es = sum_by-cons (λ (n : Named). cond (bytes_eq n.0 q) 1 0) e es
 
 both_entries : (q : List ℕ) (xs ys : List Named) → entries_named q (xs ++ ys) ≡ entries_named q xs + entries_named q ys

@@ -100,7 +100,7 @@ fn take_from<E: Edits>(site: Site, edits: &mut E, inode: u64, name: &[u8]) -> Re
 
 /// Puts an attribute of which the attribute directory has none into the small data of the inode that bears it, where it fits
 /// there. Did it? Nothing else is written.
-pub(crate) fn put_in_small<E: Edits>(
+pub fn put_in_small<E: Edits>(
     site: Site,
     edits: &mut E,
     inode: u64,
@@ -125,7 +125,7 @@ pub(crate) fn put_in_small<E: Edits>(
 
 /// Takes the attribute of a name out of the small data of the inode that bears it, where it is there. Was it? Nothing else is
 /// written.
-pub(crate) fn take_from_small<E: Edits>(
+pub fn take_from_small<E: Edits>(
     site: Site,
     edits: &mut E,
     inode: u64,

@@ -16,8 +16,10 @@ mod storing;
 
 pub use area::{puts_attribute, takes_attribute};
 pub use attrs::Attrs;
+pub use bearing::{put_in_small, take_from_small};
 pub use laws::{nodes_bear_attributes, small_data_changes};
 pub use rows::{AttrItem, AttrRows};
+pub use storing::store_attribute;
 
 #[cfg(test)]
 mod tests;

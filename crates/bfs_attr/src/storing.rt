@@ -30,7 +30,7 @@ fn attribute_inode(parent: Run, kind: u32, stamp: i64) -> InodeForm
 }
 
 /// Makes the inode of an attribute of a type with these bytes, of the attribute directory at an address. Answers its own address.
-pub(crate) fn store_attribute<E: Edits>(
+pub fn store_attribute<E: Edits>(
     site: Site,
     bitmap: &mut Bitmap,
     edits: &mut E,

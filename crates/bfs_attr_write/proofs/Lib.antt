@@ -1,0 +1,10 @@
+pub mod Exchanges
+pub mod Brings
+pub mod Entries
+pub mod Beside
+pub mod Kept
+pub mod Begun
+pub mod Joined
+pub mod Unknown
+pub mod Steps
+pub mod Parted

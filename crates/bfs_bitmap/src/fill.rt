@@ -3,6 +3,7 @@ ghost use Rattle.std.specs.Prelude.{◌≡◌, ◌≤◌, ◌<◌, ◌⊎◌, �
 ghost use Rattle.bfs_bitmap.specs.Runs.{HasBitmap, Marks, per_block};
 ghost use Rattle.bfs_bitmap.specs.Fills.{IsTold, IsBitmapBlock, HasBitOf};
 ghost use Rattle.bfs_txn.specs.Faults.{IsCaused};
+ghost use Rattle.bfs_txn.specs.Told.{StaysChanged};
 
 use crate::Bitmap;
 use crate::bits::fill_bits;
@@ -27,6 +28,7 @@ impl Bitmap {
         requires end { per_block self.now * j + to ≤ self.now.blocks }
         ensures marks { (m : ℕ → Option (List ℕ)) → E.told edits.old ≡ Some m → HasBitmap self.now m → OnOk result (IsTold (Marks self.now (per_block self.now * j + from) (to - from) (if used then 1 else 0) m) (E.told edits.new)) }
         ensures changed { (k : ℕ) → E.changed edits.new k ≡ true → (E.changed edits.old k ≡ true) ⊎ (k ≡ 1 + j) }
+        ensures stays { StaysChanged (E.changed edits.old) (E.changed edits.new) }
         ensures length { length bytes.new ≡ self.now.block_size }
         ensures size { E.size edits.new ≡ E.size edits.old }
         ensures frame { E.frame edits.new ≡ E.frame edits.old }
@@ -58,6 +60,7 @@ impl Bitmap {
         requires inside { first + len ≤ self.now.blocks }
         ensures marks { (m : ℕ → Option (List ℕ)) → E.told edits.old ≡ Some m → HasBitmap self.now m → OnOk result (IsTold (Marks self.now first len (if used then 1 else 0) m) (E.told edits.new)) }
         ensures changed { (k : ℕ) → E.changed edits.new k ≡ true → (E.changed edits.old k ≡ true) ⊎ HasBitOf self.now first len k }
+        ensures stays { StaysChanged (E.changed edits.old) (E.changed edits.new) }
         ensures length { length bytes.new ≡ self.now.block_size }
         ensures size { E.size edits.new ≡ E.size edits.old }
         ensures frame { E.frame edits.new ≡ E.frame edits.old }

@@ -5,6 +5,7 @@ ghost use Rattle.bfs_bitmap.specs.Tallies.{lowered_by};
 ghost use Rattle.bfs_bitmap.specs.Givens.{numbered, settled, is_left};
 ghost use Rattle.bfs_bitmap.specs.Fills.{IsBitmapBlock, HasBitOf, IsTold};
 ghost use Rattle.bfs_txn.specs.Faults.{IsCaused};
+ghost use Rattle.bfs_txn.specs.Told.{StaysChanged};
 
 use crate::given::{drop_left, drop_unsettled, number_all, settle_all};
 use crate::tally::lower_all;
@@ -25,6 +26,7 @@ impl Bitmap {
         ensures err { OnErr result (self.new ≡ self.old) }
         ensures kept { as_kept self.new ≡ as_kept self.old }
         ensures changed { (k : ℕ) → E.changed edits.new k ≡ true → (E.changed edits.old k ≡ true) ⊎ IsBitmapBlock self.old k }
+        ensures stays { StaysChanged (E.changed edits.old) (E.changed edits.new) }
         ensures bits { (k : ℕ) → E.changed edits.new k ≡ true → (E.changed edits.old k ≡ true) ⊎ HasBitOf self.old (first_of self.old run) run.len k }
         ensures size { E.size edits.new ≡ E.size edits.old }
         ensures frame { E.frame edits.new ≡ E.frame edits.old }

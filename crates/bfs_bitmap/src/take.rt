@@ -4,6 +4,7 @@ ghost use Rattle.bfs_bitmap.specs.Runs.{Fits, HasBitmap, IsCounted, IsFreeRun, I
 ghost use Rattle.bfs_bitmap.specs.Tallies.{raised};
 ghost use Rattle.bfs_bitmap.specs.Fills.{IsBitmapBlock, HasBitOf, IsTold};
 ghost use Rattle.bfs_txn.specs.Faults.{AreLater, IsCaused};
+ghost use Rattle.bfs_txn.specs.Told.{StaysChanged};
 
 use crate::search::Search;
 use crate::tally::raise;
@@ -50,6 +51,7 @@ impl Bitmap {
         ensures rest { self.new ≡ record self.old { tally = self.new.tally } }
         ensures err { OnErr result (self.new ≡ self.old) }
         ensures changed { (k : ℕ) → E.changed edits.new k ≡ true → (E.changed edits.old k ≡ true) ⊎ HasBitOf self.old first len k }
+        ensures stays { StaysChanged (E.changed edits.old) (E.changed edits.new) }
         ensures size { E.size edits.new ≡ E.size edits.old }
         ensures frame { E.frame edits.new ≡ E.frame edits.old }
         ensures cause { IsCaused (E.counts edits.old) (E.counts edits.new) result }
@@ -89,6 +91,7 @@ impl Bitmap {
         ensures used { IfOk result (λ run. self.new.tally.used ≡ min (self.old.tally.used + run.len) self.old.blocks) }
         ensures err { OnErr result (self.new ≡ self.old) }
         ensures changed { (k : ℕ) → E.changed edits.new k ≡ true → (E.changed edits.old k ≡ true) ⊎ IsBitmapBlock self.old k }
+        ensures stays { StaysChanged (E.changed edits.old) (E.changed edits.new) }
         ensures bits { IfOk result (λ run. (k : ℕ) → E.changed edits.new k ≡ true → (E.changed edits.old k ≡ true) ⊎ HasBitOf self.old (first_of self.old run) run.len k) }
         ensures size { E.size edits.new ≡ E.size edits.old }
         ensures frame { E.frame edits.new ≡ E.frame edits.old }

@@ -5,6 +5,7 @@ ghost use Rattle.bfs_base.specs.declared.kind.KeyKind.TheVariants.{Text};
 ghost use Rattle.bfs_super.specs.Conditions.{IsValid, natural};
 ghost use Rattle.bfs_bitmap.specs.Fills.{IsBitmapBlock};
 ghost use Rattle.bfs_txn.specs.Faults.{AreLater};
+ghost use Rattle.bfs_txn.specs.Told.{StaysChanged};
 ghost use Rattle.bfs_pages.specs.Answers.{IsOfKind};
 ghost use Rattle.bfs_pages.specs.Maps.{assoc, put, without};
 ghost use Rattle.bfs_stream.specs.Grown.{IsOfVolume};
@@ -12,8 +13,8 @@ ghost use Rattle.bfs_stream.specs.Sizes.{sizes_of};
 ghost use Rattle.bfs_stream_pages.specs.Held.{stream_of};
 ghost use Rattle.bfs_values.specs.Kinds.{IsWanted};
 ghost use Rattle.bfs_maps.specs.Mapped.{HasReadable, HasHeld, HasRowsNow};
-ghost use Rattle.bfs_maps.specs.NumberTrees.{IsNumberTree, IsNumberAt};
-ghost use Rattle.bfs_maps.specs.Refused.{IsNumberPage, IsChangeFault, IsReadFault, IsUndone, IsPutFault, IsTakeFault, HasReadCause, HasPutCause, HasTakeCause};
+ghost use Rattle.bfs_maps.specs.NumberTrees.{IsNumberTree, IsNumberAt, HoldsNumber};
+ghost use Rattle.bfs_maps.specs.Refused.{IsNumberPage, IsChangeFault, IsTakingFault, IsReadFault, IsUndone, IsPutFault, IsTakeFault, HasReadCause, HasPutCause, HasTakeCause};
 ghost use Rattle.bfs_dir.specs.Directories.{IsDirectory, names_of, listed};
 
 use crate::rows::{DirRows, dir_rows_of};
@@ -72,7 +73,7 @@ impl Dir {
     ) -> Result<Option<u64>, MapFault>
         requires size { E.size edits.old ≡ self.old.sizes.block_size }
         requires stream { (m : ℕ → Option (List ℕ)) → E.told edits.old ≡ Some m → HasReadable self.old m }
-        ensures found { (m : ℕ → Option (List ℕ)) → E.told edits.old ≡ Some m → IsNumberTree Text (stream_of self.old m) → MatchResult result (IsNumberAt Text (names_of self.old m) name.now) IsUndone }
+        ensures found { (m : ℕ → Option (List ℕ)) → E.told edits.old ≡ Some m → HoldsNumber Text name.now (stream_of self.old m) → MatchResult result (IsNumberAt Text (names_of self.old m) name.now) IsUndone }
         ensures refused { (m : ℕ → Option (List ℕ)) → E.told edits.old ≡ Some m → IfErr result (IsReadFault (IsNumberPage Text (stream_of self.old m)) self.old m) }
         ensures same { self.new ≡ self.old }
         ensures bitmap { bitmap.new ≡ bitmap.old }
@@ -114,6 +115,7 @@ impl Dir {
         ensures same { self.new ≡ self.old }
         ensures rest { bitmap.new ≡ record bitmap.old { tally = bitmap.new.tally } }
         ensures changed { (k : ℕ) → E.changed edits.new k ≡ true → (E.changed edits.old k ≡ true) ⊎ (IsBitmapBlock bitmap.old k ⊎ (k < self.old.sizes.blocks)) }
+        ensures stays { StaysChanged (E.changed edits.old) (E.changed edits.new) }
         ensures size { E.size edits.new ≡ E.size edits.old }
         ensures frame { E.frame edits.new ≡ E.frame edits.old }
         ensures later { AreLater (E.counts edits.old) (E.counts edits.new) }
@@ -140,11 +142,12 @@ impl Dir {
         requires stream { (m : ℕ → Option (List ℕ)) → E.told edits.old ≡ Some m → HasHeld self.old bitmap.old m }
         ensures taken { (m : ℕ → Option (List ℕ)) → E.told edits.old ≡ Some m → IsDirectory self.old bitmap.old m → OnOk result (HasRowsNow Text self.old bitmap.old bitmap.new m (without Text (names_of self.old m) name.now) (E.told edits.new) (E.changed edits.old) (E.changed edits.new)) }
         ensures id { (m : ℕ → Option (List ℕ)) → E.told edits.old ≡ Some m → IsDirectory self.old bitmap.old m → IfOk result (λ id. assoc Text (names_of self.old m) name.now ≡ Some (pos id)) }
-        ensures refused { (m : ℕ → Option (List ℕ)) → E.told edits.old ≡ Some m → IsDirectory self.old bitmap.old m → IfErr result (IsTakeFault Text self.old bitmap.old m (names_of self.old m) name.now) }
-        ensures blamed { (m : ℕ → Option (List ℕ)) → E.told edits.old ≡ Some m → IfErr result (IsChangeFault (IsNumberPage Text) self.old bitmap.old m (E.told edits.new)) }
+        ensures refused { (m : ℕ → Option (List ℕ)) → E.told edits.old ≡ Some m → IsDirectory self.old bitmap.old m → IfErr result (IsTakeFault Text (names_of self.old m) name.now) }
+        ensures blamed { (m : ℕ → Option (List ℕ)) → E.told edits.old ≡ Some m → IfErr result (IsTakingFault (IsNumberPage Text) self.old m (E.told edits.new)) }
         ensures same { self.new ≡ self.old }
         ensures rest { bitmap.new ≡ record bitmap.old { tally = bitmap.new.tally } }
         ensures changed { (k : ℕ) → E.changed edits.new k ≡ true → (E.changed edits.old k ≡ true) ⊎ (IsBitmapBlock bitmap.old k ⊎ (k < self.old.sizes.blocks)) }
+        ensures stays { StaysChanged (E.changed edits.old) (E.changed edits.new) }
         ensures size { E.size edits.new ≡ E.size edits.old }
         ensures frame { E.frame edits.new ≡ E.frame edits.old }
         ensures later { AreLater (E.counts edits.old) (E.counts edits.new) }

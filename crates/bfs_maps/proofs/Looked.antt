@@ -5,7 +5,9 @@ use Rattle.bfs_base.specs.declared.kind.KeyKind.{KeyKind}
 use Rattle.bfs_node.specs.Page.{Row, rows_of, row_in, value_of}
 use Rattle.bfs_node.specs.Search.{Ascends, IsPlace}
 use Rattle.bfs_node.specs.declared.fault.PageKind.TheVariants.{Leaf}
-use Rattle.bfs_pages.specs.Answers.{IsLeafFor}
+use Rattle.bfs_node.specs.declared.fault.TreeFault.{TreeFault}
+use Rattle.bfs_node.specs.declared.fault.TreeFault.TheVariants as fault
+use Rattle.bfs_pages.specs.Answers.{IsLeafFor, IsOfPages}
 use Rattle.bfs_pages.specs.Maps.{assoc}
 use Rattle.bfs_pages.specs.Order.{Key}
 use Rattle.bfs_pages.specs.Trees.{page_in}
@@ -16,25 +18,25 @@ use Rattle.bfs_values.specs.Rows.{rows_in}
 use Rattle.bfs_values.specs.declared.link.Link.{Link}
 use Rattle.bfs_values.specs.declared.link.Link.TheVariants.{Number, Fragment, Chain, Nothing}
 use Rattle.bfs_values.proofs.Rows.{rows_those}
-use Rattle.bfs_maps.specs.NumberTrees.{IsNumber, IsNumberTree}
-use Rattle.bfs_maps.specs.Refused.{IsNumberPage}
+use Rattle.bfs_maps.specs.NumberTrees.{IsNumber, IsNumberTree, HoldsNumber}
+use Rattle.bfs_maps.specs.Refused.{IsNumberPage, IsNotTaken}
 use Rattle.bfs_maps.proofs.Plain.{number_link, number_there}
 
 -- what the leaf says of the key, the tree says
-in_tree : (kind : KeyKind) (b : List ℕ) (key : Key) (leaf : ℕ) (page : List ℕ) (d : IsNumberTree kind b) → IsLeafFor kind b d.tree.shape key leaf page → assoc kind (rows_in kind b) key ≡ assoc kind (rows_of page) key
+in_tree : (kind : KeyKind) (b : List ℕ) (key : Key) (leaf : ℕ) (page : List ℕ) (d : HoldsNumber kind key b) → IsLeafFor kind b d.tree.shape key leaf page → assoc kind (rows_in kind b) key ≡ assoc kind (rows_of page) key
 in_tree kind b key leaf page d l =
     let t = d.tree in
     ap (λ (rows : List Row). assoc kind rows key) (sym (rows_those kind b t.reached t.shape t.free t.tree)) ∙ (found-in-leaf kind b t.reached t.shape t.free key leaf page t.tree.holds l).1
 
-pub looked_there : (kind : KeyKind) (b : List ℕ) (key : Key) (leaf : ℕ) (page : List ℕ) (i : ℕ) (d : IsNumberTree kind b) → IsLeafFor kind b d.tree.shape key leaf page → (Ascends kind (rows_of page) → IsPlace kind (rows_of page) key (Ok i))
+pub looked_there : (kind : KeyKind) (b : List ℕ) (key : Key) (leaf : ℕ) (page : List ℕ) (i : ℕ) (d : HoldsNumber kind key b) → IsLeafFor kind b d.tree.shape key leaf page → (Ascends kind (rows_of page) → IsPlace kind (rows_of page) key (Ok i))
     → (assoc kind (rows_in kind b) key ≡ Some (value_of (row_in (rows_of page) i))) × IsNumber (value_of (row_in (rows_of page) i))
 looked_there kind b key leaf page i d l place =
     let t = d.tree in
     let up = (found-in-leaf kind b t.reached t.shape t.free key leaf page t.tree.holds l).0 in
     let there : assoc kind (rows_in kind b) key ≡ Some (value_of (row_in (rows_of page) i)) = in_tree kind b key leaf page d l ∙ assoc-found kind (rows_of page) key i up (place (by-index kind (rows_of page) up)) in
-    (there, number_there kind (rows_in kind b) key (value_of (row_in (rows_of page) i)) d.numbers there)
+    (there, d.number (value_of (row_in (rows_of page) i)) there)
 
-pub looked_absent : (kind : KeyKind) (b : List ℕ) (key : Key) (leaf : ℕ) (page : List ℕ) (i : ℕ) (d : IsNumberTree kind b) → IsLeafFor kind b d.tree.shape key leaf page → (Ascends kind (rows_of page) → IsPlace kind (rows_of page) key (Err i))
+pub looked_absent : (kind : KeyKind) (b : List ℕ) (key : Key) (leaf : ℕ) (page : List ℕ) (i : ℕ) (d : HoldsNumber kind key b) → IsLeafFor kind b d.tree.shape key leaf page → (Ascends kind (rows_of page) → IsPlace kind (rows_of page) key (Err i))
     → assoc kind (rows_in kind b) key ≡ None
 looked_absent kind b key leaf page i d l place =
     let t = d.tree in
@@ -70,3 +72,15 @@ leaf_refused kind (Some b) leaf page i read low other = λ good.
     let low_b : i < length (rows_of (page_in b leaf)) = subst (λ (p : List ℕ). i < length (rows_of p)) read low in
     let same : v ≡ value_of (row_in (rows_of (page_in b leaf)) i) = ap (λ (p : List ℕ). value_of (row_in (rows_of p) i)) read in
     other (good.1 v (good.0, (i, low_b, same)))
+
+-- a tree whose values are all numbers holds one at each key
+pub holds_number : (kind : KeyKind) (key : Key) (b : List ℕ) → IsNumberTree kind b → HoldsNumber kind key b
+holds_number kind key b d = record { tree = d.tree; number = λ value e. number_there kind (rows_in kind b) key value d.numbers e }
+
+-- a page that could not be had is no row that isn't there
+pub of_pages_untaken : {F : Type 0} (kind : KeyKind) (rows : List Row) (key : Key) (f : TreeFault F) → IsOfPages f → IsNotTaken kind rows key f
+of_pages_untaken kind rows key fault.Exists bad = bad
+of_pages_untaken kind rows key fault.Absent bad = absurd bad
+of_pages_untaken kind rows key (fault.Damaged page sort) bad = bad
+of_pages_untaken kind rows key (fault.Pages f) fine = tt
+of_pages_untaken kind rows key fault.NoMemory bad = bad

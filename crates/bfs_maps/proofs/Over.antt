@@ -7,7 +7,7 @@ use Rattle.bfs_node.specs.declared.fault.PageKind.{PageKind}
 use Rattle.bfs_node.specs.declared.fault.TreeFault.{TreeFault}
 use Rattle.bfs_stream.specs.Sizes.{Origin}
 use Rattle.bfs_stream.specs.declared.fault.GrowFault.{GrowFault}
-use Rattle.bfs_maps.specs.Refused.{IsChangeFault}
+use Rattle.bfs_maps.specs.Refused.{IsChangeFault, IsTakingFault}
 use Rattle.bfs_stream_pages.specs.Held.{Held, stream_of}
 use Rattle.bfs_maps.specs.Mapped.{StreamNow}
 use Rattle.bfs_maps.specs.NumberTrees.{IsNumberTree}
@@ -46,3 +46,6 @@ on_ok P Q (Err e) is f = tt
 -- the same fault by other names
 pub change_named : {T : Type 0} (good : List ℕ → ℕ → PageKind → Type 0) (m : ℕ → Option (List ℕ)) (o other : Origin) (v room : Room) (told told_now : Option (ℕ → Option (List ℕ))) (r : Result T (TreeFault GrowFault)) → other ≡ o → room ≡ v → told_now ≡ told → IfErr r (IsChangeFault good other room m told_now) → IfErr r (IsChangeFault good o v m told)
 change_named good m o other v room told told_now r a b d is = subst (λ (x : Origin × Room × Option (ℕ → Option (List ℕ))). IfErr r (IsChangeFault good x.0 x.1 m x.2)) (λ i. (a i, b i, d i)) is
+
+pub taking_named : {T : Type 0} (good : List ℕ → ℕ → PageKind → Type 0) (m : ℕ → Option (List ℕ)) (o other : Origin) (told told_now : Option (ℕ → Option (List ℕ))) (r : Result T (TreeFault GrowFault)) → other ≡ o → told_now ≡ told → IfErr r (IsTakingFault good other m told_now) → IfErr r (IsTakingFault good o m told)
+taking_named good m o other told told_now r a b is = subst (λ (x : Origin × Option (ℕ → Option (List ℕ))). IfErr r (IsTakingFault good x.0 m x.1)) (λ i. (a i, b i)) is

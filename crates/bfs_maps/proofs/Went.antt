@@ -1,5 +1,5 @@
 -- What calls on the pages of a tree's stream come to for the volume.
-use Rattle.std.proofs.Common.{◌≡◌, ◌∙◌, inl, ℕ, List, Bool, Option, Some, None, refl, sym, ap, subst, inr, ◌⊎◌, true, false}
+use Rattle.std.proofs.Common.{◌≡◌, ◌∙◌, inl, ℕ, List, Bool, Option, Some, None, refl, sym, ap, subst, inr, ◌⊎◌, ◌&&◌, is_some, true, false}
 use Rattle.std.specs.Option.{option_map}
 use Rattle.std.specs.Prelude.{Result, Ok, Err, OnOk, IfOk, IfErr, MatchResult, IsSome, IfSome}
 use Rattle.bfs_base.specs.declared.kind.KeyKind.{KeyKind}
@@ -9,6 +9,7 @@ use Rattle.bfs_node.specs.declared.fault.PageKind.{PageKind}
 use Rattle.bfs_node.specs.declared.fault.TreeFault.{TreeFault}
 use Rattle.bfs_node.specs.declared.fault.TreeFault.TheVariants.{Exists, Absent, Damaged, Pages, NoMemory}
 use Rattle.bfs_txn.specs.Faults.{Counts}
+use Rattle.bfs_txn.specs.Told.{StaysChanged}
 use Rattle.bfs_insert.specs.Puts.{IsHindered}
 use Rattle.bfs_pages.specs.Answers.{IsOfPages, IsOfKind}
 use Rattle.bfs_pages.specs.Order.{Key}
@@ -18,13 +19,15 @@ use Rattle.bfs_stream.specs.Places.{whole_at}
 use Rattle.bfs_stream.specs.Sizes.{Origin}
 use Rattle.bfs_stream.specs.Told.{contents}
 use Rattle.bfs_stream.specs.declared.fault.GrowFault.{GrowFault}
-use Rattle.bfs_stream_pages.specs.Causes.{HasCause, HasFailed, IsPageCause, IsReadCause}
+use Rattle.bfs_stream.specs.declared.fault.GrowFault.TheVariants as grow
+use Rattle.bfs_stream_pages.specs.Causes.{HasCause, HasFailed, IsOfBlock, IsPageCause, IsReadCause}
 use Rattle.bfs_stream_pages.specs.Goes.{GoesOn, HasMoved, HasFault}
 use Rattle.bfs_stream_pages.specs.Held.{Held, known, stream_of}
-use Rattle.bfs_stream_pages.specs.Moves.{Moved}
+use Rattle.bfs_stream_pages.specs.Moves.{ChangesFresh, Moved}
+use Rattle.bfs_stream_pages.specs.Steps.{IsUndamaged}
 use Rattle.bfs_values.specs.Kinds.{IsCut, IsLacking, IsWanted}
 use Rattle.bfs_maps.specs.Mapped.{StreamNow}
-use Rattle.bfs_maps.specs.Refused.{IsNumberPage, IsUnnumbered, IsTurnedAway, IsNotPut, IsNotTaken, IsPutFault, IsTakeFault, IsUndone, IsReadFault, HasReadCause, HasPutCause, HasTakeCause, IsChangeFault}
+use Rattle.bfs_maps.specs.Refused.{IsNumberPage, IsUnnumbered, IsTurnedAway, IsNotPut, IsNotTaken, IsPutFault, IsTakeFault, IsUndone, IsReadFault, HasReadCause, HasPutCause, HasTakeCause, IsChangeFault, IsTakingFault}
 
 -- what pages stood over when the calls began
 pub record Before : Type 0 where
@@ -65,6 +68,8 @@ pub record Went (o : Origin) (v now : Room) (more : ℕ) (m : ℕ → Option (Li
   pub held : Held o now more map
   pub moved : Moved o v now m map
   pub written : AreWritten v old new (whole_at o.sizes (contents map) o.id)
+  pub stays : StaysChanged old new
+  pub fresh : ChangesFresh o m map new
 
 pub went : (o back : Origin) (v now : Room) (long more : ℕ) (m : ℕ → Option (List ℕ)) (c : List ℕ) (failed : Option GrowFault) (start told : Option (ℕ → Option (List ℕ))) (old new : ℕ → Bool) (counts counts_now : Counts)
     → back ≡ o → option_map (stream_of back) (known failed start told) ≡ Some c → Held o v long m
@@ -81,6 +86,8 @@ went o back v now long more m c failed start told old new counts counts_now same
       held = parts.0;
       moved = parts.1.0;
       written = parts.1.1;
+      stays = goes.stays;
+      fresh = parts.1.2;
     }
 
 -- the stream since, where its bytes have a property
@@ -93,6 +100,8 @@ stream_now o v now more m c P told old new w has = record {
   bytes = subst P (sym w.bytes) has;
   moved = w.moved;
   written = w.written;
+  stays = w.stays;
+  fresh = w.fresh;
 }
 
 -- the pages tell the stream's bytes at the start
@@ -146,13 +155,13 @@ put_fault kind o v m rows k told now cause (Damaged page sort) is why from = is
 put_fault kind o v m rows k told now cause (Pages f) is why from = from f why
 put_fault kind o v m rows k told now cause NoMemory is why from = tt
 
-pub take_fault : (kind : KeyKind) (o : Origin) (v : Room) (m : ℕ → Option (List ℕ)) (rows : List Row) (k : Key) (told now : Option (List ℕ)) (cause : GrowFault → Type 0) (fault : TreeFault GrowFault)
-    → IsNotTaken kind rows k fault → IsTurnedAway kind told now cause fault → ((f : GrowFault) → cause f → HasFailed o v m f) → IsTakeFault kind o v m rows k fault
-take_fault kind o v m rows k told now cause Exists is why from = is
-take_fault kind o v m rows k told now cause Absent is why from = is
-take_fault kind o v m rows k told now cause (Damaged page sort) is why from = is
-take_fault kind o v m rows k told now cause (Pages f) is why from = from f why
-take_fault kind o v m rows k told now cause NoMemory is why from = tt
+pub take_fault : (kind : KeyKind) (rows : List Row) (k : Key) (told now : Option (List ℕ)) (cause : GrowFault → Type 0) (fault : TreeFault GrowFault)
+    → IsNotTaken kind rows k fault → IsTurnedAway kind told now cause fault → ((f : GrowFault) → cause f → IsUndamaged f) → IsTakeFault kind rows k fault
+take_fault kind rows k told now cause Exists is why from = is
+take_fault kind rows k told now cause Absent is why from = is
+take_fault kind rows k told now cause (Damaged page sort) is why from = is
+take_fault kind rows k told now cause (Pages f) is why from = from f why
+take_fault kind rows k told now cause NoMemory is why from = tt
 
 -- their causes in what lies below
 pub put_cause : (kind : KeyKind) (told now : Option (List ℕ)) (cause : GrowFault → Type 0) (old new : Counts) (fault : TreeFault GrowFault) → IsHindered kind told now cause fault → ((f : GrowFault) → cause f → IsGrowCause 1 old new f) → HasPutCause old new fault
@@ -162,7 +171,7 @@ put_cause kind told now cause old new (Damaged page sort) why from = tt
 put_cause kind told now cause old new (Pages f) why from = from f why
 put_cause kind told now cause old new NoMemory why from = tt
 
-pub take_cause : (kind : KeyKind) (told now : Option (List ℕ)) (cause : GrowFault → Type 0) (old new : Counts) (fault : TreeFault GrowFault) → IsTurnedAway kind told now cause fault → ((f : GrowFault) → cause f → IsGrowCause 1 old new f) → HasTakeCause old new fault
+pub take_cause : (kind : KeyKind) (told now : Option (List ℕ)) (cause : GrowFault → Type 0) (old new : Counts) (fault : TreeFault GrowFault) → IsTurnedAway kind told now cause fault → ((f : GrowFault) → cause f → IsOfBlock f × IsGrowCause 1 old new f) → HasTakeCause old new fault
 take_cause kind told now cause old new Exists why from = why
 take_cause kind told now cause old new Absent why from = tt
 take_cause kind told now cause old new (Damaged page sort) why from = tt
@@ -237,6 +246,31 @@ page_blamed good o back v now long more m failed start told old new counts count
     by_known (Some map) e moved h =
         inl (subst (λ (t : Option (ℕ → Option (List ℕ))). IfSome t (λ map. ¬ good (stream_of o map) page sort)) (sym (told_of failed start told map e)) (subst (λ (x : Origin). ¬ good (stream_of x map) page sort) same h))
 
+-- fixed pages never fail to have one added
+pub never_failed : (fixed : Bool) (failed : Option GrowFault) → (fixed && is_some failed) ≡ false → fixed ≡ true → failed ≡ None
+never_failed fixed None unfailed is = refl
+never_failed fixed (Some fault) unfailed is = absurd (let bad : true ≡ false = ap (λ (b : Bool). b && true) (sym is) ∙ unfailed in cc)
+
+-- a fault of a block that has a reason is no damage
+pub undamaged_from : (o : Origin) (v : Room) (m : ℕ → Option (List ℕ)) (fault : GrowFault) → HasFailed o v m fault → IsOfBlock fault → IsUndamaged fault
+undamaged_from o v m (grow.NoRun wanted free) failed block = absurd block
+undamaged_from o v m (grow.Full room) failed block = absurd block
+undamaged_from o v m (grow.Block fault) failed block = failed.why
+
+-- a page that a call which takes blames
+pub fixed_blamed : (good : List ℕ → ℕ → PageKind → Type 0) (o back : Origin) (v now : Room) (long more : ℕ) (m : ℕ → Option (List ℕ)) (failed : Option GrowFault) (start told : Option (ℕ → Option (List ℕ))) (old new : ℕ → Bool) (counts counts_now : Counts) (page : ℕ) (sort : PageKind)
+    → failed ≡ None → back ≡ o → GoesOn o v now long more (Some m) (known failed start told) None failed old new counts counts_now → IfSome (option_map (stream_of back) (known failed start told)) (λ bytes. ¬ good bytes page sort)
+    → IfSome told (λ map. ¬ good (stream_of o map) page sort)
+fixed_blamed good o back v now long more m failed start told old new counts counts_now page sort none same goes bad = by_known (known failed start told) refl goes.moved bad
+  where
+    no_failure : IsSome failed → ⊥
+    no_failure some = let e : false ≡ true = subst (λ (f : Option GrowFault). IsSome f) none some in cc
+
+    by_known : (k : Option (ℕ → Option (List ℕ))) → known failed start told ≡ k → HasMoved o v now long more (Some m) k failed old new → IfSome (option_map (stream_of back) k) (λ bytes. ¬ good bytes page sort)
+        → IfSome told (λ map. ¬ good (stream_of o map) page sort)
+    by_known None e moved h = absurd (no_failure moved)
+    by_known (Some map) e moved h = subst (λ (t : Option (ℕ → Option (List ℕ))). IfSome t (λ map. ¬ good (stream_of o map) page sort)) (sym (told_of failed start told map e)) (subst (λ (x : Origin). ¬ good (stream_of x map) page sort) same h)
+
 -- the faults of a call that puts, whatever the bytes are
 pub put_change : (kind : KeyKind) (o : Origin) (v : Room) (m : ℕ → Option (List ℕ)) (at now : Option (List ℕ)) (told : Option (ℕ → Option (List ℕ))) (cause : GrowFault → Type 0) (fault : TreeFault GrowFault) → IsHindered kind at now cause fault → ((f : GrowFault) → cause f → HasFailed o v m f)
     → ((page : ℕ) (sort : PageKind) → IfSome now (λ bytes. ¬ IsOfKind kind bytes page sort) → IfSome told (λ map. ¬ IsOfKind kind (stream_of o map) page sort) ⊎ ((fault : GrowFault) × HasFailed o v m fault)) → IsChangeFault (IsOfKind kind) o v m told fault
@@ -247,10 +281,10 @@ put_change kind o v m at now told cause (Pages f) why from blame = inr (from f w
 put_change kind o v m at now told cause NoMemory why from blame = tt
 
 -- and of one that takes
-pub take_change : (kind : KeyKind) (o : Origin) (v : Room) (m : ℕ → Option (List ℕ)) (at now : Option (List ℕ)) (told : Option (ℕ → Option (List ℕ))) (cause : GrowFault → Type 0) (fault : TreeFault GrowFault) → IsTurnedAway kind at now cause fault → ((f : GrowFault) → cause f → HasFailed o v m f)
-    → ((page : ℕ) (sort : PageKind) → IfSome now (λ bytes. ¬ IsNumberPage kind bytes page sort) → IfSome told (λ map. ¬ IsNumberPage kind (stream_of o map) page sort) ⊎ ((fault : GrowFault) × HasFailed o v m fault)) → IsChangeFault (IsNumberPage kind) o v m told fault
-take_change kind o v m at now told cause Exists why from blame = tt
-take_change kind o v m at now told cause Absent why from blame = tt
-take_change kind o v m at now told cause (Damaged page sort) why from blame = blame page sort why
-take_change kind o v m at now told cause (Pages f) why from blame = inr (from f why)
-take_change kind o v m at now told cause NoMemory why from blame = tt
+pub take_change : (kind : KeyKind) (o : Origin) (m : ℕ → Option (List ℕ)) (at now : Option (List ℕ)) (told : Option (ℕ → Option (List ℕ))) (cause : GrowFault → Type 0) (fault : TreeFault GrowFault) → IsTurnedAway kind at now cause fault → ((f : GrowFault) → cause f → IsUndamaged f)
+    → ((page : ℕ) (sort : PageKind) → IfSome now (λ bytes. ¬ IsNumberPage kind bytes page sort) → IfSome told (λ map. ¬ IsNumberPage kind (stream_of o map) page sort)) → IsTakingFault (IsNumberPage kind) o m told fault
+take_change kind o m at now told cause Exists why from blame = tt
+take_change kind o m at now told cause Absent why from blame = tt
+take_change kind o m at now told cause (Damaged page sort) why from blame = blame page sort why
+take_change kind o m at now told cause (Pages f) why from blame = inl (from f why)
+take_change kind o m at now told cause NoMemory why from blame = tt

@@ -3,12 +3,13 @@ use Rattle.std.specs.Prelude.{◌≡◌, ℕ, List, Bool, Option, Some}
 use Rattle.bfs_base.specs.declared.kind.KeyKind.{KeyKind}
 use Rattle.bfs_bitmap.specs.Runs.{Room}
 use Rattle.bfs_node.specs.Page.{Row}
+use Rattle.bfs_txn.specs.Told.{StaysChanged}
 use Rattle.bfs_stream.specs.Grown.{AreWritten}
 use Rattle.bfs_stream.specs.Places.{whole_at}
 use Rattle.bfs_stream.specs.Sizes.{Origin, sizes_of}
 use Rattle.bfs_stream.specs.Told.{contents}
 use Rattle.bfs_stream_pages.specs.Held.{Held, IsReadable, stream_of}
-use Rattle.bfs_stream_pages.specs.Moves.{Moved}
+use Rattle.bfs_stream_pages.specs.Moves.{ChangesFresh, Moved}
 use Rattle.bfs_values.specs.Rows.{rows_in}
 use Rattle.bfs_maps.specs.declared.tree.TreeAt.{TreeAt}
 use Rattle.bfs_maps.specs.NumberTrees.{IsNumberTree, IsTreeOf}
@@ -35,7 +36,7 @@ pub record IsMap (kind : KeyKind) (o : Origin) (v : Room) (m : ℕ → Option (L
   pub tree : IsNumberTree kind (stream_of o m)
 
 -- The stream is held since, and its bytes have a property. It has perhaps taken fresh blocks, and nothing else has moved; what
--- was written are blocks of the stream and blocks of the bitmap.
+-- was written are blocks of the stream and blocks of the bitmap; what was changed stays so, and fresh blocks are changed.
 pub record StreamNow (o : Origin) (v now : Room) (m : ℕ → Option (List ℕ)) (P : List ℕ → Type 0) (told : Option (ℕ → Option (List ℕ))) (old new : ℕ → Bool) : Type 0 where
   pub map : ℕ → Option (List ℕ)
   pub is : told ≡ Some map
@@ -43,6 +44,8 @@ pub record StreamNow (o : Origin) (v now : Room) (m : ℕ → Option (List ℕ))
   pub bytes : P (stream_of o map)
   pub moved : Moved o v now m map
   pub written : AreWritten v old new (whole_at o.sizes (contents map) o.id)
+  pub stays : StaysChanged old new
+  pub fresh : ChangesFresh o m map new
 
 -- the map has these rows since
 abbrev pub HasRowsNow : KeyKind → Origin → Room → Room → (ℕ → Option (List ℕ)) → List Row → Option (ℕ → Option (List ℕ)) → (ℕ → Bool) → (ℕ → Bool) → Type 0

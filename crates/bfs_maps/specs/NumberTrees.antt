@@ -34,3 +34,8 @@ pub record IsTreeOf (kind : KeyKind) (rows : List Row) (bytes : List ℕ) : Type
 -- a stream's bytes are told, and have a property
 abbrev pub IsTold : Option (List ℕ) → (List ℕ → Type 0) → Type 0
 IsTold told P = (bytes : List ℕ) × (told ≡ Some bytes) × P bytes
+
+-- The bytes are a whole tree of this kind of keys, and its value at a key, if it has one, is a number. Other values may mean anything.
+pub record HoldsNumber (kind : KeyKind) (key : Key) (bytes : List ℕ) : Type 0 where
+  pub tree : IsWholeTree kind bytes
+  pub number : (value : ℤ) → assoc kind (rows_in kind bytes) key ≡ Some value → IsNumber value

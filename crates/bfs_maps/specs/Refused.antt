@@ -72,15 +72,16 @@ IsPutFault kind o v m rows key (Damaged page sort) = ⊥
 IsPutFault kind o v m rows key (Pages fault) = HasFailed o v m fault
 IsPutFault kind o v m rows key NoMemory = Unit {0}
 
--- a row wasn't taken out of a map: its key isn't there; or a block could not be had, for a reason
-abbrev pub IsTakeFault : KeyKind → Origin → Room → (ℕ → Option (List ℕ)) → List Row → Key → TreeFault GrowFault → Type 0
-IsTakeFault kind o v m rows key Exists = ⊥
-IsTakeFault kind o v m rows key Absent = assoc kind rows key ≡ None
-IsTakeFault kind o v m rows key (Damaged page sort) = ⊥
-IsTakeFault kind o v m rows key (Pages fault) = HasFailed o v m fault
-IsTakeFault kind o v m rows key NoMemory = Unit {0}
+-- a row wasn't taken out of a map: its key isn't there; or a block could not be had, and none is damaged
+abbrev pub IsTakeFault : KeyKind → List Row → Key → TreeFault GrowFault → Type 0
+IsTakeFault kind rows key Exists = ⊥
+IsTakeFault kind rows key Absent = assoc kind rows key ≡ None
+IsTakeFault kind rows key (Damaged page sort) = ⊥
+IsTakeFault kind rows key (Pages fault) = IsUndamaged fault
+IsTakeFault kind rows key NoMemory = Unit {0}
 
--- a map was not read: a block could not be had, and none is damaged; or there is no room for the answer
+-- a map was not read, or a pair not taken out of an index: a block could not be had, and none is damaged; or there is no room for
+-- the answer, or for a number
 abbrev pub IsUndone : TreeFault GrowFault → Type 0
 IsUndone Exists = ⊥
 IsUndone Absent = ⊥
@@ -111,8 +112,17 @@ IsChangeFault good o v m told (Damaged page sort) = IfSome told (λ map. ¬ good
 IsChangeFault good o v m told (Pages fault) = IsUnsized o m fault ⊎ HasFailed o v m fault
 IsChangeFault good o v m told NoMemory = Unit {0}
 
+-- Why a call that takes from a tree in a held stream is refused, whatever the stream's bytes are: a page isn't as it has to be in
+-- the stream since; or the stream isn't of whole pages; or a block could not be had, and none is damaged. No page is added.
+abbrev pub IsTakingFault : (List ℕ → ℕ → PageKind → Type 0) → Origin → (ℕ → Option (List ℕ)) → Option (ℕ → Option (List ℕ)) → TreeFault GrowFault → Type 0
+IsTakingFault good o m told Exists = Unit {0}
+IsTakingFault good o m told Absent = Unit {0}
+IsTakingFault good o m told (Damaged page sort) = IfSome told (λ map. ¬ good (stream_of o map) page sort)
+IsTakingFault good o m told (Pages fault) = IsUnsized o m fault
+IsTakingFault good o m told NoMemory = Unit {0}
+
 -- the causes of a fault in what lies below, of a call that reads, of one that puts and of one that takes: only one that puts
--- answers that a key is there, and only one that takes that it isn't; and one that reads asks for no run
+-- answers that a key is there, and only one that takes that it isn't; and only one that puts asks for a run
 abbrev pub HasReadCause : Counts → Counts → TreeFault GrowFault → Type 0
 HasReadCause old new Exists = ⊥
 HasReadCause old new Absent = ⊥
@@ -131,5 +141,5 @@ abbrev pub HasTakeCause : Counts → Counts → TreeFault GrowFault → Type 0
 HasTakeCause old new Exists = ⊥
 HasTakeCause old new Absent = Unit {0}
 HasTakeCause old new (Damaged page sort) = Unit {0}
-HasTakeCause old new (Pages fault) = IsGrowCause 1 old new fault
+HasTakeCause old new (Pages fault) = IsOfBlock fault × IsGrowCause 1 old new fault
 HasTakeCause old new NoMemory = Unit {0}

@@ -9,7 +9,7 @@ ghost use Rattle.bfs_pages.specs.Writes.{Kept};
 ghost use Rattle.bfs_values.specs.Links.{link_in};
 ghost use Rattle.bfs_values.specs.Rows.{rows_in};
 ghost use Rattle.bfs_values.specs.declared.link.Link.TheVariants.{Number};
-ghost use Rattle.bfs_maps.specs.NumberTrees.{IsNumber, IsNumberTree, IsNumberAt, IsTreeOf, IsTold};
+ghost use Rattle.bfs_maps.specs.NumberTrees.{IsNumber, IsNumberTree, IsNumberAt, HoldsNumber, IsTreeOf, IsTold};
 ghost use Rattle.bfs_insert.specs.Puts.{IsHindered};
 ghost use Rattle.bfs_maps.specs.Refused.{IsUnnumbered, IsTurnedAway, IsNotPut, IsNotTaken};
 
@@ -43,7 +43,7 @@ pub(crate) fn number_in<P: Pages, L: Ledger>(
 ) -> Result<Option<u64>, TreeFault<P::Fault>>
     requires kind { IsTreeKind kind }
     requires key { IsSought kind key.now }
-    ensures found { (b : List ℕ) → P.told pages.old ≡ Some b → IsNumberTree kind b → MatchResult result (IsNumberAt kind (rows_in kind b) key.now) IsOfPages }
+    ensures found { (b : List ℕ) → P.told pages.old ≡ Some b → HoldsNumber kind key.now b → MatchResult result (IsNumberAt kind (rows_in kind b) key.now) IsOfPages }
     ensures refused { IfErr result (IsUnnumbered kind (P.told pages.new) (P.is_cause pages.old pages.new)) }
     ensures just_read { IfErr result (IsJustRead (P.size pages.new) (P.last pages.new)) }
     ensures told { P.told pages.new ≡ P.told pages.old }

@@ -11,7 +11,7 @@ ghost use Rattle.bfs_values.specs.Reached.{IsWholeTree};
 ghost use Rattle.bfs_range.specs.Answers.{answer_of};
 ghost use Rattle.bfs_range.specs.Ranges.{rows_between};
 ghost use Rattle.bfs_maps.specs.Mapped.{origin_of, rows_of, HasReadable};
-ghost use Rattle.bfs_maps.specs.NumberTrees.{IsNumberTree, IsNumberAt};
+ghost use Rattle.bfs_maps.specs.NumberTrees.{HoldsNumber, IsNumberAt};
 ghost use Rattle.bfs_maps.specs.Refused.{IsNumberPage, IsReadFault, HasReadCause, IsUndone};
 
 use crate::TreeAt;
@@ -34,7 +34,7 @@ fn number_over<B: Blocks, L: Ledger>(
 ) -> Result<Option<u64>, MapFault>
     requires kind { IsTreeKind kind }
     requires key { IsSought kind key.now }
-    ensures found { (m : ℕ → Option (List ℕ)) → B.told pages.old.under.now ≡ Some m → IsNumberTree kind (stream_of pages.old.backing m) → MatchResult result (IsNumberAt kind (rows_of kind pages.old.backing m) key.now) IsUndone }
+    ensures found { (m : ℕ → Option (List ℕ)) → B.told pages.old.under.now ≡ Some m → HoldsNumber kind key.now (stream_of pages.old.backing m) → MatchResult result (IsNumberAt kind (rows_of kind pages.old.backing m) key.now) IsUndone }
     ensures refused { (m : ℕ → Option (List ℕ)) → B.told pages.old.under.now ≡ Some m → IfErr result (IsReadFault (IsNumberPage kind (stream_of pages.old.backing m)) pages.old.backing m) }
     ensures told { B.told pages.new.under.now ≡ B.told pages.old.under.now }
     ensures changed { B.changed pages.new.under.now ≡ B.changed pages.old.under.now }
@@ -66,7 +66,7 @@ fn number_with<B: Blocks, L: Ledger>(
     requires size { B.size under.old ≡ tree.sup.block_size }
     requires whole { length % 1024 ≡ 0 }
     requires held { (m : ℕ → Option (List ℕ)) → B.told under.old ≡ Some m → ∥ IsReadable (origin_of tree) length m ∥₁ }
-    ensures found { (m : ℕ → Option (List ℕ)) → B.told under.old ≡ Some m → IsNumberTree tree.kind (stream_of (origin_of tree) m) → MatchResult result (IsNumberAt tree.kind (rows_of tree.kind (origin_of tree) m) key.now) IsUndone }
+    ensures found { (m : ℕ → Option (List ℕ)) → B.told under.old ≡ Some m → HoldsNumber tree.kind key.now (stream_of (origin_of tree) m) → MatchResult result (IsNumberAt tree.kind (rows_of tree.kind (origin_of tree) m) key.now) IsUndone }
     ensures refused { (m : ℕ → Option (List ℕ)) → B.told under.old ≡ Some m → IfErr result (IsReadFault (IsNumberPage tree.kind (stream_of (origin_of tree) m)) (origin_of tree) m) }
     ensures told { B.told under.new ≡ B.told under.old }
     ensures changed { B.changed under.new ≡ B.changed under.old }
@@ -93,7 +93,7 @@ pub fn number_at<B: Blocks>(
     requires key { IsSought tree.kind key.now }
     requires size { B.size under.old ≡ tree.sup.block_size }
     requires stream { (m : ℕ → Option (List ℕ)) → B.told under.old ≡ Some m → HasReadable (origin_of tree) m }
-    ensures found { (m : ℕ → Option (List ℕ)) → B.told under.old ≡ Some m → IsNumberTree tree.kind (stream_of (origin_of tree) m) → MatchResult result (IsNumberAt tree.kind (rows_of tree.kind (origin_of tree) m) key.now) IsUndone }
+    ensures found { (m : ℕ → Option (List ℕ)) → B.told under.old ≡ Some m → HoldsNumber tree.kind key.now (stream_of (origin_of tree) m) → MatchResult result (IsNumberAt tree.kind (rows_of tree.kind (origin_of tree) m) key.now) IsUndone }
     ensures refused { (m : ℕ → Option (List ℕ)) → B.told under.old ≡ Some m → IfErr result (IsReadFault (IsNumberPage tree.kind (stream_of (origin_of tree) m)) (origin_of tree) m) }
     ensures told { B.told under.new ≡ B.told under.old }
     ensures changed { B.changed under.new ≡ B.changed under.old }

@@ -5,6 +5,7 @@ ghost use Rattle.bfs_super.specs.Conditions.{IsValid, natural};
 ghost use Rattle.bfs_bitmap.specs.Fills.{IsBitmapBlock};
 ghost use Rattle.bfs_node.specs.Search.{IsSought};
 ghost use Rattle.bfs_txn.specs.Faults.{AreLater};
+ghost use Rattle.bfs_txn.specs.Told.{StaysChanged};
 ghost use Rattle.bfs_pages.specs.Answers.{IsOfKind};
 ghost use Rattle.bfs_pages.specs.Maps.{assoc, put, without};
 ghost use Rattle.bfs_stream.specs.Grown.{IsOfVolume};
@@ -12,7 +13,7 @@ ghost use Rattle.bfs_stream.specs.Sizes.{sizes_of};
 ghost use Rattle.bfs_stream_pages.specs.Held.{Held, stream_of};
 ghost use Rattle.bfs_maps.specs.Mapped.{origin_of, rows_of, HasHeld, IsMap, HasRowsNow};
 ghost use Rattle.bfs_maps.specs.NumberTrees.{IsNumberTree};
-ghost use Rattle.bfs_maps.specs.Refused.{IsNumberPage, IsChangeFault, IsPutFault, IsTakeFault, HasPutCause, HasTakeCause};
+ghost use Rattle.bfs_maps.specs.Refused.{IsNumberPage, IsChangeFault, IsTakingFault, IsPutFault, IsTakeFault, HasPutCause, HasTakeCause};
 
 use crate::TreeAt;
 use crate::numbers::{put_in, take_in};
@@ -44,6 +45,7 @@ fn put_over<E: Edits, L: Ledger>(
     ensures rest { pages.new.bitmap.now ≡ record pages.old.bitmap.now { tally = pages.new.bitmap.now.tally } }
     ensures backing { pages.new.backing ≡ pages.old.backing }
     ensures changed { (k : ℕ) → E.changed pages.new.edits.now k ≡ true → (E.changed pages.old.edits.now k ≡ true) ⊎ (IsBitmapBlock pages.old.bitmap.now k ⊎ (k < pages.old.backing.sizes.blocks)) }
+    ensures stays { StaysChanged (E.changed pages.old.edits.now) (E.changed pages.new.edits.now) }
     ensures edits_name { pages.new.edits.ghost_name ≡ pages.old.edits.ghost_name }
     ensures bitmap_name { pages.new.bitmap.ghost_name ≡ pages.old.bitmap.ghost_name }
     ensures frame { E.frame pages.new.edits.now ≡ E.frame pages.old.edits.now }
@@ -81,13 +83,16 @@ fn put_with<E: Edits, L: Ledger>(
     ensures blamed { (m : ℕ → Option (List ℕ)) → E.told edits.old ≡ Some m → Held (origin_of tree) bitmap.old length m → IfErr result (IsChangeFault (IsOfKind tree.kind) (origin_of tree) bitmap.old m (E.told edits.new)) }
     ensures rest { bitmap.new ≡ record bitmap.old { tally = bitmap.new.tally } }
     ensures changed { (k : ℕ) → E.changed edits.new k ≡ true → (E.changed edits.old k ≡ true) ⊎ (IsBitmapBlock bitmap.old k ⊎ (k < natural tree.sup.num_blocks)) }
+    ensures stays { StaysChanged (E.changed edits.old) (E.changed edits.new) }
     ensures size { E.size edits.new ≡ E.size edits.old }
     ensures frame { E.frame edits.new ≡ E.frame edits.old }
     ensures later { AreLater (E.counts edits.old) (E.counts edits.new) }
     ensures cause { IfErr result (HasPutCause (E.counts edits.old) (E.counts edits.new)) }
 {
     let mut steps = Steps::<L>::begin(ledger);
-    let mut pages = StreamPages::over(tree.alloc, edits, bitmap, tree.inode, &tree.sup, length);
+    let mut pages = StreamPages::over(
+        tree.alloc, edits, bitmap, tree.inode, &tree.sup, length, false,
+    );
     put_over(&mut pages, tree.kind, key, number, &mut steps)
 }
 
@@ -113,6 +118,7 @@ pub fn put_number<E: Edits>(
     ensures blamed { (m : ℕ → Option (List ℕ)) → E.told edits.old ≡ Some m → IfErr result (IsChangeFault (IsOfKind tree.kind) (origin_of tree) bitmap.old m (E.told edits.new)) }
     ensures rest { bitmap.new ≡ record bitmap.old { tally = bitmap.new.tally } }
     ensures changed { (k : ℕ) → E.changed edits.new k ≡ true → (E.changed edits.old k ≡ true) ⊎ (IsBitmapBlock bitmap.old k ⊎ (k < natural tree.sup.num_blocks)) }
+    ensures stays { StaysChanged (E.changed edits.old) (E.changed edits.new) }
     ensures size { E.size edits.new ≡ E.size edits.old }
     ensures frame { E.frame edits.new ≡ E.frame edits.old }
     ensures later { AreLater (E.counts edits.old) (E.counts edits.new) }
@@ -133,16 +139,18 @@ fn take_over<E: Edits, L: Ledger>(
     steps: &mut Steps<L>,
 ) -> Result<u64, MapFault>
     requires unfailed { pages.old.failed ≡ None }
+    requires fixed { pages.old.fixed ≡ true }
     requires begun { pages.old.start.value ≡ pages.old.edits.now }
     requires kind { IsTreeKind kind }
     requires key { IsSought kind key.now }
     ensures taken { (m : ℕ → Option (List ℕ)) → E.told pages.old.edits.now ≡ Some m → Held pages.old.backing pages.old.bitmap.now pages.old.length m → IsNumberTree kind (stream_of pages.old.backing m) → OnOk result (HasRowsNow kind pages.old.backing pages.old.bitmap.now pages.new.bitmap.now m (without kind (rows_of kind pages.old.backing m) key.now) (E.told pages.new.edits.now) (E.changed pages.old.edits.now) (E.changed pages.new.edits.now)) }
     ensures number { (m : ℕ → Option (List ℕ)) → E.told pages.old.edits.now ≡ Some m → Held pages.old.backing pages.old.bitmap.now pages.old.length m → IsNumberTree kind (stream_of pages.old.backing m) → IfOk result (λ number. assoc kind (rows_of kind pages.old.backing m) key.now ≡ Some (pos number)) }
-    ensures refused { (m : ℕ → Option (List ℕ)) → E.told pages.old.edits.now ≡ Some m → Held pages.old.backing pages.old.bitmap.now pages.old.length m → IsNumberTree kind (stream_of pages.old.backing m) → IfErr result (IsTakeFault kind pages.old.backing pages.old.bitmap.now m (rows_of kind pages.old.backing m) key.now) }
-    ensures blamed { (m : ℕ → Option (List ℕ)) → E.told pages.old.edits.now ≡ Some m → Held pages.old.backing pages.old.bitmap.now pages.old.length m → IfErr result (IsChangeFault (IsNumberPage kind) pages.old.backing pages.old.bitmap.now m (E.told pages.new.edits.now)) }
+    ensures refused { (m : ℕ → Option (List ℕ)) → E.told pages.old.edits.now ≡ Some m → Held pages.old.backing pages.old.bitmap.now pages.old.length m → IsNumberTree kind (stream_of pages.old.backing m) → IfErr result (IsTakeFault kind (rows_of kind pages.old.backing m) key.now) }
+    ensures blamed { (m : ℕ → Option (List ℕ)) → E.told pages.old.edits.now ≡ Some m → Held pages.old.backing pages.old.bitmap.now pages.old.length m → IfErr result (IsTakingFault (IsNumberPage kind) pages.old.backing m (E.told pages.new.edits.now)) }
     ensures rest { pages.new.bitmap.now ≡ record pages.old.bitmap.now { tally = pages.new.bitmap.now.tally } }
     ensures backing { pages.new.backing ≡ pages.old.backing }
     ensures changed { (k : ℕ) → E.changed pages.new.edits.now k ≡ true → (E.changed pages.old.edits.now k ≡ true) ⊎ (IsBitmapBlock pages.old.bitmap.now k ⊎ (k < pages.old.backing.sizes.blocks)) }
+    ensures stays { StaysChanged (E.changed pages.old.edits.now) (E.changed pages.new.edits.now) }
     ensures edits_name { pages.new.edits.ghost_name ≡ pages.old.edits.ghost_name }
     ensures bitmap_name { pages.new.bitmap.ghost_name ≡ pages.old.bitmap.ghost_name }
     ensures frame { E.frame pages.new.edits.now ≡ E.frame pages.old.edits.now }
@@ -174,17 +182,20 @@ fn take_with<E: Edits, L: Ledger>(
     requires held { (m : ℕ → Option (List ℕ)) → E.told edits.old ≡ Some m → ∥ Held (origin_of tree) bitmap.old length m ∥₁ }
     ensures taken { (m : ℕ → Option (List ℕ)) → E.told edits.old ≡ Some m → Held (origin_of tree) bitmap.old length m → IsNumberTree tree.kind (stream_of (origin_of tree) m) → OnOk result (HasRowsNow tree.kind (origin_of tree) bitmap.old bitmap.new m (without tree.kind (rows_of tree.kind (origin_of tree) m) key.now) (E.told edits.new) (E.changed edits.old) (E.changed edits.new)) }
     ensures number { (m : ℕ → Option (List ℕ)) → E.told edits.old ≡ Some m → Held (origin_of tree) bitmap.old length m → IsNumberTree tree.kind (stream_of (origin_of tree) m) → IfOk result (λ number. assoc tree.kind (rows_of tree.kind (origin_of tree) m) key.now ≡ Some (pos number)) }
-    ensures refused { (m : ℕ → Option (List ℕ)) → E.told edits.old ≡ Some m → Held (origin_of tree) bitmap.old length m → IsNumberTree tree.kind (stream_of (origin_of tree) m) → IfErr result (IsTakeFault tree.kind (origin_of tree) bitmap.old m (rows_of tree.kind (origin_of tree) m) key.now) }
-    ensures blamed { (m : ℕ → Option (List ℕ)) → E.told edits.old ≡ Some m → Held (origin_of tree) bitmap.old length m → IfErr result (IsChangeFault (IsNumberPage tree.kind) (origin_of tree) bitmap.old m (E.told edits.new)) }
+    ensures refused { (m : ℕ → Option (List ℕ)) → E.told edits.old ≡ Some m → Held (origin_of tree) bitmap.old length m → IsNumberTree tree.kind (stream_of (origin_of tree) m) → IfErr result (IsTakeFault tree.kind (rows_of tree.kind (origin_of tree) m) key.now) }
+    ensures blamed { (m : ℕ → Option (List ℕ)) → E.told edits.old ≡ Some m → Held (origin_of tree) bitmap.old length m → IfErr result (IsTakingFault (IsNumberPage tree.kind) (origin_of tree) m (E.told edits.new)) }
     ensures rest { bitmap.new ≡ record bitmap.old { tally = bitmap.new.tally } }
     ensures changed { (k : ℕ) → E.changed edits.new k ≡ true → (E.changed edits.old k ≡ true) ⊎ (IsBitmapBlock bitmap.old k ⊎ (k < natural tree.sup.num_blocks)) }
+    ensures stays { StaysChanged (E.changed edits.old) (E.changed edits.new) }
     ensures size { E.size edits.new ≡ E.size edits.old }
     ensures frame { E.frame edits.new ≡ E.frame edits.old }
     ensures later { AreLater (E.counts edits.old) (E.counts edits.new) }
     ensures cause { IfErr result (HasTakeCause (E.counts edits.old) (E.counts edits.new)) }
 {
     let mut steps = Steps::<L>::begin(ledger);
-    let mut pages = StreamPages::over(tree.alloc, edits, bitmap, tree.inode, &tree.sup, length);
+    let mut pages = StreamPages::over(
+        tree.alloc, edits, bitmap, tree.inode, &tree.sup, length, true,
+    );
     take_over(&mut pages, tree.kind, key, &mut steps)
 }
 
@@ -204,10 +215,11 @@ pub fn take_number<E: Edits>(
     requires stream { (m : ℕ → Option (List ℕ)) → E.told edits.old ≡ Some m → HasHeld (origin_of tree) bitmap.old m }
     ensures taken { (m : ℕ → Option (List ℕ)) → E.told edits.old ≡ Some m → IsMap tree.kind (origin_of tree) bitmap.old m → OnOk result (HasRowsNow tree.kind (origin_of tree) bitmap.old bitmap.new m (without tree.kind (rows_of tree.kind (origin_of tree) m) key.now) (E.told edits.new) (E.changed edits.old) (E.changed edits.new)) }
     ensures number { (m : ℕ → Option (List ℕ)) → E.told edits.old ≡ Some m → IsMap tree.kind (origin_of tree) bitmap.old m → IfOk result (λ number. assoc tree.kind (rows_of tree.kind (origin_of tree) m) key.now ≡ Some (pos number)) }
-    ensures refused { (m : ℕ → Option (List ℕ)) → E.told edits.old ≡ Some m → IsMap tree.kind (origin_of tree) bitmap.old m → IfErr result (IsTakeFault tree.kind (origin_of tree) bitmap.old m (rows_of tree.kind (origin_of tree) m) key.now) }
-    ensures blamed { (m : ℕ → Option (List ℕ)) → E.told edits.old ≡ Some m → IfErr result (IsChangeFault (IsNumberPage tree.kind) (origin_of tree) bitmap.old m (E.told edits.new)) }
+    ensures refused { (m : ℕ → Option (List ℕ)) → E.told edits.old ≡ Some m → IsMap tree.kind (origin_of tree) bitmap.old m → IfErr result (IsTakeFault tree.kind (rows_of tree.kind (origin_of tree) m) key.now) }
+    ensures blamed { (m : ℕ → Option (List ℕ)) → E.told edits.old ≡ Some m → IfErr result (IsTakingFault (IsNumberPage tree.kind) (origin_of tree) m (E.told edits.new)) }
     ensures rest { bitmap.new ≡ record bitmap.old { tally = bitmap.new.tally } }
     ensures changed { (k : ℕ) → E.changed edits.new k ≡ true → (E.changed edits.old k ≡ true) ⊎ (IsBitmapBlock bitmap.old k ⊎ (k < natural tree.sup.num_blocks)) }
+    ensures stays { StaysChanged (E.changed edits.old) (E.changed edits.new) }
     ensures size { E.size edits.new ≡ E.size edits.old }
     ensures frame { E.frame edits.new ≡ E.frame edits.old }
     ensures later { AreLater (E.counts edits.old) (E.counts edits.new) }

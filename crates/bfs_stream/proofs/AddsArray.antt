@@ -6,12 +6,12 @@ use Rattle.std.proofs.lemmas.List.{replicate-append-replicate, append-nil}
 use Rattle.bfs_base.specs.Lists.{times, Has, AreSame, counted_from}
 use Rattle.bfs_bytes.specs.declared.Run.{Run}
 use Rattle.bfs_inode.specs.Inode.{Stream, stream_at, runs_in}
-use Rattle.bfs_txn.specs.Told.{with_block}
+use Rattle.bfs_txn.specs.Told.{StaysChanged, with_block}
 use Rattle.bfs_bitmap.specs.Runs.{Room, Fits, IsCounted, is_free}
 use Rattle.bfs_stream.specs.Sizes.{Sizes, Origin, IsInVolume, runs_per_block, first_block}
 use Rattle.bfs_stream.specs.Places.{Levels, run_blocks, blocks_of, used_runs, array_runs, level_blocks, arrays_of, places_of, fields, second_arrays, levels_at, arrays_at, places_at, frame_at, whole_at, HasLevels}
 use Rattle.bfs_stream.specs.Told.{contents, AreTold}
-use Rattle.bfs_stream.specs.Grown.{Owns, Took, Grown, HasCleared, HasFields, HasTable, AreWritten, KeepsRest}
+use Rattle.bfs_stream.specs.Grown.{Owns, Took, Grown, HasCleared, HasFields, HasTable, HasWritten, KeepsRest}
 use Rattle.bfs_stream.proofs.Levels.{length-counted}
 use Rattle.bfs_stream.proofs.Arrays.{array_is}
 use Rattle.bfs_stream.proofs.Doubles.{times-append}
@@ -20,7 +20,8 @@ use Rattle.bfs_stream.proofs.Zeros.{no_run, zero_runs}
 use Rattle.bfs_stream.proofs.Opens.{opened_indirect, opened_places, opened_sound}
 use Rattle.bfs_stream.proofs.AddsDirect.{same_test, apart_test, is_test, no_runs_in}
 use Rattle.bfs_stream.proofs.AddsIndirect.{inode_apart, in_whole, behind_in}
-use Rattle.bfs_stream.proofs.Finish.{grown_is, few_more}
+use Rattle.bfs_stream.proofs.Finish.{array_entered, grown_is, few_more}
+use Rattle.bfs_stream.proofs.Writes.{IsBitBlockOf}
 
 pub same_map : (a b : ℕ → Option (List ℕ)) (t : Option (ℕ → Option (List ℕ))) → t ≡ Some a → t ≡ Some b → a ≡ b
 same_map a b t e f = cc
@@ -190,15 +191,15 @@ module _ (o : Origin) (v now : Room) (array : Run) (m : ℕ → Option (List ℕ
     rest_now : KeepsRest (contents m o.id) (contents m2 o.id)
     rest_now = subst (λ (x : Option (List ℕ)). KeepsRest (unwrap_or x []) (contents m2 o.id)) (kept o.id inode_in) (subst (λ (b : List ℕ). KeepsRest (contents cleared.map o.id) b) (sym here) wrote.kept)
 
-    pub opened : (old new : ℕ → Bool) → AreWritten v old new (o.id ∷ run_blocks o.sizes array) → Grown o v now m [] told4 old new
+    pub opened : (old new : ℕ → Bool) → HasWritten (IsBitBlockOf v (run_blocks o.sizes array)) old new (o.id ∷ run_blocks o.sizes array) → StaysChanged old new → ((k : ℕ) → Has (run_blocks o.sizes array) k → new k ≡ true) → Grown o v now m [] told4 old new
     unfolding m2
-    opened old new changes =
+    opened old new changes stays all =
         subst (λ (x : Room). Grown o v x m [] told4 old new) (sym rest)
         (subst (λ (t : Option (ℕ → Option (List ℕ))). Grown o v (record v { tally = now.tally }) m [] t old new) (sym wrote.is)
         (grown_is o v now.tally array m took.map (with_block o.id wrote.bytes cleared.map) told1 (o.id ∷ run_blocks o.sizes array) [] next owns took.is
         (subst (λ (x : Room). Fits x took.map) rest took.fits) took.others took.first took.were_free
         (λ k. sym (ap (λ (x : Room). is_free x took.map k) rest) ∙ took.free k) took.marks (λ count. subst (λ (x : Room). IsCounted x took.map) rest (took.counted count))
-        written levels_are next_sound next_places same keeps inside_frame told_now next_few rest_now old new changes))
+        written levels_are next_sound next_places same keeps inside_frame told_now next_few rest_now old new changes stays (array_entered o m array (arrays_of o.sizes next) new frame_sum all)))
 
     -- the level has an array now
     pub ready : (n : ℕ → Option (List ℕ)) → told4 ≡ Some n → 0 < array.len → HasTable o n

@@ -8,19 +8,20 @@ use Rattle.bfs_base.specs.Lists.{times, Has, Agree, AreSame}
 use Rattle.bfs_bytes.specs.declared.Run.{Run}
 use Rattle.bfs_inode.specs.Inode.{Stream, stream_at}
 use Rattle.bfs_inode.proofs.Runs.{length-runs_in}
-use Rattle.bfs_txn.specs.Told.{with_block}
+use Rattle.bfs_txn.specs.Told.{StaysChanged, with_block}
 use Rattle.bfs_bitmap.specs.Runs.{Room, Fits, IsCounted, is_free}
 use Rattle.bfs_stream.specs.Sizes.{Sizes, HasSizes, Origin, IsInVolume, IsWhole, runs_per_block}
 use Rattle.bfs_stream.specs.Places.{Levels, run_blocks, used_runs, array_runs, level_blocks, arrays_of, places_of, fields, levels_at, arrays_at, places_at, frame_at, whole_at, HasLevels}
 use Rattle.bfs_stream.specs.Told.{contents, AreTold}
 use Rattle.bfs_stream.specs.Scans.{ends_of}
-use Rattle.bfs_stream.specs.Grown.{Owns, Took, Grown, AreWritten, KeepsRest}
+use Rattle.bfs_stream.specs.Grown.{Owns, Took, Grown, HasWritten, KeepsRest}
 use Rattle.bfs_stream.proofs.Arrays.{length-array}
 use Rattle.bfs_stream.proofs.Doubles.{times-append}
 use Rattle.bfs_stream.proofs.Frames.{has_rest, has_left, levels_but}
 use Rattle.bfs_stream.proofs.Placed.{direct_end}
 use Rattle.bfs_stream.proofs.Directs.{with_direct, places_more, arrays_stay, direct_sound}
-use Rattle.bfs_stream.proofs.Finish.{grown_is, few_more}
+use Rattle.bfs_stream.proofs.Finish.{none_entered, grown_is, few_more}
+use Rattle.bfs_stream.proofs.Writes.{IsBitBlockOf}
 
 pub apart_test : (k x : ℕ) → times k (x ∷ []) ≡ 0 → (k == x) ≡ false
 apart_test k x e = by_test (x == k) refl e
@@ -196,9 +197,9 @@ module _ (o : Origin) (v now : Room) (run none : Run) (m : ℕ → Option (List 
   rest_now : KeepsRest (contents m o.id) (contents m2 o.id)
   rest_now = subst (λ (b : List ℕ). KeepsRest b (contents m2 o.id)) read (subst (λ (b : List ℕ). KeepsRest bytes0 b) (sym here) kept)
 
-  pub added : (old new : ℕ → Bool) → AreWritten v old new (o.id ∷ []) → Grown o v now m (run_blocks o.sizes run) told2 old new
+  pub added : (old new : ℕ → Bool) → HasWritten (IsBitBlockOf v (run_blocks o.sizes run)) old new (o.id ∷ []) → StaysChanged old new → Grown o v now m (run_blocks o.sizes run) told2 old new
   unfolding m2
-  added old new changes =
+  added old new changes stays =
       let set_some : told2 ≡ Some (with_block o.id bytes2 took.map) = set_is ∙ ap (option_map (with_block o.id bytes2)) took.is in
       subst (λ (x : Room). Grown o v x m (run_blocks o.sizes run) told2 old new) (sym rest)
       (subst (λ (t : Option (ℕ → Option (List ℕ))). Grown o v (record v { tally = now.tally }) m (run_blocks o.sizes run) t old new) (sym set_some)
@@ -207,7 +208,7 @@ module _ (o : Origin) (v now : Room) (run none : Run) (m : ℕ → Option (List 
       (λ k. sym (ap (λ (x : Room). is_free x took.map k) rest) ∙ took.free k) took.marks (λ count. subst (λ (x : Room). IsCounted x took.map) rest (took.counted count))
       written levels_are next_sound next_places same
       (λ k has. subst (λ (x : List ℕ). Has (o.id ∷ x) k) (sym next_arrays) has)
-      (λ k has. first_has k has) told_now next_few rest_now old new changes))
+      (λ k has. first_has k has) told_now next_few rest_now old new changes stays (none_entered o m (arrays_of o.sizes next) new next_arrays)))
     where
       first_has : (k : ℕ) → Has (o.id ∷ []) k → Has (o.id ∷ arrays_of o.sizes next) k
       first_has k has = has_left (o.id ∷ []) (arrays_of o.sizes next) k has

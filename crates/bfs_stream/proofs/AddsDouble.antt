@@ -1,17 +1,17 @@
 -- An array was taken, cleared and written into the inode as that of the double indirect level.
-use Rattle.std.proofs.Common.{◌≡◌, ◌≤◌, ◌<◌, ◌+◌, ◌*◌, ◌∙◌, ℕ, zero, suc, List, [], ◌∷◌, ◌++◌, length, replicate, Bool, cond, Option, Some, unwrap_or, refl, sym, ap, ap₂, subst, arith}
+use Rattle.std.proofs.Common.{true, ◌≡◌, ◌≤◌, ◌<◌, ◌+◌, ◌*◌, ◌∙◌, ℕ, zero, suc, List, [], ◌∷◌, ◌++◌, length, replicate, Bool, cond, Option, Some, unwrap_or, refl, sym, ap, ap₂, subst, arith}
 use Rattle.std.specs.Prelude.{IsSome}
 use Rattle.std.specs.List.{flat_map}
 use Rattle.std.proofs.lemmas.List.{append-nil}
 use Rattle.bfs_base.specs.Lists.{times, Has, AreSame, counted_from}
 use Rattle.bfs_bytes.specs.declared.Run.{Run}
 use Rattle.bfs_inode.specs.Inode.{Stream, stream_at}
-use Rattle.bfs_txn.specs.Told.{with_block}
+use Rattle.bfs_txn.specs.Told.{StaysChanged, with_block}
 use Rattle.bfs_bitmap.specs.Runs.{Room, Fits, IsCounted, is_free}
 use Rattle.bfs_stream.specs.Sizes.{Origin, IsWhole, runs_per_block, first_block}
 use Rattle.bfs_stream.specs.Places.{Levels, run_blocks, blocks_of, used_runs, array_runs, level_blocks, arrays_of, places_of, fields, second_arrays, levels_at, arrays_at, places_at, frame_at, whole_at, HasLevels}
 use Rattle.bfs_stream.specs.Told.{contents, AreTold}
-use Rattle.bfs_stream.specs.Grown.{Owns, Took, Grown, HasCleared, HasFields, HasArray, AreWritten, KeepsRest}
+use Rattle.bfs_stream.specs.Grown.{Owns, Took, Grown, HasCleared, HasFields, HasArray, HasWritten, KeepsRest}
 use Rattle.bfs_stream.proofs.Doubles.{times-append}
 use Rattle.bfs_stream.proofs.Frames.{has_first, has_rest, has_left, array_same}
 use Rattle.bfs_stream.proofs.Zeros.{no_run}
@@ -19,7 +19,8 @@ use Rattle.bfs_stream.proofs.Opens.{opened_double, double_places, double_sound, 
 use Rattle.bfs_stream.proofs.AddsDirect.{same_test, apart_test, is_test, no_runs_in}
 use Rattle.bfs_stream.proofs.AddsIndirect.{inode_apart, in_whole, in_arrays}
 use Rattle.bfs_stream.proofs.AddsArray.{array_zeros, new_apart, kept, same_map}
-use Rattle.bfs_stream.proofs.Finish.{grown_is, few_more}
+use Rattle.bfs_stream.proofs.Finish.{array_entered, grown_is, few_more}
+use Rattle.bfs_stream.proofs.Writes.{IsBitBlockOf}
 
 module _ (o : Origin) (v now : Room) (array : Run) (m : ℕ → Option (List ℕ)) (told1 told2 told4 : Option (ℕ → Option (List ℕ))) (owns : Owns o v [] m) (took : Took o.sizes v now array m told1) (rest : now ≡ record v { tally = now.tally })
     (cleared : HasCleared o.sizes array took.map told2) where
@@ -182,15 +183,15 @@ module _ (o : Origin) (v now : Room) (array : Run) (m : ℕ → Option (List ℕ
     rest_now : KeepsRest (contents m o.id) (contents m2 o.id)
     rest_now = subst (λ (x : Option (List ℕ)). KeepsRest (unwrap_or x []) (contents m2 o.id)) (kept' o.id inode_in) (subst (λ (b : List ℕ). KeepsRest (contents cleared.map o.id) b) (sym here) wrote.kept)
 
-    pub opened : (old new : ℕ → Bool) → AreWritten v old new (o.id ∷ run_blocks o.sizes array) → Grown o v now m [] told4 old new
+    pub opened : (old new : ℕ → Bool) → HasWritten (IsBitBlockOf v (run_blocks o.sizes array)) old new (o.id ∷ run_blocks o.sizes array) → StaysChanged old new → ((k : ℕ) → Has (run_blocks o.sizes array) k → new k ≡ true) → Grown o v now m [] told4 old new
     unfolding m2
-    opened old new changes =
+    opened old new changes stays all =
         subst (λ (x : Room). Grown o v x m [] told4 old new) (sym rest)
         (subst (λ (t : Option (ℕ → Option (List ℕ))). Grown o v (record v { tally = now.tally }) m [] t old new) (sym wrote.is)
         (grown_is o v now.tally array m took.map (with_block o.id wrote.bytes cleared.map) told1 (o.id ∷ run_blocks o.sizes array) [] next owns took.is
         (subst (λ (x : Room). Fits x took.map) rest took.fits) took.others took.first took.were_free
         (λ k. sym (ap (λ (x : Room). is_free x took.map k) rest) ∙ took.free k) took.marks (λ count. subst (λ (x : Room). IsCounted x took.map) rest (took.counted count))
-        written levels_are next_sound next_places same keeps inside_frame told_now next_few rest_now old new changes))
+        written levels_are next_sound next_places same keeps inside_frame told_now next_few rest_now old new changes stays (array_entered o m array (arrays_of o.sizes next) new frame_sum all)))
 
     -- the level has an array now
     pub ready : (n : ℕ → Option (List ℕ)) → told4 ≡ Some n → 0 < array.len → HasArray o n

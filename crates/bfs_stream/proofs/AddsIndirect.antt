@@ -6,19 +6,20 @@ use Rattle.std.proofs.Math.Nat.{mul_comm}
 use Rattle.bfs_base.specs.Lists.{times, Has, Agree, AreSame}
 use Rattle.bfs_bytes.specs.declared.Run.{Run}
 use Rattle.bfs_inode.specs.Inode.{Stream, stream_at}
-use Rattle.bfs_txn.specs.Told.{with_block}
+use Rattle.bfs_txn.specs.Told.{StaysChanged, with_block}
 use Rattle.bfs_bitmap.specs.Runs.{Room, Fits, IsCounted, is_free}
 use Rattle.bfs_stream.specs.Sizes.{Origin, IsInVolume, IsWhole, runs_per_block}
 use Rattle.bfs_stream.specs.Places.{Levels, run_blocks, blocks_of, used_runs, array_runs, level_blocks, arrays_of, places_of, fields, second_arrays, levels_at, arrays_at, places_at, frame_at, whole_at, HasLevels}
 use Rattle.bfs_stream.specs.Told.{contents, AreTold}
-use Rattle.bfs_stream.specs.Grown.{Owns, Took, Grown, HasPut, HasFields, AreWritten, KeepsRest}
+use Rattle.bfs_stream.specs.Grown.{Owns, Took, Grown, HasPut, HasFields, HasWritten, KeepsRest}
 use Rattle.bfs_stream.proofs.Arrays.{length-array}
 use Rattle.bfs_stream.proofs.Doubles.{times-append}
 use Rattle.bfs_stream.proofs.Frames.{has_first, has_rest, has_left, has_right, array_same, levels_table}
 use Rattle.bfs_stream.proofs.Placed.{length-places}
 use Rattle.bfs_stream.proofs.Tables.{with_indirect, indirect_places, indirect_arrays, indirect_sound}
 use Rattle.bfs_stream.proofs.AddsDirect.{same_test, apart_test, is_test, no_runs_in}
-use Rattle.bfs_stream.proofs.Finish.{grown_is, few_more}
+use Rattle.bfs_stream.proofs.Finish.{none_entered, grown_is, few_more}
+use Rattle.bfs_stream.proofs.Writes.{IsBitBlockOf}
 
 module _ (o : Origin) (v : Room) (m : ℕ → Option (List ℕ)) (owns : Owns o v [] m) where
   -- the inode is none of the arrays
@@ -273,9 +274,9 @@ module _ (o : Origin) (v now : Room) (run none array : Run) (m : ℕ → Option 
   rest_now : KeepsRest (contents m o.id) (contents m2 o.id)
   rest_now = subst (λ (b : List ℕ). KeepsRest b (contents m2 o.id)) inode_same (subst (λ (b : List ℕ). KeepsRest (contents put.map o.id) b) (sym here) wrote.kept)
 
-  pub added : (old new : ℕ → Bool) → AreWritten v old new (o.id ∷ run_blocks o.sizes array) → Grown o v now m (run_blocks o.sizes run) told4 old new
+  pub added : (old new : ℕ → Bool) → HasWritten (IsBitBlockOf v (run_blocks o.sizes run)) old new (o.id ∷ run_blocks o.sizes array) → StaysChanged old new → Grown o v now m (run_blocks o.sizes run) told4 old new
   unfolding m2
-  added old new changes =
+  added old new changes stays =
       subst (λ (x : Room). Grown o v x m (run_blocks o.sizes run) told4 old new) (sym rest)
       (subst (λ (t : Option (ℕ → Option (List ℕ))). Grown o v (record v { tally = now.tally }) m (run_blocks o.sizes run) t old new) (sym wrote.is)
       (grown_is o v now.tally run m took.map (with_block o.id wrote.bytes put.map) told1 (o.id ∷ run_blocks o.sizes array) (run_blocks o.sizes run) next owns took.is
@@ -283,7 +284,7 @@ module _ (o : Origin) (v now : Room) (run none array : Run) (m : ℕ → Option 
       (λ k. sym (ap (λ (x : Room). is_free x took.map k) rest) ∙ took.free k) took.marks (λ count. subst (λ (x : Room). IsCounted x took.map) rest (took.counted count))
       written levels_are next_sound next_places same
       (λ k has. subst (λ (x : List ℕ). Has (o.id ∷ x) k) (sym next_arrays) has)
-      inside_frame told_now next_few rest_now old new changes))
+      inside_frame told_now next_few rest_now old new changes stays (none_entered o m (arrays_of o.sizes next) new next_arrays)))
 
 -- the array's blocks and the inode are told on the way
 module _ (o : Origin) (v now : Room) (run none array : Run) (m : ℕ → Option (List ℕ)) (told1 : Option (ℕ → Option (List ℕ))) (owns : Owns o v [] m) (took : Took o.sizes v now run m told1)

@@ -6,12 +6,12 @@ use Rattle.std.proofs.lemmas.List.{length-set}
 use Rattle.bfs_base.specs.Lists.{times, Has, AreSame, IsOnce}
 use Rattle.bfs_bytes.specs.declared.Run.{Run}
 use Rattle.bfs_inode.specs.Inode.{Stream, stream_at}
-use Rattle.bfs_txn.specs.Told.{with_block}
+use Rattle.bfs_txn.specs.Told.{StaysChanged, with_block}
 use Rattle.bfs_bitmap.specs.Runs.{Room, Fits, IsCounted, is_free}
 use Rattle.bfs_stream.specs.Sizes.{Origin, IsWhole, first_block}
 use Rattle.bfs_stream.specs.Places.{Levels, run_blocks, blocks_of, used_runs, array_runs, level_blocks, arrays_of, places_of, fields, second_arrays, levels_at, arrays_at, places_at, frame_at, whole_at, HasLevels}
 use Rattle.bfs_stream.specs.Told.{contents, AreTold}
-use Rattle.bfs_stream.specs.Grown.{Owns, Took, Grown, HasFields, HasTables, HasPutBelow, table_runs, AreWritten, UsesDouble, KeepsRest}
+use Rattle.bfs_stream.specs.Grown.{Owns, Took, Grown, HasFields, HasTables, HasPutBelow, table_runs, HasWritten, UsesDouble, KeepsRest}
 use Rattle.bfs_stream.proofs.Doubles.{times-append}
 use Rattle.bfs_stream.proofs.Frames.{has_first, has_left, array_same, arrays_same}
 use Rattle.bfs_stream.proofs.Placed.{length-places}
@@ -20,7 +20,8 @@ use Rattle.bfs_stream.proofs.AddsArray.{same_map}
 use Rattle.bfs_stream.proofs.Opens.{with_double, run_places, run_sound, length_is}
 use Rattle.bfs_stream.proofs.AddsDirect.{same_test, apart_test, is_test}
 use Rattle.bfs_stream.proofs.AddsTable.{table_blocks, double_blocks, listed_blocks, frame_parts, whole_parts}
-use Rattle.bfs_stream.proofs.Finish.{grown_is}
+use Rattle.bfs_stream.proofs.Finish.{none_entered, grown_is}
+use Rattle.bfs_stream.proofs.Writes.{IsBitBlockOf}
 
 module _ (o : Origin) (v now : Room) (run array : Run) (m : ℕ → Option (List ℕ)) (told1 : Option (ℕ → Option (List ℕ))) (owns : Owns o v [] m) (took : Took o.sizes v now run m told1)
     (array_is : array ≡ (fields o.sizes (contents m) o.id).double_indirect) where
@@ -237,9 +238,9 @@ module _ (o : Origin) (v now : Room) (run array : Run) (m : ℕ → Option (List
         rest_now : KeepsRest (contents m o.id) (contents m2 o.id)
         rest_now = let some : 0 < times o.id (o.id ∷ []) = has_first o.id [] in subst (λ (x : Option (List ℕ)). KeepsRest (unwrap_or x []) (contents m2 o.id)) (same_in o.id (omega (arith, some))) (subst (λ (b : List ℕ). KeepsRest (contents put.map o.id) b) (sym here) wrote.kept)
 
-        pub added : (old new : ℕ → Bool) → AreWritten v old new (o.id ∷ listed_blocks o m) → Grown o v now m (run_blocks o.sizes run) told4 old new
+        pub added : (old new : ℕ → Bool) → HasWritten (IsBitBlockOf v (run_blocks o.sizes run)) old new (o.id ∷ listed_blocks o m) → StaysChanged old new → Grown o v now m (run_blocks o.sizes run) told4 old new
         unfolding m2
-        added old new changes =
+        added old new changes stays =
             subst (λ (x : Room). Grown o v x m (run_blocks o.sizes run) told4 old new) (sym rest)
             (subst (λ (t : Option (ℕ → Option (List ℕ))). Grown o v (record v { tally = now.tally }) m (run_blocks o.sizes run) t old new) (sym wrote.is)
             (grown_is o v now.tally run m took.map (with_block o.id wrote.bytes put.map) told1 changed (run_blocks o.sizes run) next owns took.is
@@ -247,4 +248,4 @@ module _ (o : Origin) (v now : Room) (run array : Run) (m : ℕ → Option (List
             (λ k. sym (ap (λ (x : Room). is_free x took.map k) rest) ∙ took.free k) took.marks (λ count. subst (λ (x : Room). IsCounted x took.map) rest (took.counted count))
             written levels_are next_sound next_places same
             (λ k has. subst (λ (x : List ℕ). Has (o.id ∷ x) k) (sym next_arrays) has)
-            inside_frame told_now next_few rest_now old new changes))
+            inside_frame told_now next_few rest_now old new changes stays (none_entered o m (arrays_of o.sizes next) new next_arrays)))

@@ -1,5 +1,5 @@
 -- An array was taken, cleared and listed in the array of the double indirect level.
-use Rattle.std.proofs.Common.{Bool, ◌≡◌, ◌≤◌, ◌<◌, ◌+◌, ◌*◌, ◌∙◌, ℕ, zero, suc, List, [], ◌∷◌, ◌++◌, length, set, replicate, Option, Some, unwrap_or, refl, sym, ap, ap₂, subst, arith, length-append}
+use Rattle.std.proofs.Common.{true, Bool, ◌≡◌, ◌≤◌, ◌<◌, ◌+◌, ◌*◌, ◌∙◌, ℕ, zero, suc, List, [], ◌∷◌, ◌++◌, length, set, replicate, Option, Some, unwrap_or, refl, sym, ap, ap₂, subst, arith, length-append}
 use Rattle.std.specs.Prelude.{IsSome}
 use Rattle.std.specs.List.{flat_map}
 use Rattle.std.proofs.lemmas.List.{append-nil}
@@ -9,18 +9,19 @@ use Rattle.bfs_base.specs.Lists.{times, Has, Agree, AreSame}
 use Rattle.bfs_bytes.specs.declared.Run.{Run}
 use Rattle.bfs_inode.specs.Inode.{Stream, stream_at}
 use Rattle.bfs_bitmap.specs.Runs.{Room, Fits, IsCounted, is_free}
+use Rattle.bfs_txn.specs.Told.{StaysChanged}
 use Rattle.bfs_stream.specs.Sizes.{Origin, IsWhole, runs_per_block}
 use Rattle.bfs_stream.specs.Places.{Levels, run_blocks, blocks_of, used_runs, array_runs, level_blocks, arrays_of, places_of, fields, second_arrays, levels_at, arrays_at, places_at, frame_at, whole_at, HasLevels}
 use Rattle.bfs_stream.specs.Told.{contents, AreTold}
-use Rattle.bfs_stream.specs.Grown.{Owns, Took, Grown, HasCleared, HasPut, AreTables, table_runs, AreWritten, KeepsRest}
+use Rattle.bfs_stream.specs.Grown.{Owns, Took, Grown, HasCleared, HasPut, AreTables, table_runs, HasWritten, KeepsRest}
 use Rattle.bfs_stream.proofs.Arrays.{length-array}
 use Rattle.bfs_stream.proofs.Doubles.{times-append}
 use Rattle.bfs_stream.proofs.Frames.{has_first, array_same, arrays_same}
 use Rattle.bfs_stream.proofs.Zeros.{no_run}
 use Rattle.bfs_stream.proofs.Opens.{opened_table, none_behind, arrays_more, table_places, table_arrays, table_sound, blocks_same}
 use Rattle.bfs_stream.proofs.AddsArray.{array_zeros, new_apart, kept, same_map}
-use Rattle.bfs_stream.proofs.Writes.{keeps_none}
-use Rattle.bfs_stream.proofs.Finish.{grown_is, few_more}
+use Rattle.bfs_stream.proofs.Writes.{keeps_none, IsBitBlockOf}
+use Rattle.bfs_stream.proofs.Finish.{array_entered, grown_is, few_more}
 
 -- the blocks of the indirect array, of the double indirect array and of those that it lists
 module _ (o : Origin) (m : ℕ → Option (List ℕ)) where
@@ -217,14 +218,14 @@ module _ (o : Origin) (v now : Room) (table array : Run) (m : ℕ → Option (Li
     rest_now : KeepsRest (contents m o.id) (contents put.map o.id)
     rest_now = let some : 0 < times o.id (o.id ∷ []) = has_first o.id [] in subst (λ (x : Option (List ℕ)). KeepsRest (contents m o.id) (unwrap_or x [])) (sym (same_in o.id (omega (arith, some)))) (keeps_none (contents m o.id))
 
-    pub opened : (old new : ℕ → Bool) → AreWritten v old new (run_blocks o.sizes array ++ run_blocks o.sizes table) → Grown o v now m [] told4 old new
-    opened old new changes =
+    pub opened : (old new : ℕ → Bool) → HasWritten (IsBitBlockOf v (run_blocks o.sizes table)) old new (run_blocks o.sizes array ++ run_blocks o.sizes table) → StaysChanged old new → ((k : ℕ) → Has (run_blocks o.sizes table) k → new k ≡ true) → Grown o v now m [] told4 old new
+    opened old new changes stays all =
         subst (λ (x : Room). Grown o v x m [] told4 old new) (sym rest)
         (subst (λ (t : Option (ℕ → Option (List ℕ))). Grown o v (record v { tally = now.tally }) m [] t old new) (sym put.is)
         (grown_is o v now.tally table m took.map put.map told1 changed [] next owns took.is
         (subst (λ (x : Room). Fits x took.map) rest took.fits) took.others took.first took.were_free
         (λ k. sym (ap (λ (x : Room). is_free x took.map k) rest) ∙ took.free k) took.marks (λ count. subst (λ (x : Room). IsCounted x took.map) rest (took.counted count))
-        written levels_are next_sound next_places same keeps inside_frame told_now next_few rest_now old new changes))
+        written levels_are next_sound next_places same keeps inside_frame told_now next_few rest_now old new changes stays (array_entered o m table (arrays_of o.sizes next) new frame_sum all)))
 
     -- one more table is listed now, and as many runs are used as before
     pub ready : (n : ℕ → Option (List ℕ)) → told4 ≡ Some n → (used blocks : ℕ) → AreTables o m (record { array = array; listed = listed; used = used; blocks = blocks }) → AreTables o n (record { array = array; listed = listed + 1; used = used; blocks = blocks })

@@ -1,10 +1,10 @@
 -- Blocks of zeros, one after the other.
-use Rattle.std.proofs.Common.{◌≡◌, ◌≤◌, ◌<◌, ◌+◌, ◌∙◌, ◌⊎◌, inl, inr, ℕ, List, replicate, Bool, true, false, cond, Option, Some, refl, ap, arith}
+use Rattle.std.proofs.Common.{◌≡◌, ◌≤◌, ◌<◌, ◌+◌, ◌∙◌, ◌⊎◌, inl, inr, ℕ, List, replicate, Bool, true, false, ◌||◌, cond, Option, Some, refl, ap, arith}
 use Rattle.std.specs.Prelude.{◌==◌}
 use Rattle.std.specs.Option.{option_map}
-use Rattle.bfs_base.specs.Lists.{times}
+use Rattle.bfs_base.specs.Lists.{times, Has}
 use Rattle.bfs_bytes.specs.declared.Run.{Run}
-use Rattle.bfs_txn.specs.Told.{with_block}
+use Rattle.bfs_txn.specs.Told.{with_block, with_number}
 use Rattle.bfs_stream.specs.Sizes.{Sizes, first_block}
 use Rattle.bfs_stream.specs.Places.{run_blocks}
 use Rattle.bfs_stream.specs.Grown.{HasCleared}
@@ -61,3 +61,17 @@ is_cleared s array first n m told e f cleared = record {
     by_place : (k : ℕ) → times k (run_blocks s array) ≡ 0 → ((first ≤ k) × (k < first + n)) ⊎ ((k < first) ⊎ (first + n ≤ k)) → (k < first) ⊎ (first + n ≤ k)
     by_place k none (inl h) = let some : 0 < times k (run_blocks s array) = has_counted (first_block s array) array.len k (omega (arith, h.0, e)) (omega (arith, h.1, e, f)) in absurd (omega (arith, some, none))
     by_place k none (inr out) = out
+
+-- so many blocks from the first on are changed, and one more
+pub filled_more : (first n : ℕ) (a b : ℕ → Bool) → ((k : ℕ) → first ≤ k → k < first + n → a k ≡ true) → ((k : ℕ) → b k ≡ with_number (first + n) a k) → (k : ℕ) → first ≤ k → k < first + (n + 1) → b k ≡ true
+filled_more first n a b before set k low high = set k ∙ by_test (k == first + n) refl
+  where
+    by_test : (t : Bool) → (k == first + n) ≡ t → ((k == first + n) || a k) ≡ true
+    by_test true e = ap (λ (t : Bool). t || a k) e
+    by_test false e = ap (λ (t : Bool). t || a k) e ∙ before k low (less e)
+      where
+        less : (k == first + n) ≡ false → k < first + n
+        less f = grind (arith, f, high)
+
+pub is_filled : (s : Sizes) (array : Run) (first n : ℕ) (b : ℕ → Bool) → first ≡ first_block s array → n ≡ array.len → ((k : ℕ) → first ≤ k → k < first + n → b k ≡ true) → (k : ℕ) → Has (run_blocks s array) k → b k ≡ true
+is_filled s array first n b e f filled k has = let in_it = counted_in (first_block s array) array.len k has in filled k (omega (arith, in_it.0, e)) (omega (arith, in_it.1, e, f))

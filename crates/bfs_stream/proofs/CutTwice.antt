@@ -1,10 +1,9 @@
 -- A stream that has been cut and then is cut once more.
-use Rattle.std.proofs.Common.{◌≡◌, ◌≤◌, ◌<◌, ◌+◌, ◌-◌, ◌*◌, ◌∙◌, ◌⊎◌, inl, inr, ℕ, zero, suc, List, [], ◌∷◌, ◌++◌, length, Bool, true, false, ◌&&◌, ◌||◌, Option, Some, refl, sym, ap, subst, arith, append_assoc, length-append, not, cond}
-use Rattle.std.specs.Prelude.{◌==◌, nat_lt, Result, Ok, Err, IfOk}
+use Rattle.std.proofs.Common.{◌/◌, ◌≡◌, ◌≤◌, ◌<◌, ◌+◌, ◌-◌, ◌*◌, ◌∙◌, ◌⊎◌, inl, inr, ℕ, zero, suc, List, [], ◌∷◌, ◌++◌, length, Bool, true, false, ◌&&◌, ◌||◌, Option, Some, refl, sym, ap, subst, arith, append_assoc, length-append, not, cond}
+use Rattle.std.specs.Prelude.{◌==◌, nat_lt}
 use Rattle.std.proofs.lemmas.List.{append-nil, nil_from_length}
 use Rattle.bfs_base.specs.Lists.{times, Has}
 use Rattle.bfs_super.specs.Conditions.{natural}
-use Rattle.bfs_txn.specs.declared.fault.BlockFault.{BlockFault}
 use Rattle.bfs_bytes.specs.declared.Run.{Run}
 use Rattle.bfs_bitmap.specs.Runs.{Room, is_reserved, per_block, marked}
 use Rattle.bfs_bitmap.specs.Fills.{IsBitmapBlock}
@@ -12,7 +11,7 @@ use Rattle.bfs_stream.proofs.CutsIndirect.{no_second, nothing_second}
 use Rattle.bfs_stream.specs.Sizes.{Sizes, Origin, array_length, IsWhole, table_length}
 use Rattle.bfs_stream.specs.Places.{Levels, run_blocks, arrays_of, places_at, frame_at, whole_at, fields, used_runs, blocks_of, array_runs, level_blocks, levels_at, second_arrays}
 use Rattle.bfs_stream.specs.Told.{contents, Stands}
-use Rattle.bfs_stream.specs.Grown.{Owns, IsOutside, AreWritten, UsesDouble}
+use Rattle.bfs_stream.specs.Grown.{Owns, IsOutside, AreWritten, HasWritten, HasBitIn, UsesDouble, is_new}
 use Rattle.bfs_stream.specs.Trimmed.{Trimmed, HasTrimmed, HasDropped, HasCut, HasSpare, KeepsLevels, before_last_table, HasNoArrays, MayLose, IsAtEnd, HasTrimmedTo, HasNoEmpty, LeavesGiven, AreMarked}
 use Rattle.bfs_stream.proofs.Placed.{length-places, some_blocks}
 use Rattle.bfs_stream.proofs.Doubles.{times-append}
@@ -21,7 +20,7 @@ use Rattle.bfs_stream.proofs.AddsArray.{same_map}
 use Rattle.bfs_stream.proofs.CutsDirect.{no_table, no_runs}
 use Rattle.bfs_stream.proofs.Finish.{is_below, not_below}
 use Rattle.bfs_stream.proofs.Listed.{some_array, double_long}
-use Rattle.bfs_stream.proofs.Writes.{wrote_none, wrote_left, wrote_right, wrote_twice, keeps_none, keeps_twice}
+use Rattle.bfs_stream.proofs.Writes.{wrote_none, wrote_wider, wrote_left, wrote_right, wrote_twice, keeps_none, keeps_twice}
 use Rattle.bfs_stream.proofs.Taking.{zero_test, some_test}
 
 none_new : (b c : Bool) → c ≡ (c || (b && not b))
@@ -52,7 +51,8 @@ module _ (o : Origin) (v : Room) (m : ℕ → Option (List ℕ)) (owns : Owns o 
     still = λ k has. let none : 0 < times k [] = has in absurd (omega (arith, none));
     others = λ k out none. refl;
     first = λ none. refl;
-    written = wrote_none v old new [] same;
+    written = wrote_none (IsBitmapBlock v) old new [] same;
+    bits = wrote_none (HasBitIn v (λ j. is_new (whole_at o.sizes (contents m) o.id) (whole_at o.sizes (contents m) o.id) j ≡ true)) old new [] same;
     kept = keeps_none (contents m o.id);
   }
 
@@ -74,6 +74,15 @@ marked_twice false true true a b c one two f g = g ∙ f
 marked_twice false true false a b c one two f g = let bad : false ≡ true = two refl in cc
 marked_twice false false true a b c one two f g = g
 marked_twice false false false a b c one two f g = g ∙ f
+
+gone_first : (p q r : Bool) → (q && not p) ≡ true → (q ≡ true → r ≡ true) → (r && not p) ≡ true
+gone_first p true r e more = ap (λ (b : Bool). b && not p) (more refl) ∙ e
+gone_first p false r e more = let bad : false ≡ true = e in cc
+
+gone_second : (p q r : Bool) → (r && not q) ≡ true → (p ≡ true → q ≡ true) → (r && not p) ≡ true
+gone_second false q true e more = refl
+gone_second false q false e more = let bad : false ≡ true = e in cc
+gone_second true q r e more = sym (ap (λ (b : Bool). r && not b) (more refl)) ∙ e
 
 or_assoc : (a b c : Bool) → ((a || b) || c) ≡ (a || (b || c))
 or_assoc true b c = refl
@@ -115,6 +124,28 @@ module _ (o : Origin) (v now later : Room) (m : ℕ → Option (List ℕ)) (gone
       ∙ ap (λ (b : Bool). cond (b && not (times k (whole_at o.sizes (contents m) o.id) == 0)) 0 (marked (per_block v) m k)) (some_test (times k (whole_at o.sizes (contents one.map) o.id)) some)
       ∙ marks k below before)
 
+  bits_first : (k : ℕ) → HasBitIn v (λ j. is_new (whole_at o.sizes (contents one.map) o.id) (whole_at o.sizes (contents m) o.id) j ≡ true) k → HasBitIn v (λ j. is_new (whole_at o.sizes (contents two.map) o.id) (whole_at o.sizes (contents m) o.id) j ≡ true) k
+  bits_first k bit = (
+    bit.0,
+    gone_first (times bit.0 (whole_at o.sizes (contents m) o.id) == 0) (times bit.0 (whole_at o.sizes (contents one.map) o.id) == 0) (times bit.0 (whole_at o.sizes (contents two.map) o.id) == 0) bit.1
+        (still_none (times bit.0 (whole_at o.sizes (contents two.map) o.id)) (times bit.0 (whole_at o.sizes (contents one.map) o.id)) (two.fewer bit.0)),
+    bit.2,
+  )
+
+  bits_second : (k : ℕ) → HasBitIn now (λ j. is_new (whole_at o.sizes (contents two.map) o.id) (whole_at o.sizes (contents one.map) o.id) j ≡ true) k → HasBitIn v (λ j. is_new (whole_at o.sizes (contents two.map) o.id) (whole_at o.sizes (contents m) o.id) j ≡ true) k
+  bits_second k bit = (
+    bit.0,
+    gone_second (times bit.0 (whole_at o.sizes (contents m) o.id) == 0) (times bit.0 (whole_at o.sizes (contents one.map) o.id) == 0) (times bit.0 (whole_at o.sizes (contents two.map) o.id) == 0) bit.1
+        (still_none (times bit.0 (whole_at o.sizes (contents one.map) o.id)) (times bit.0 (whole_at o.sizes (contents m) o.id)) (one.fewer bit.0)),
+    subst (λ (x : Room). k ≡ 1 + bit.0 / per_block x) rest bit.2,
+  )
+
+  bits_twice : HasWritten (HasBitIn v (λ j. is_new (whole_at o.sizes (contents two.map) o.id) (whole_at o.sizes (contents m) o.id) j ≡ true)) c0 c2 (one.touched ++ two.touched)
+  bits_twice =
+      wrote_twice (HasBitIn v (λ j. is_new (whole_at o.sizes (contents two.map) o.id) (whole_at o.sizes (contents m) o.id) j ≡ true)) c0 c1 c2 (one.touched ++ two.touched)
+      (wrote_left (HasBitIn v (λ j. is_new (whole_at o.sizes (contents two.map) o.id) (whole_at o.sizes (contents m) o.id) j ≡ true)) c0 c1 one.touched two.touched (wrote_wider (HasBitIn v (λ j. is_new (whole_at o.sizes (contents one.map) o.id) (whole_at o.sizes (contents m) o.id) j ≡ true)) (HasBitIn v (λ j. is_new (whole_at o.sizes (contents two.map) o.id) (whole_at o.sizes (contents m) o.id) j ≡ true)) c0 c1 one.touched bits_first one.bits))
+      (wrote_right (HasBitIn v (λ j. is_new (whole_at o.sizes (contents two.map) o.id) (whole_at o.sizes (contents m) o.id) j ≡ true)) c1 c2 one.touched two.touched (wrote_wider (HasBitIn now (λ j. is_new (whole_at o.sizes (contents two.map) o.id) (whole_at o.sizes (contents one.map) o.id) j ≡ true)) (HasBitIn v (λ j. is_new (whole_at o.sizes (contents two.map) o.id) (whole_at o.sizes (contents m) o.id) j ≡ true)) c1 c2 two.touched bits_second two.bits))
+
   pub trimmed_twice : Trimmed o v later m (more ++ gone) told2 c0 c2
   trimmed_twice = record {
     map = two.map;
@@ -143,8 +174,9 @@ module _ (o : Origin) (v now later : Room) (m : ℕ → Option (List ℕ)) (gone
     still = all_still;
     others = λ k out none. two.others k (subst (λ (x : Room). IsOutside x k) (sym rest) out) (none_right k none) ∙ one.others k out (none_left k none);
     first = λ none. two.first (none_right 0 none) ∙ one.first (none_left 0 none);
-    written = wrote_twice v c0 c1 c2 (one.touched ++ two.touched) (wrote_left v c0 c1 one.touched two.touched one.written)
-        (wrote_right v c1 c2 one.touched two.touched (subst (λ (x : Room). AreWritten x c1 c2 two.touched) rest two.written));
+    written = wrote_twice (IsBitmapBlock v) c0 c1 c2 (one.touched ++ two.touched) (wrote_left (IsBitmapBlock v) c0 c1 one.touched two.touched one.written)
+        (wrote_right (IsBitmapBlock v) c1 c2 one.touched two.touched (subst (λ (x : Room). AreWritten x c1 c2 two.touched) rest two.written));
+    bits = bits_twice;
     kept = keeps_twice (contents m o.id) (contents one.map o.id) (contents two.map o.id) one.kept two.kept;
   }
 

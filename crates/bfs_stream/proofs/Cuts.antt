@@ -1,17 +1,19 @@
 -- A run was taken out of the stream, and then given back.
-use Rattle.std.proofs.Common.{◌≡◌, ◌≤◌, ◌<◌, ◌+◌, ◌-◌, ◌*◌, ◌∙◌, ◌⊎◌, inl, inr, ℕ, zero, suc, List, [], ◌∷◌, ◌++◌, Bool, true, false, cond, not, ◌&&◌, ◌||◌, Option, unwrap_or, refl, sym, ap, ap₂, subst, arith}
+use Rattle.std.proofs.Common.{◌≡◌, ◌≤◌, ◌<◌, ◌+◌, ◌-◌, ◌*◌, ◌∙◌, ℕ, zero, suc, List, [], ◌∷◌, ◌++◌, Bool, true, false, cond, not, ◌&&◌, ◌||◌, Option, unwrap_or, refl, sym, ap, ap₂, subst, arith}
 use Rattle.std.specs.Prelude.{◌==◌, nat_lt, IsSome}
 use Rattle.bfs_base.specs.Lists.{times, Has, AreSame}
 use Rattle.bfs_bitmap.specs.Runs.{Room, Fits, per_block, marked, is_free, is_reserved}
 use Rattle.bfs_stream.specs.Sizes.{Origin}
 use Rattle.bfs_stream.specs.Places.{Levels, levels_at, places_of, arrays_of, places_at, frame_at, whole_at, HasLevels}
 use Rattle.bfs_stream.specs.Told.{contents, AreTold}
-use Rattle.bfs_stream.specs.Grown.{IsOutside, Owns, AreWritten, KeepsRest}
+use Rattle.bfs_stream.specs.Grown.{IsOutside, Owns, HasWritten, HasBitIn, KeepsRest, is_new}
 use Rattle.bfs_stream.specs.Trimmed.{Gave, Trimmed}
 use Rattle.bfs_stream.proofs.Doubles.{times-append}
 use Rattle.bfs_stream.proofs.Frames.{levels_same, has_first, has_left}
 use Rattle.bfs_stream.proofs.Finish.{is_below, marked_same, fits_same, counted_same}
 use Rattle.bfs_stream.proofs.Taking.{zero_test, some_test}
+use Rattle.bfs_stream.proofs.Writes.{IsBitBlockOf, wrote_wider}
+use Rattle.bfs_bitmap.specs.Fills.{IsBitmapBlock}
 
 -- what was in hand is gone, and nothing else: `h` of it in hand, `x` left, `y` before
 gone_in_hand : (h x y : ℕ) → y ≡ h + x → (0 < h → x ≡ 0) → not (h == 0) ≡ ((x == 0) && not (y == 0))
@@ -137,7 +139,12 @@ module _ (o : Origin) (v now : Room) (hand : List ℕ) (m m1 : ℕ → Option (L
       fits = gave.fits;
     }
 
-    pub trimmed_is : ((k : ℕ) → Has ws k → Has (o.id ∷ arrays_of o.sizes l) k) → (old new : ℕ → Bool) → AreWritten v old new ws → Trimmed o v now m gone told old new
+    is_gone : (j : ℕ) → Has hand j → is_new (whole_at o.sizes (contents gave.map) o.id) (whole_at o.sizes (contents m) o.id) j ≡ true
+    is_gone j has =
+        let now : is_new left whole j ≡ true = sym (gone_in_hand (times j hand) (times j left) (times j whole) (sum_is j) (apart j)) ∙ ap not (some_test (times j hand) has) in
+        subst (λ (x : Levels). is_new ((o.id ∷ arrays_of o.sizes x) ++ places_of o.sizes x) whole j ≡ true) (sym levels_now) now
+
+    pub trimmed_is : ((k : ℕ) → Has ws k → Has (o.id ∷ arrays_of o.sizes l) k) → (old new : ℕ → Bool) → HasWritten (IsBitBlockOf v hand) old new ws → Trimmed o v now m gone told old new
     trimmed_is still old new changed = record {
       map = gave.map;
       is = gave.is;
@@ -156,13 +163,14 @@ module _ (o : Origin) (v now : Room) (hand : List ℕ) (m m1 : ℕ → Option (L
       still = λ k has. subst (λ (x : Levels). Has (o.id ∷ arrays_of o.sizes x) k) (sym levels_now) (still k has);
       others = λ k out none. gave.others k out ∙ written k none;
       first = λ none. gave.first ∙ written 0 none;
-      written = changed;
+      written = wrote_wider (IsBitBlockOf v hand) (IsBitmapBlock v) old new ws (λ k block. block.0) changed;
+      bits = wrote_wider (IsBitBlockOf v hand) (HasBitIn v (λ j. is_new (whole_at o.sizes (contents gave.map) o.id) (whole_at o.sizes (contents m) o.id) j ≡ true)) old new ws (λ k block. let bit = block.1 in (bit.0, is_gone bit.0 bit.1, bit.2)) changed;
       kept = subst (λ (x : Option (List ℕ)). KeepsRest (contents m o.id) (unwrap_or x [])) (sym (stays o.id (frame_left o.id own))) rest_kept;
     }
       where
         own : Has (o.id ∷ arrays_of o.sizes l) o.id
         own = has_first o.id (arrays_of o.sizes l)
 
-    pub touched_is : (still : (k : ℕ) → Has ws k → Has (o.id ∷ arrays_of o.sizes l) k) (old new : ℕ → Bool) (changed : AreWritten v old new ws) → (trimmed_is still old new changed).touched ≡ ws
+    pub touched_is : (still : (k : ℕ) → Has ws k → Has (o.id ∷ arrays_of o.sizes l) k) (old new : ℕ → Bool) (changed : HasWritten (IsBitBlockOf v hand) old new ws) → (trimmed_is still old new changed).touched ≡ ws
     unfolding trimmed_is
     touched_is still old new changed = refl

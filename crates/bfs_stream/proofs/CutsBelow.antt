@@ -11,7 +11,7 @@ use Rattle.bfs_bitmap.specs.Runs.{Room, Fits}
 use Rattle.bfs_stream.specs.Sizes.{Origin, IsWhole, first_block}
 use Rattle.bfs_stream.specs.Places.{Levels, run_blocks, blocks_of, used_runs, array_runs, level_blocks, level_end, arrays_of, fields, second_arrays, levels_at, arrays_at, places_at, frame_at, whole_at}
 use Rattle.bfs_stream.specs.Told.{contents, AreTold}
-use Rattle.bfs_stream.specs.Grown.{Owns, HasFields, HasTables, HasPutBelow, table_runs, AreWritten, KeepsRest}
+use Rattle.bfs_stream.specs.Grown.{Owns, HasFields, HasTables, HasPutBelow, table_runs, HasWritten, KeepsRest}
 use Rattle.bfs_stream.specs.Trimmed.{Gave, Trimmed, KeepsLevels}
 use Rattle.bfs_stream.proofs.Doubles.{times-append}
 use Rattle.bfs_stream.proofs.Levels.{length-counted}
@@ -22,6 +22,7 @@ use Rattle.bfs_stream.proofs.AddsDirect.{same_test, apart_test, is_test}
 use Rattle.bfs_stream.proofs.AddsTable.{table_blocks, double_blocks, listed_blocks, frame_parts, whole_parts}
 use Rattle.bfs_stream.proofs.Shrinks.{cut_runs, runs_places, runs_sound}
 use Rattle.bfs_stream.proofs.Cutting.{fits_before, blocks_cut}
+use Rattle.bfs_stream.proofs.Writes.{IsBitBlockOf}
 
 module _ (o : Origin) (v : Room) (array : Run) (m : ℕ → Option (List ℕ)) (owns : Owns o v [] m) (array_is : array ≡ (fields o.sizes (contents m) o.id).double_indirect) where
   blocks_is : (k : ℕ) → times k (run_blocks o.sizes array) ≡ times k (double_blocks o m)
@@ -188,7 +189,7 @@ module _ (o : Origin) (v : Room) (array : Run) (m : ℕ → Option (List ℕ)) (
         next_keeps : KeepsLevels (levels_at o.sizes (contents m) o.id) next
         next_keeps = record { indirect = refl; double = refl; arrays = refl; direct = λ some. refl; table = λ some. refl }
 
-        pub cut : (old new : ℕ → Bool) → Gave v now (run_blocks o.sizes last) (with_block o.id wrote.bytes put.map) told3 → now ≡ record v { given = now.given; tally = now.tally } → AreWritten v old new (o.id ∷ listed_blocks o m)
+        pub cut : (old new : ℕ → Bool) → Gave v now (run_blocks o.sizes last) (with_block o.id wrote.bytes put.map) told3 → now ≡ record v { given = now.given; tally = now.tally } → HasWritten (IsBitBlockOf v (run_blocks o.sizes last)) old new (o.id ∷ listed_blocks o m)
             → (t : Trimmed o v now m (run_blocks o.sizes last) told3 old new) × KeepsLevels (levels_at o.sizes (contents m) o.id) (levels_at o.sizes (contents t.map) o.id)
         cut old new gave rest changes =
             blocks_cut o v now (run_blocks o.sizes last) m m1 told3 ws next owns written inside_frame levels_are (runs_sound o.sizes l front last none last owns.stands.sound is_now parts inside_none size) told_ws rest_now

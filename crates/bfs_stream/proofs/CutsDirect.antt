@@ -3,26 +3,27 @@ use Rattle.std.proofs.Common.{◌≡◌, ◌≤◌, ◌<◌, ◌+◌, ◌-◌, �
 use Rattle.std.specs.Prelude.{◌==◌, IsSome, All, slice_get}
 use Rattle.std.specs.List.{flat_map}
 use Rattle.std.proofs.lemmas.Option.{get_or_from_slice_get}
-use Rattle.bfs_base.specs.Lists.{times, Has, Agree, AreSame}
+use Rattle.bfs_base.specs.Lists.{times, Has, Agree}
 use Rattle.bfs_bytes.specs.declared.Run.{Run}
 use Rattle.bfs_super.specs.Conditions.{natural}
 use Rattle.bfs_inode.specs.Inode.{Stream, stream_at}
 use Rattle.bfs_txn.specs.Told.{with_block}
 use Rattle.bfs_bitmap.specs.Runs.{Room, Fits}
 use Rattle.bfs_stream.specs.Sizes.{Origin, IsInVolume, first_block}
-use Rattle.bfs_stream.specs.Places.{Levels, run_blocks, blocks_of, used_runs, array_runs, level_blocks, arrays_of, places_of, fields, second_arrays, levels_at, arrays_at, places_at, frame_at, whole_at, HasLevels}
-use Rattle.bfs_stream.specs.Told.{contents, AreTold}
-use Rattle.bfs_stream.specs.Grown.{Owns, AreWritten, KeepsRest}
+use Rattle.bfs_stream.specs.Places.{Levels, run_blocks, blocks_of, used_runs, array_runs, level_blocks, arrays_of, places_of, fields, second_arrays, levels_at, arrays_at, places_at, frame_at, HasLevels}
+use Rattle.bfs_stream.specs.Told.{contents}
+use Rattle.bfs_stream.specs.Grown.{Owns, HasWritten, KeepsRest}
 use Rattle.bfs_stream.specs.Trimmed.{Gave, Trimmed, KeepsLevels, HasNoArrays}
 use Rattle.bfs_stream.proofs.Levels.{length-counted}
 use Rattle.bfs_stream.proofs.Placed.{length-places}
 use Rattle.bfs_stream.proofs.Appends.{appended_blocks}
-use Rattle.bfs_stream.proofs.Doubles.{times-append, used_at, all_at}
+use Rattle.bfs_stream.proofs.Doubles.{used_at, all_at}
 use Rattle.bfs_stream.proofs.Frames.{has_left, levels_but}
 use Rattle.bfs_stream.proofs.AddsDirect.{apart_test, same_test, is_test, no_runs_in}
 use Rattle.bfs_stream.proofs.AddsIndirect.{inode_apart}
 use Rattle.bfs_stream.proofs.Cutting.{fits_before, blocks_cut}
 use Rattle.bfs_stream.proofs.Shorter.{split_last, used_some, cut_direct, cut_places, cut_arrays, cut_sound}
+use Rattle.bfs_stream.proofs.Writes.{IsBitBlockOf}
 
 -- a stream without arrays has the blocks of its direct runs alone
 module _ (o : Origin) (m : ℕ → Option (List ℕ)) (none : HasNoArrays o m) where
@@ -110,7 +111,7 @@ module _ (o : Origin) (v now : Room) (last r gone : Run) (front : List Run) (m :
   pub fits_now : Fits v (with_block o.id bytes2 m)
   fits_now = fits_before o v now (run_blocks o.sizes gone) m m1 told2 (o.id ∷ []) next owns written inside_frame
 
-  pub cut : (old new : ℕ → Bool) → Gave v now (run_blocks o.sizes gone) (with_block o.id bytes2 m) told2 → now ≡ record v { given = now.given; tally = now.tally } → AreWritten v old new (o.id ∷ [])
+  pub cut : (old new : ℕ → Bool) → Gave v now (run_blocks o.sizes gone) (with_block o.id bytes2 m) told2 → now ≡ record v { given = now.given; tally = now.tally } → HasWritten (IsBitBlockOf v (run_blocks o.sizes gone)) old new (o.id ∷ [])
       → (t : Trimmed o v now m (run_blocks o.sizes gone) told2 old new) × KeepsLevels (levels_at o.sizes (contents m) o.id) (levels_at o.sizes (contents t.map) o.id)
   cut old new gave rest changes =
       blocks_cut o v now (run_blocks o.sizes gone) m m1 told2 (o.id ∷ []) next owns written inside_frame levels_are next_sound told_ws (subst (λ (b : List ℕ). KeepsRest (contents m o.id) b) (sym here) kept)

@@ -11,7 +11,7 @@ use Rattle.bfs_bitmap.specs.Runs.{Room, Fits}
 use Rattle.bfs_stream.specs.Sizes.{Sizes, Origin, IsInVolume, first_block}
 use Rattle.bfs_stream.specs.Places.{Levels, run_blocks, blocks_of, used_runs, array_runs, level_blocks, level_end, arrays_of, fields, second_arrays, levels_at, arrays_at, places_at, frame_at}
 use Rattle.bfs_stream.specs.Told.{contents}
-use Rattle.bfs_stream.specs.Grown.{Owns, HasPut, HasFields, AreWritten, KeepsRest}
+use Rattle.bfs_stream.specs.Grown.{Owns, HasPut, HasFields, HasWritten, KeepsRest}
 use Rattle.bfs_stream.specs.Trimmed.{Gave, Trimmed, KeepsLevels}
 use Rattle.bfs_stream.proofs.Levels.{length-counted}
 use Rattle.bfs_stream.proofs.Placed.{length-places}
@@ -23,6 +23,7 @@ use Rattle.bfs_stream.proofs.AddsIndirect.{inode_apart, in_arrays, behind_in, be
 use Rattle.bfs_stream.proofs.Shorter.{split_last, used_some}
 use Rattle.bfs_stream.proofs.Shrinks.{cut_table, table_places, table_sound}
 use Rattle.bfs_stream.proofs.Cutting.{fits_before, blocks_cut}
+use Rattle.bfs_stream.proofs.Writes.{IsBitBlockOf}
 
 -- runs before the last used one have blocks
 pub front_some : (s : Sizes) (rs front : List Run) (last : Run) → used_runs rs ≡ front ++ last ∷ [] → 0 < length front → 0 < length (blocks_of s front)
@@ -214,7 +215,7 @@ module _ (o : Origin) (v now : Room) (last r gone array : Run) (front : List Run
     next_keeps : KeepsLevels (levels_at o.sizes (contents m) o.id) next
     next_keeps = record { indirect = refl; double = refl; arrays = refl; direct = λ some. refl; table = λ some. absurd (omega (arith, some, none)) }
 
-    pub cut : (old new : ℕ → Bool) → Gave v now (run_blocks o.sizes gone) (with_block o.id wrote.bytes put.map) told3 → now ≡ record v { given = now.given; tally = now.tally } → AreWritten v old new (o.id ∷ run_blocks o.sizes array)
+    pub cut : (old new : ℕ → Bool) → Gave v now (run_blocks o.sizes gone) (with_block o.id wrote.bytes put.map) told3 → now ≡ record v { given = now.given; tally = now.tally } → HasWritten (IsBitBlockOf v (run_blocks o.sizes gone)) old new (o.id ∷ run_blocks o.sizes array)
         → (t : Trimmed o v now m (run_blocks o.sizes gone) told3 old new) × KeepsLevels (levels_at o.sizes (contents m) o.id) (levels_at o.sizes (contents t.map) o.id)
     cut old new gave rest changes =
         blocks_cut o v now (run_blocks o.sizes gone) m m1 told3 ws next owns written inside_frame levels_are

@@ -6,11 +6,12 @@ use Rattle.bfs_bitmap.specs.Runs.{Room, Fits}
 use Rattle.bfs_stream.specs.Sizes.{Origin}
 use Rattle.bfs_stream.specs.Places.{Levels, levels_at, places_of, arrays_of, arrays_at, places_at, frame_at, whole_at, HasLevels}
 use Rattle.bfs_stream.specs.Told.{contents, AreTold}
-use Rattle.bfs_stream.specs.Grown.{Owns, AreWritten, KeepsRest}
+use Rattle.bfs_stream.specs.Grown.{Owns, HasWritten, KeepsRest}
 use Rattle.bfs_stream.specs.Trimmed.{Gave, Trimmed, KeepsLevels}
 use Rattle.bfs_stream.proofs.Doubles.{times-append}
 use Rattle.bfs_stream.proofs.AddsArray.{same_map}
 use Rattle.bfs_stream.proofs.Cuts.{fits_written, trimmed_is, touched_is, levels_now}
+use Rattle.bfs_stream.proofs.Writes.{IsBitBlockOf}
 
 module _ (o : Origin) (v now : Room) (hand : List ℕ) (m m1 : ℕ → Option (List ℕ)) (told : Option (ℕ → Option (List ℕ))) (ws : List ℕ) (l : Levels) (owns : Owns o v [] m)
     (written : (k : ℕ) → times k ws ≡ 0 → m1 k ≡ m k) (inside : (k : ℕ) → Has ws k → Has (frame_at o.sizes (contents m) o.id) k) where
@@ -60,11 +61,11 @@ module _ (o : Origin) (v now : Room) (hand : List ℕ) (m m1 : ℕ → Option (L
           let e = hand_is k in
           omega (arith, a, b, c, d, e)
 
-      pub arrays_cut : (old new : ℕ → Bool) → Gave v now hand m1 told → now ≡ record v { given = now.given; tally = now.tally } → AreWritten v old new ws → Trimmed o v now m gone told old new
+      pub arrays_cut : (old new : ℕ → Bool) → Gave v now hand m1 told → now ≡ record v { given = now.given; tally = now.tally } → HasWritten (IsBitBlockOf v hand) old new ws → Trimmed o v now m gone told old new
       arrays_cut old new gave rest changes =
           trimmed_is o v now hand m m1 told ws gone l owns written inside levels1 sound places arrays_same arrays_keep (are_told arrays_keep) rest_kept gave rest still old new changes
 
-      pub arrays_touched : (old new : ℕ → Bool) (gave : Gave v now hand m1 told) (rest : now ≡ record v { given = now.given; tally = now.tally }) (changes : AreWritten v old new ws) → (arrays_cut old new gave rest changes).touched ≡ ws
+      pub arrays_touched : (old new : ℕ → Bool) (gave : Gave v now hand m1 told) (rest : now ≡ record v { given = now.given; tally = now.tally }) (changes : HasWritten (IsBitBlockOf v hand) old new ws) → (arrays_cut old new gave rest changes).touched ≡ ws
       unfolding arrays_cut
       arrays_touched old new gave rest changes =
           touched_is o v now hand m m1 told ws gone l owns written inside levels1 sound places arrays_same arrays_keep (are_told arrays_keep) rest_kept gave rest still old new changes
@@ -84,7 +85,7 @@ module _ (o : Origin) (v now : Room) (hand : List ℕ) (m m1 : ℕ → Option (L
       blocks_still : (k : ℕ) → Has ws k → Has (o.id ∷ arrays_of o.sizes l) k
       blocks_still k has = subst (λ (x : List ℕ). Has (o.id ∷ x) k) (sym arrays) (inside k has)
 
-      pub blocks_cut : (old new : ℕ → Bool) → Gave v now hand m1 told → now ≡ record v { given = now.given; tally = now.tally } → AreWritten v old new ws
+      pub blocks_cut : (old new : ℕ → Bool) → Gave v now hand m1 told → now ≡ record v { given = now.given; tally = now.tally } → HasWritten (IsBitBlockOf v hand) old new ws
           → (t : Trimmed o v now m hand told old new) × KeepsLevels (levels_at o.sizes (contents m) o.id) (levels_at o.sizes (contents t.map) o.id)
       blocks_cut old new gave rest changes =
           let t = arrays_cut hand [] no_more places arrays_all blocks_still old new gave rest changes in

@@ -1,6 +1,6 @@
 -- Arrays of the stream were given back with what they name, and taken out of what names them.
 use Rattle.std.proofs.Common.{◌≡◌, ◌≤◌, ◌<◌, ◌+◌, ◌-◌, ◌*◌, ◌∙◌, ℕ, zero, suc, pos, List, [], ◌∷◌, ◌++◌, length, take, drop, set, Bool, cond, Option, Some, unwrap_or, refl, sym, ap, subst, arith, length-append}
-use Rattle.std.specs.Prelude.{All, IsSome}
+use Rattle.std.specs.Prelude.{IsSome}
 use Rattle.std.specs.List.{flat_map}
 use Rattle.std.proofs.lemmas.Grind.{flat_map-append}
 use Rattle.bfs_base.specs.Lists.{times, Has, Agree}
@@ -12,7 +12,7 @@ use Rattle.bfs_bitmap.specs.Runs.{Room}
 use Rattle.bfs_stream.specs.Sizes.{Origin, IsWhole, array_length, runs_per_block}
 use Rattle.bfs_stream.specs.Places.{Levels, run_blocks, blocks_of, used_runs, array_runs, level_blocks, level_end, arrays_of, places_of, fields, second_arrays, levels_at, arrays_at, frame_at, places_at}
 use Rattle.bfs_stream.specs.Told.{contents}
-use Rattle.bfs_stream.specs.Grown.{Owns, HasPut, HasFields, AreWritten, KeepsRest}
+use Rattle.bfs_stream.specs.Grown.{Owns, HasPut, HasFields, HasWritten, KeepsRest}
 use Rattle.bfs_stream.specs.Trimmed.{Gave, Trimmed}
 use Rattle.bfs_stream.proofs.Doubles.{times-append}
 use Rattle.bfs_stream.proofs.Frames.{has_first, has_rest, has_left, has_right, array_same, arrays_same, levels_table}
@@ -24,6 +24,7 @@ use Rattle.bfs_stream.proofs.CutsIndirect.{nothing_second}
 use Rattle.bfs_stream.proofs.CutsBelow.{once_all, frame_has}
 use Rattle.bfs_stream.proofs.Drops.{split_at, blocks_split, take_left, length-take, all_take, used_take, ended, without_double, double_places, double_arrays, double_sound, fewer_tables, tables_places, tables_arrays, tables_sound, without_indirect, indirect_places, indirect_arrays, indirect_sound}
 use Rattle.bfs_stream.proofs.Gives.{gave_frame, gave_levels, gave_owns, dropped}
+use Rattle.bfs_stream.proofs.Writes.{IsBitBlockOf}
 
 -- the inode was written anew, and nothing else
 module _ (o : Origin) (v : Room) (m : ℕ → Option (List ℕ)) (told : Option (ℕ → Option (List ℕ))) (owns : Owns o v [] m) (t : Stream) (wrote : HasFields o t m told) where
@@ -107,7 +108,7 @@ module _ (o : Origin) (v now : Room) (hand : List ℕ) (m : ℕ → Option (List
         let e : levels_at o.sizes (contents m2) o.id ≡ without_double (levels_at o.sizes (contents gave.map) o.id) none = λ i. record { stream = a i; table = b i; arrays = c i; runs = d i } in
         e ∙ ap (λ (x : Levels). without_double x none) same_levels
 
-    pub double_dropped : (old new : ℕ → Bool) → AreWritten v old new (o.id ∷ [])
+    pub double_dropped : (old new : ℕ → Bool) → HasWritten (IsBitBlockOf v hand) old new (o.id ∷ [])
         → (t : Trimmed o v now m (level_blocks o.sizes (levels_at o.sizes (contents m) o.id).runs) told1 old new) × (t.touched ≡ o.id ∷ []) × (levels_at o.sizes (contents t.map) o.id ≡ without_double (levels_at o.sizes (contents m) o.id) none)
     double_dropped old new changes =
         dropped o v now hand m m2 told0 told1 (o.id ∷ []) owns gave rest wrote.is (inode_written o now gave.map told1 own t2 wrote) inode_frame (without_double l none) levels2 (double_sound o.sizes l none owns.stands.sound zero_len size)
@@ -137,7 +138,7 @@ module _ (o : Origin) (v now : Room) (hand : List ℕ) (m : ℕ → Option (List
         ∙ ap (λ (t : Stream). record (levels_at o.sizes (contents gave.map) o.id) { stream = t; table = [] }) stream3
         ∙ ap (λ (x : Levels). without_indirect x none) same_levels
 
-    pub indirect_dropped : (old new : ℕ → Bool) → AreWritten v old new (o.id ∷ [])
+    pub indirect_dropped : (old new : ℕ → Bool) → HasWritten (IsBitBlockOf v hand) old new (o.id ∷ [])
         → (t : Trimmed o v now m (level_blocks o.sizes (levels_at o.sizes (contents m) o.id).table) told1 old new) × (t.touched ≡ o.id ∷ []) × (levels_at o.sizes (contents t.map) o.id ≡ without_indirect (levels_at o.sizes (contents m) o.id) none)
     indirect_dropped old new changes =
         let nothing = nothing_second o m no_double in
@@ -303,7 +304,7 @@ module _ (o : Origin) (v now : Room) (hand : List ℕ) (m : ℕ → Option (List
 
     pub tables_dropped : reach ≡ level_end (length (level_blocks o.sizes (levels_at o.sizes (contents m) o.id).stream.direct) + length (level_blocks o.sizes (levels_at o.sizes (contents m) o.id).table)) (length (blocks_of o.sizes (take n (used_runs (levels_at o.sizes (contents m) o.id).runs))))
         → natural (fields o.sizes (contents m) o.id).size ≤ o.sizes.block_size * (length (places_at o.sizes (contents m) o.id) - length (blocks_of o.sizes (drop n (used_runs (levels_at o.sizes (contents m) o.id).runs))))
-        → (old new : ℕ → Bool) → AreWritten v old new (o.id ∷ run_blocks o.sizes array)
+        → (old new : ℕ → Bool) → HasWritten (IsBitBlockOf v hand) old new (o.id ∷ run_blocks o.sizes array)
         → (t : Trimmed o v now m (blocks_of o.sizes (drop n (used_runs (levels_at o.sizes (contents m) o.id).runs))) told2 old new) × (t.touched ≡ o.id ∷ run_blocks o.sizes array)
         × (levels_at o.sizes (contents t.map) o.id ≡ fewer_tables o.sizes (levels_at o.sizes (contents m) o.id) keep none left_g reach)
     unfolding level_blocks

@@ -9,10 +9,13 @@ use Rattle.bfs_bitmap.specs.Bits.{bit_of}
 use Rattle.bfs_bitmap.specs.declared.tally.Tally.{Tally}
 use Rattle.bfs_bitmap.specs.Runs.{Room, Fits, IsCounted, per_block, marked, marked_count, is_free, is_reserved}
 use Rattle.bfs_stream.specs.Sizes.{Origin, array_length, table_length}
-use Rattle.bfs_stream.specs.Places.{Levels, run_blocks, level_blocks, levels_at, places_of, arrays_of, places_at, frame_at, whole_at, HasLevels}
+use Rattle.bfs_stream.specs.Places.{Levels, run_blocks, level_blocks, levels_at, places_of, arrays_of, arrays_at, places_at, frame_at, whole_at, HasLevels}
 use Rattle.bfs_stream.specs.Told.{contents, AreTold}
-use Rattle.bfs_stream.specs.Grown.{IsOutside, Owns, Grown, AreWritten, KeepsRest}
+use Rattle.bfs_stream.specs.Grown.{IsOutside, Owns, Grown, HasWritten, HasBitIn, KeepsRest, is_new}
+use Rattle.bfs_txn.specs.Told.{StaysChanged}
 use Rattle.bfs_stream.proofs.Doubles.{times-append}
+use Rattle.bfs_stream.proofs.Frames.{has_left}
+use Rattle.bfs_stream.proofs.Writes.{IsBitBlockOf}
 use Rattle.bfs_stream.proofs.Taking.{zero_test, some_test, and_false, once_counted}
 
 -- with the same bits as many blocks are used
@@ -70,6 +73,9 @@ new_in_hand (suc h) x y a e apart =
     let none : x ≡ 0 = apart (omega arith) in
     ap (λ (b : Bool). cond b a 1) (some_test (suc h) (omega arith)) ∙ sym (ap₂ (λ (p q : Bool). cond (p && not q) 1 a) (zero_test x none) (some_test y (omega (arith, e))))
 
+is_new_of : (x y : ℕ) → x ≡ 0 → 0 < y → ((x == 0) && not (y == 0)) ≡ true
+is_new_of x y none some = ap₂ (λ (p q : Bool). p && not q) (zero_test x none) (some_test y some)
+
 -- a level that stayed has grown by no more than was added
 pub few_more : (before after n : ℕ) → after ≡ before → after ≤ before + n
 few_more before after n e = omega (arith, e)
@@ -81,6 +87,22 @@ and_zero true x y apart = by_y y (λ h. apart h)
     by_y zero none = let e : x ≡ x + 0 = omega arith in ap (λ (n : ℕ). n == 0) e
     by_y (suc z) none = let bad : true ≡ false = none (omega arith) in cc
 and_zero false x y apart = refl
+
+-- where the arrays are the same, no block has entered
+pub none_entered : (o : Origin) (m : ℕ → Option (List ℕ)) (xs : List ℕ) (new : ℕ → Bool) → xs ≡ arrays_at o.sizes (contents m) o.id → (k : ℕ) → Has (o.id ∷ xs) k → times k (whole_at o.sizes (contents m) o.id) ≡ 0 → new k ≡ true
+none_entered o m xs new same k has none =
+    let mine : Has (frame_at o.sizes (contents m) o.id) k = subst (λ (x : List ℕ). Has (o.id ∷ x) k) same has in
+    let some : 0 < times k (whole_at o.sizes (contents m) o.id) = has_left (frame_at o.sizes (contents m) o.id) (places_at o.sizes (contents m) o.id) k mine in
+    absurd (omega (arith, some, none))
+
+-- where an array is new, what has entered is a block of it
+pub array_entered : (o : Origin) (m : ℕ → Option (List ℕ)) (array : Run) (xs : List ℕ) (new : ℕ → Bool) → ((k : ℕ) → times k (o.id ∷ xs) ≡ times k (run_blocks o.sizes array) + times k (frame_at o.sizes (contents m) o.id))
+    → ((k : ℕ) → Has (run_blocks o.sizes array) k → new k ≡ true) → (k : ℕ) → Has (o.id ∷ xs) k → times k (whole_at o.sizes (contents m) o.id) ≡ 0 → new k ≡ true
+array_entered o m array xs new sum all k has none =
+    let parts : times k (whole_at o.sizes (contents m) o.id) ≡ times k (frame_at o.sizes (contents m) o.id) + times k (places_at o.sizes (contents m) o.id) = times-append k (frame_at o.sizes (contents m) o.id) (places_at o.sizes (contents m) o.id) in
+    let s = sum k in
+    let some : 0 < times k (o.id ∷ xs) = has in
+    all k (let mine : 0 < times k (run_blocks o.sizes array) = omega (arith, parts, none, s, some) in mine)
 
 module _ (o : Origin) (v : Room) (tally : Tally) (run : Run) (m m1 m2 : ℕ → Option (List ℕ)) (told : Option (ℕ → Option (List ℕ))) (ws fresh : List ℕ) (l : Levels)
     (owns : Owns o v [] m) (took_is : told ≡ Some m1)
@@ -153,6 +175,13 @@ module _ (o : Origin) (v : Room) (tally : Tally) (run : Run) (m m1 m2 : ℕ → 
   unfolding hand
   marks_now k low = marked_same v m1 m2 bits_stay k low ∙ marks1 k low ∙ new_in_hand (times k hand) (times k whole) (times k new_whole) (marked (per_block v) m k) (sum_is k) (apart k)
 
+  moved_now : (j : ℕ) → Has (run_blocks o.sizes run) j → is_new (whole_at o.sizes (contents m) o.id) ((o.id ∷ arrays_of o.sizes l) ++ places_of o.sizes l) j ≡ true
+  unfolding hand whole new_whole
+  moved_now j has =
+      let sum = sum_is j in
+      let some : 0 < times j (run_blocks o.sizes run) = has in
+      is_new_of (times j (whole_at o.sizes (contents m) o.id)) (times j ((o.id ∷ arrays_of o.sizes l) ++ places_of o.sizes l)) (apart j some) (omega (arith, sum, some))
+
   grown_owns : Owns o (record v { tally = tally }) [] m2
   unfolding whole hand new_whole
   grown_owns = record {
@@ -175,9 +204,9 @@ module _ (o : Origin) (v : Room) (tally : Tally) (run : Run) (m m1 m2 : ℕ → 
       once_of zero y z s h w a = omega (arith, s, w)
       once_of (suc x) y z s h w a = let e = a (omega arith) in omega (arith, s, h, e)
 
-  pub grown_is : (old new : ℕ → Bool) → AreWritten v old new ws → Grown o v (record v { tally = tally }) m fresh (Some m2) old new
+  pub grown_is : (old new : ℕ → Bool) → HasWritten (IsBitBlockOf v (run_blocks o.sizes run)) old new ws → StaysChanged old new → ((k : ℕ) → Has (o.id ∷ arrays_of o.sizes l) k → times k (whole_at o.sizes (contents m) o.id) ≡ 0 → new k ≡ true) → Grown o v (record v { tally = tally }) m fresh (Some m2) old new
   unfolding whole hand new_whole
-  grown_is old new changed = record {
+  grown_is old new changed stays entered = record {
     map = m2;
     is = refl;
     owns = grown_owns;
@@ -195,13 +224,25 @@ module _ (o : Origin) (v : Room) (tally : Tally) (run : Run) (m m1 m2 : ℕ → 
     others = λ k out none. written k (none_of k (subst (λ (x : Levels). times k (o.id ∷ arrays_of o.sizes x) ≡ 0) levels none)) ∙ others1 k out;
     first = λ none. written 0 (none_of 0 (subst (λ (x : Levels). times 0 (o.id ∷ arrays_of o.sizes x) ≡ 0) levels none)) ∙ first1;
     written = λ k e. by_side k (changed k e);
+    bits = λ k e. by_bits k (changed k e);
+    stays = stays;
+    entered = λ k has none. entered k (subst (λ (x : Levels). Has (o.id ∷ arrays_of o.sizes x) k) levels has) none;
     kept = rest_kept;
   }
     where
-      by_side : (k : ℕ) → (old k ≡ true) ⊎ (IsBitmapBlock v k ⊎ Has ws k) → (old k ≡ true) ⊎ (IsBitmapBlock v k ⊎ Has (frame_at o.sizes (contents m2) o.id) k)
+      by_side : (k : ℕ) → (old k ≡ true) ⊎ (IsBitBlockOf v (run_blocks o.sizes run) k ⊎ Has ws k) → (old k ≡ true) ⊎ (IsBitmapBlock v k ⊎ Has (frame_at o.sizes (contents m2) o.id) k)
       by_side k (inl before) = inl before
-      by_side k (inr (inl bits)) = inr (inl bits)
+      by_side k (inr (inl bits)) = inr (inl bits.0)
       by_side k (inr (inr has)) = inr (inr (subst (λ (x : Levels). Has (o.id ∷ arrays_of o.sizes x) k) (sym levels) (inside k has)))
+
+      is_moved : (j : ℕ) → Has (run_blocks o.sizes run) j → is_new (whole_at o.sizes (contents m) o.id) (whole_at o.sizes (contents m2) o.id) j ≡ true
+      is_moved j has = subst (λ (x : Levels). is_new (whole_at o.sizes (contents m) o.id) ((o.id ∷ arrays_of o.sizes x) ++ places_of o.sizes x) j ≡ true) (sym levels) (moved_now j has)
+
+      by_bits : (k : ℕ) → (old k ≡ true) ⊎ (IsBitBlockOf v (run_blocks o.sizes run) k ⊎ Has ws k)
+          → (old k ≡ true) ⊎ (HasBitIn v (λ j. is_new (whole_at o.sizes (contents m) o.id) (whole_at o.sizes (contents m2) o.id) j ≡ true) k ⊎ Has (frame_at o.sizes (contents m2) o.id) k)
+      by_bits k (inl before) = inl before
+      by_bits k (inr (inl block)) = let bit = block.1 in inr (inl (bit.0, is_moved bit.0 bit.1, bit.2))
+      by_bits k (inr (inr has)) = inr (inr (subst (λ (x : Levels). Has (o.id ∷ arrays_of o.sizes x) k) (sym levels) (inside k has)))
 
       room_of : (all before after n : ℕ) → after ≤ before + n → all - before ≤ all - after + n
       room_of all before after n le = omega (arith, le)

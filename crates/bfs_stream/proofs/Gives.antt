@@ -1,12 +1,12 @@
 -- Blocks were given back, some of the stream's among them, and the stream stands as before; then it was written.
-use Rattle.std.proofs.Common.{◌≡◌, ◌≤◌, ◌<◌, ◌+◌, ◌-◌, ◌*◌, ◌∙◌, ◌⊎◌, inl, inr, ℕ, zero, suc, List, [], ◌∷◌, ◌++◌, Bool, true, false, cond, not, ◌&&◌, ◌||◌, Option, Some, unwrap_or, refl, sym, ap, ap₂, subst, arith}
+use Rattle.std.proofs.Common.{◌≡◌, ◌≤◌, ◌<◌, ◌+◌, ◌-◌, ◌*◌, ◌∙◌, ℕ, zero, suc, List, [], ◌∷◌, ◌++◌, Bool, true, false, cond, not, ◌&&◌, ◌||◌, Option, Some, unwrap_or, refl, sym, ap, ap₂, subst, arith}
 use Rattle.std.specs.Prelude.{◌==◌, nat_lt, IsSome}
 use Rattle.bfs_base.specs.Lists.{times, Has, IsOnce}
 use Rattle.bfs_bitmap.specs.Runs.{Room, Fits, IsCounted, per_block, marked, is_free, is_reserved}
 use Rattle.bfs_stream.specs.Sizes.{Origin}
 use Rattle.bfs_stream.specs.Places.{Levels, levels_at, places_of, arrays_of, places_at, arrays_at, frame_at, whole_at, HasLevels}
-use Rattle.bfs_stream.specs.Told.{contents, AreTold}
-use Rattle.bfs_stream.specs.Grown.{IsOutside, Owns, AreWritten, KeepsRest}
+use Rattle.bfs_stream.specs.Told.{contents}
+use Rattle.bfs_stream.specs.Grown.{IsOutside, Owns, HasWritten, KeepsRest}
 use Rattle.bfs_stream.specs.Trimmed.{Gave, Trimmed, AreMarked}
 use Rattle.bfs_stream.proofs.Doubles.{times-append}
 use Rattle.bfs_stream.proofs.Frames.{levels_same, has_first, has_left}
@@ -14,6 +14,7 @@ use Rattle.bfs_stream.proofs.Finish.{is_below, marked_same, fits_same, counted_s
 use Rattle.bfs_stream.proofs.Taking.{zero_test, some_test}
 use Rattle.bfs_stream.proofs.AddsArray.{same_map}
 use Rattle.bfs_stream.proofs.Cutting.{arrays_cut, arrays_touched}
+use Rattle.bfs_stream.proofs.Writes.{IsBitBlockOf}
 
 or_none : (b : Bool) → (b || false) ≡ b
 or_none true = refl
@@ -217,7 +218,7 @@ module _ (o : Origin) (v now : Room) (hand : List ℕ) (m m1 : ℕ → Option (L
     told_first : (k : ℕ) → Has ws k → IsSome (written_first k)
     told_first k has = subst (λ (x : Option (List ℕ)). IsSome x) (sym (first_own k has)) (told_ws k has)
 
-    pub dropped : (old new : ℕ → Bool) → AreWritten v old new ws → (t : Trimmed o v now m gone told1 old new) × (t.touched ≡ ws) × (levels_at o.sizes (contents t.map) o.id ≡ l)
+    pub dropped : (old new : ℕ → Bool) → HasWritten (IsBitBlockOf v hand) old new ws → (t : Trimmed o v now m gone told1 old new) × (t.touched ≡ ws) × (levels_at o.sizes (contents t.map) o.id ≡ l)
     dropped old new changes =
         let t = arrays_cut o v now hand m written_first told1 ws l owns first_others inside levels_first sound told_first rest_first gone went hand_is places arrays still old new gave_after rest changes in
         let touched = arrays_touched o v now hand m written_first told1 ws l owns first_others inside levels_first sound told_first rest_first gone went hand_is places arrays still old new gave_after rest changes in

@@ -5,7 +5,7 @@ use Rattle.bfs_base.specs.Lists.{Has}
 use Rattle.bfs_bytes.specs.declared.Run.{Run}
 use Rattle.bfs_bitmap.specs.Runs.{Room}
 use Rattle.bfs_stream.specs.Sizes.{Sizes, Origin}
-use Rattle.bfs_stream.specs.Places.{Levels, arrays_of, places_of, run_blocks, blocks_of, used_runs, array_runs, fields, frame_at, levels_at, second_arrays}
+use Rattle.bfs_stream.specs.Places.{Levels, arrays_of, places_of, run_blocks, blocks_of, used_runs, array_runs, fields, frame_at}
 use Rattle.bfs_stream.specs.Told.{contents, AreTold}
 use Rattle.bfs_stream.specs.Grown.{Owns, AreTables, table_runs}
 use Rattle.bfs_stream.specs.Trimmed.{Gave}
@@ -13,7 +13,7 @@ use Rattle.bfs_stream.specs.declared.grow.Tables.{Tables}
 use Rattle.bfs_stream.proofs.Doubles.{used_at}
 use Rattle.bfs_stream.proofs.Appends.{appended_blocks}
 use Rattle.bfs_stream.proofs.Frames.{array_same}
-use Rattle.bfs_stream.proofs.Gives.{gave_frame, gave_levels, gave_more}
+use Rattle.bfs_stream.proofs.Gives.{gave_frame, gave_levels}
 
 take_next : (xs : List Run) (i : ℕ) (x : Run) → slice_get xs i ≡ Some x → take (suc i) xs ≡ take i xs ++ x ∷ []
 take_next [] i x e = let bad : None ≡ Some x = e in cc

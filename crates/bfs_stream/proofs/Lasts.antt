@@ -1,5 +1,5 @@
 -- The last tables of the double indirect level went: how many blocks they had, and what the level has still.
-use Rattle.std.proofs.Common.{◌≡◌, ◌≤◌, ◌<◌, ◌+◌, ◌-◌, ◌*◌, ◌∙◌, inr, ℕ, zero, suc, Bool, false, cond, List, [], ◌∷◌, ◌++◌, Option, length, take, drop, get_or, refl, sym, ap, subst, arith, length-append}
+use Rattle.std.proofs.Common.{◌≡◌, ◌≤◌, ◌<◌, ◌+◌, ◌-◌, ◌*◌, ◌∙◌, inr, ℕ, zero, suc, Bool, false, cond, List, [], ◌∷◌, Option, length, take, drop, get_or, refl, sym, ap, subst, arith, length-append}
 use Rattle.std.specs.Prelude.{◌==◌, All}
 use Rattle.bfs_bytes.specs.declared.Run.{Run}
 use Rattle.bfs_super.specs.Conditions.{natural}

@@ -3,14 +3,11 @@ use Rattle.std.proofs.Common.{◌≡◌, ◌≤◌, ◌<◌, ◌+◌, ◌*◌, �
 use Rattle.std.specs.Prelude.{◌==◌, All}
 use Rattle.std.proofs.lemmas.List.Elements.{All-append, All-cons, All-nil}
 use Rattle.std.proofs.lemmas.List.{append-nil}
-use Rattle.bfs_base.specs.Lists.{times, counted_from}
 use Rattle.bfs_bytes.specs.declared.Run.{Run}
 use Rattle.bfs_super.specs.Conditions.{natural}
 use Rattle.bfs_stream.specs.Sizes.{Sizes, IsInVolume, IsWhole, first_block}
-use Rattle.bfs_stream.specs.Places.{Levels, used_runs, blocks_of, run_blocks, level_blocks, level_end, places_of, arrays_of, HasLevels}
+use Rattle.bfs_stream.specs.Places.{Levels, used_runs, blocks_of, run_blocks, level_blocks, level_end, places_of, HasLevels}
 use Rattle.bfs_stream.proofs.Levels.{length-counted}
-use Rattle.bfs_stream.proofs.Doubles.{times-append}
-use Rattle.bfs_stream.proofs.Appends.{appended_blocks}
 use Rattle.bfs_stream.proofs.Shorter.{shortened, shortened_blocks, own_blocks, join_blocks}
 
 pub left_at : (xs ys : List Run) (j : ℕ) (x : Run) → j < length xs → get_or (xs ++ ys) j x ≡ get_or xs j x

@@ -1,5 +1,5 @@
 -- Why a stream did not grow.
-use Rattle.std.proofs.Common.{◌≡◌, ◌≤◌, ◌<◌, ◌+◌, ◌∙◌, ◌⊎◌, ℕ, List, [], length, Bool, false, Option, Some, refl, sym, ap, subst, arith}
+use Rattle.std.proofs.Common.{◌≡◌, ◌≤◌, ◌<◌, ◌+◌, ◌∙◌, ◌⊎◌, ℕ, List, [], length, Bool, true, inl, Option, Some, refl, sym, ap, subst, arith}
 use Rattle.std.specs.Prelude.{Result, IfErr}
 use Rattle.std.proofs.lemmas.Result.{IfErr-weaker}
 use Rattle.bfs_bitmap.specs.Runs.{Room, HasNoRun}
@@ -13,8 +13,6 @@ use Rattle.bfs_stream.specs.Grown.{Owns, HasGrown, room_at}
 use Rattle.bfs_stream.specs.Faults.{IsCauseIn, IsGrowCause, IsNoRunFor, IsStepFault, IsGrowFault}
 use Rattle.bfs_stream.specs.declared.fault.GrowFault.{GrowFault}
 use Rattle.bfs_stream.specs.declared.fault.GrowFault.TheVariants.{NoRun, Full, Block}
-use Rattle.bfs_stream.specs.Places.{frame_at}
-use Rattle.bfs_stream.proofs.Writes.{wrote_none}
 use Rattle.bfs_stream.proofs.Twice.{IsGrownSo, has_grown_none, has_grown_twice}
 
 -- a read or a write alone never says that a block is damaged
@@ -42,9 +40,9 @@ cause_wider n k a b c (NoRun asked free) le later cause = cause
 cause_wider n k a b c (Full room) le later cause = let lt : room < n = cause in omega (arith, lt, le)
 cause_wider n k a b c (Block fault) le later cause = cause_later a b c fault later cause
 
--- the same growth, without what it has written
-abbrev unwritten : (o : Origin) (v now : Room) (m : ℕ → Option (List ℕ)) (n : ℕ) (told : Option (ℕ → Option (List ℕ))) (c0 c1 : ℕ → Bool) → HasGrown o v now m n told c0 c1 → HasGrown o v now m n told (λ k. false) (λ k. false)
-unwritten o v now m n told c0 c1 grown =
+-- the same growth, where each block had been changed before
+abbrev overwritten : (o : Origin) (v now : Room) (m : ℕ → Option (List ℕ)) (n : ℕ) (told : Option (ℕ → Option (List ℕ))) (c0 c1 : ℕ → Bool) → HasGrown o v now m n told c0 c1 → HasGrown o v now m n told (λ k. true) (λ k. true)
+overwritten o v now m n told c0 c1 grown =
     let g = grown.2 in (
       grown.0,
       grown.1,
@@ -62,7 +60,10 @@ unwritten o v now m n told c0 c1 grown =
         room = g.room;
         others = g.others;
         first = g.first;
-        written = wrote_none v (λ k. false) (λ k. false) (frame_at o.sizes (contents g.map) o.id) refl;
+        written = λ k t. inl t;
+        bits = λ k t. inl t;
+        stays = λ k t. t;
+        entered = λ k has none. refl;
       },
     )
 
@@ -71,7 +72,9 @@ step_none o v m wanted (NoRun asked free) owns want lacks = record {
   now = v;
   rest = refl;
   map = m;
-  grown = has_grown_none o v m (Some m) (λ k. false) (λ k. false) owns refl refl;
+  old = λ k. true;
+  new = λ k. true;
+  grown = has_grown_none o v m (Some m) (λ k. true) (λ k. true) owns refl refl;
   wanted = subst (λ (n : ℕ). (n ≡ 1) ⊎ (n ≡ array_length o.sizes)) (sym lacks.0) want;
   none = subst (λ (n : ℕ). HasNoRun v m n free) (sym lacks.0) lacks.1;
 }
@@ -84,7 +87,9 @@ step_after o v now m told1 c0 c1 one rest (NoRun asked free) stuck = record {
   now = stuck.now;
   rest = stuck.rest ∙ ap (λ (x : Room). record x { tally = stuck.now.tally }) rest;
   map = stuck.map;
-  grown = has_grown_twice o v now stuck.now m 0 0 told1 (Some stuck.map) (λ k. false) (λ k. false) (λ k. false) (unwritten o v now m 0 told1 c0 c1 one) rest stuck.grown;
+  old = λ k. true;
+  new = λ k. true;
+  grown = has_grown_twice o v now stuck.now m 0 0 told1 (Some stuck.map) (λ k. true) (λ k. true) (λ k. true) (overwritten o v now m 0 told1 c0 c1 one) rest (overwritten o now stuck.now one.2.map 0 (Some stuck.map) stuck.old stuck.new stuck.grown);
   wanted = stuck.wanted;
   none = stuck.none;
 }
@@ -112,7 +117,9 @@ stop_so_far o v now m blocks left told c0 c1 so_far rest some has (NoRun asked f
     now = stuck.now;
     rest = stuck.rest ∙ ap (λ (x : Room). record x { tally = stuck.now.tally }) rest;
     map = stuck.map;
-    grown = has_grown_twice o v now stuck.now m so_far.count 0 told (Some stuck.map) (λ k. false) (λ k. false) (λ k. false) (unwritten o v now m so_far.count told c0 c1 so_far.grown) rest stuck.grown;
+    old = λ k. true;
+    new = λ k. true;
+    grown = has_grown_twice o v now stuck.now m so_far.count 0 told (Some stuck.map) (λ k. true) (λ k. true) (λ k. true) (overwritten o v now m so_far.count told c0 c1 so_far.grown) rest (overwritten o now stuck.now so_far.grown.2.map 0 (Some stuck.map) stuck.old stuck.new stuck.grown);
     wanted = stuck.wanted;
     none = stuck.none;
   },

@@ -1,18 +1,20 @@
 -- A stream that has grown and then grows once more.
-use Rattle.std.proofs.Common.{◌≡◌, ◌≤◌, ◌<◌, ◌+◌, ◌-◌, ◌∙◌, ◌⊎◌, inl, inr, ℕ, zero, suc, List, [], ◌++◌, length, Bool, true, false, ◌&&◌, Option, Some, refl, sym, ap, ap₂, subst, arith, append_assoc, length-append, not, cond}
+use Rattle.std.proofs.Common.{◌≡◌, ◌≤◌, ◌<◌, ◌+◌, ◌-◌, ◌/◌, ◌∙◌, ◌⊎◌, inl, inr, ℕ, zero, suc, List, [], ◌++◌, length, Bool, true, false, ◌&&◌, Option, Some, refl, sym, ap, ap₂, subst, arith, append_assoc, length-append, not, cond}
 use Rattle.std.specs.Prelude.{◌==◌, Result, Ok, Err, IfOk}
 use Rattle.bfs_stream.specs.declared.fault.GrowFault.{GrowFault}
 use Rattle.std.proofs.lemmas.List.{append-nil}
 use Rattle.bfs_base.specs.Lists.{times, Has}
 use Rattle.bfs_bitmap.specs.Runs.{Room, is_free, per_block, marked}
+use Rattle.bfs_bitmap.specs.Fills.{IsBitmapBlock}
 use Rattle.bfs_stream.specs.Sizes.{Origin, array_length}
-use Rattle.bfs_stream.specs.Places.{places_at, frame_at, whole_at}
+use Rattle.bfs_stream.specs.Places.{arrays_at, places_at, frame_at, whole_at}
 use Rattle.bfs_stream.specs.Told.{contents}
-use Rattle.bfs_stream.specs.Grown.{Owns, Grown, HasGrown, HasGrownBy, IsOutside, AreWritten, UsesDouble, room_at}
+use Rattle.bfs_stream.specs.Grown.{Owns, Grown, HasGrown, HasGrownBy, IsOutside, AreWritten, HasWritten, HasBitIn, UsesDouble, is_new, room_at}
 use Rattle.bfs_stream.proofs.Doubles.{times-append}
 use Rattle.bfs_stream.proofs.Listed.{some_array}
-use Rattle.bfs_stream.proofs.Writes.{wrote_none, wrote_more, wrote_twice, keeps_none, keeps_twice}
+use Rattle.bfs_stream.proofs.Writes.{wrote_none, wrote_more, wrote_wider, wrote_twice, keeps_none, keeps_twice}
 use Rattle.bfs_stream.proofs.Taking.{some_test, and_false}
+use Rattle.bfs_stream.proofs.Finish.{none_entered}
 
 both_free : (b : Bool) (x y : ℕ) → (0 < x → 0 < y) → ((b && (x == 0)) && (y == 0)) ≡ (b && (y == 0))
 both_free false x y more = refl
@@ -45,7 +47,10 @@ module _ (o : Origin) (v : Room) (m : ℕ → Option (List ℕ)) (owns : Owns o 
     others = λ k out none. refl;
     first = λ none. refl;
     kept = keeps_none (contents m o.id);
-    written = wrote_none v old new (frame_at o.sizes (contents m) o.id) same;
+    written = wrote_none (IsBitmapBlock v) old new (frame_at o.sizes (contents m) o.id) same;
+    bits = wrote_none (HasBitIn v (λ j. is_new (whole_at o.sizes (contents m) o.id) (whole_at o.sizes (contents m) o.id) j ≡ true)) old new (frame_at o.sizes (contents m) o.id) same;
+    stays = λ k t. ap (λ (f : ℕ → Bool). f k) same ∙ t;
+    entered = λ k has none. none_entered o m (arrays_at o.sizes (contents m) o.id) new refl k has none;
   }
     where
       by_count : (k n : ℕ) → (0 < n → is_free v m k ≡ false) → is_free v m k ≡ (is_free v m k && (n == 0))
@@ -66,6 +71,16 @@ new_twice false false false a b c one two f g = g ∙ f
 new_twice false true r a b c one two f g = let bad : true ≡ false = one refl in cc
 new_twice false false true a b c one two f g = let bad : true ≡ false = two refl in cc
 
+new_first : (p q r : Bool) → (p && not q) ≡ true → (q ≡ false → r ≡ false) → (p && not r) ≡ true
+new_first true true r e more = let bad : false ≡ true = e in cc
+new_first true false r e more = ap not (more refl)
+new_first false q r e more = let bad : false ≡ true = e in cc
+
+new_second : (p q r : Bool) → (q && not r) ≡ true → (p ≡ false → q ≡ false) → (p && not r) ≡ true
+new_second true true r e more = e
+new_second true false r e more = let bad : false ≡ true = e in cc
+new_second false q r e more = let bad : false ≡ true = sym (ap (λ (b : Bool). b && not r) (more refl)) ∙ e in cc
+
 still_some : (x y : ℕ) → (0 < x → 0 < y) → (x == 0) ≡ false → (y == 0) ≡ false
 still_some zero y more e = let bad : true ≡ false = e in cc
 still_some (suc x) y more e = some_test y (more (omega arith))
@@ -85,6 +100,16 @@ whole_grows o v now m fresh told old new g k some =
     by_frame zero e before after longer = omega (arith, some, e, before, after, longer)
     by_frame (suc n) e before after longer = let kept : 0 < times k (frame_at o.sizes (contents g.map) o.id) = g.keeps k (let h : 0 < times k (frame_at o.sizes (contents m) o.id) = omega (arith, e) in h) in omega (arith, kept, after)
 
+-- no block is there twice: what is of the frame now and was the stream's was of the frame before
+still_frame : (o : Origin) (v now : Room) (m : ℕ → Option (List ℕ)) (fresh : List ℕ) (told : Option (ℕ → Option (List ℕ))) (old new : ℕ → Bool) (g : Grown o v now m fresh told old new) (k : ℕ) → Has (frame_at o.sizes (contents g.map) o.id) k → 0 < times k (whole_at o.sizes (contents m) o.id) → Has (frame_at o.sizes (contents m) o.id) k
+still_frame o v now m fresh told old new g k has some =
+    let before : times k (whole_at o.sizes (contents m) o.id) ≡ times k (frame_at o.sizes (contents m) o.id) + times k (places_at o.sizes (contents m) o.id) = times-append k (frame_at o.sizes (contents m) o.id) (places_at o.sizes (contents m) o.id) in
+    let after : times k (whole_at o.sizes (contents g.map) o.id) ≡ times k (frame_at o.sizes (contents g.map) o.id) + times k (places_at o.sizes (contents g.map) o.id) = times-append k (frame_at o.sizes (contents g.map) o.id) (places_at o.sizes (contents g.map) o.id) in
+    let longer : times k (places_at o.sizes (contents g.map) o.id) ≡ times k (places_at o.sizes (contents m) o.id) + times k fresh = ap (times k) g.places ∙ times-append k (places_at o.sizes (contents m) o.id) fresh in
+    let once : times k (whole_at o.sizes (contents g.map) o.id) ≤ 1 = g.owns.once k in
+    let now_in : 0 < times k (frame_at o.sizes (contents g.map) o.id) = has in
+    let was_in : 0 < times k (frame_at o.sizes (contents m) o.id) = omega (arith, before, after, longer, once, now_in, some) in was_in
+
 room_twice : (a b c x y z : ℕ) → a ≤ b + x → b ≤ c + y → z ≡ x + y → a ≤ c + z
 room_twice a b c x y z e f g = omega (arith, e, f, g)
 
@@ -99,8 +124,8 @@ module _ (o : Origin) (v now later : Room) (m : ℕ → Option (List ℕ)) (fres
       by_count zero e = e
       by_count (suc n) e = let kept : 0 < times k (frame_at o.sizes (contents two.map) o.id) = two.keeps k (let h : 0 < times k (frame_at o.sizes (contents one.map) o.id) = omega (arith, e) in h) in absurd (omega (arith, kept, none))
 
-  is_new : (k : ℕ) → Has (whole_at o.sizes (contents two.map) o.id) k → times k (whole_at o.sizes (contents m) o.id) ≡ 0 → is_free v m k ≡ true
-  is_new k has none = by_count (times k (whole_at o.sizes (contents one.map) o.id)) refl
+  was_free : (k : ℕ) → Has (whole_at o.sizes (contents two.map) o.id) k → times k (whole_at o.sizes (contents m) o.id) ≡ 0 → is_free v m k ≡ true
+  was_free k has none = by_count (times k (whole_at o.sizes (contents one.map) o.id)) refl
     where
       by_count : (n : ℕ) → times k (whole_at o.sizes (contents one.map) o.id) ≡ n → is_free v m k ≡ true
       by_count zero e = left_true (is_free v m k) (times k (whole_at o.sizes (contents one.map) o.id) == 0) (sym (one.free k) ∙ two.were_free k has e)
@@ -114,6 +139,40 @@ module _ (o : Origin) (v now later : Room) (m : ℕ → Option (List ℕ)) (fres
       subst (λ (x : Room). marked (per_block x) two.map k ≡ cond ((times k (whole_at o.sizes (contents one.map) o.id) == 0) && not (times k (whole_at o.sizes (contents two.map) o.id) == 0)) 1 (marked (per_block x) one.map k)) rest
       (two.marks k (subst (λ (x : Room). k < x.blocks) (sym rest) low))
 
+  -- what entered did so in the second step, or is of the frame after the first
+  entered_twice : (k : ℕ) → Has (frame_at o.sizes (contents two.map) o.id) k → times k (whole_at o.sizes (contents m) o.id) ≡ 0 → c2 k ≡ true
+  entered_twice k has none = by_count (times k (whole_at o.sizes (contents one.map) o.id)) refl
+    where
+      by_count : (n : ℕ) → times k (whole_at o.sizes (contents one.map) o.id) ≡ n → c2 k ≡ true
+      by_count zero e = two.entered k has e
+      by_count (suc n) e = two.stays k (one.entered k (still_frame o now later one.map more told2 c1 c2 two k has (let h : 0 < times k (whole_at o.sizes (contents one.map) o.id) = omega (arith, e) in h)) none)
+
+  bits_first : (k : ℕ) → HasBitIn v (λ j. is_new (whole_at o.sizes (contents m) o.id) (whole_at o.sizes (contents one.map) o.id) j ≡ true) k → HasBitIn v (λ j. is_new (whole_at o.sizes (contents m) o.id) (whole_at o.sizes (contents two.map) o.id) j ≡ true) k
+  bits_first k bit = (
+    bit.0,
+    new_first (times bit.0 (whole_at o.sizes (contents m) o.id) == 0) (times bit.0 (whole_at o.sizes (contents one.map) o.id) == 0) (times bit.0 (whole_at o.sizes (contents two.map) o.id) == 0) bit.1
+        (still_some (times bit.0 (whole_at o.sizes (contents one.map) o.id)) (times bit.0 (whole_at o.sizes (contents two.map) o.id)) (whole_kept bit.0)),
+    bit.2,
+  )
+
+  bits_second : (k : ℕ) → HasBitIn now (λ j. is_new (whole_at o.sizes (contents one.map) o.id) (whole_at o.sizes (contents two.map) o.id) j ≡ true) k → HasBitIn v (λ j. is_new (whole_at o.sizes (contents m) o.id) (whole_at o.sizes (contents two.map) o.id) j ≡ true) k
+  bits_second k bit = (
+    bit.0,
+    new_second (times bit.0 (whole_at o.sizes (contents m) o.id) == 0) (times bit.0 (whole_at o.sizes (contents one.map) o.id) == 0) (times bit.0 (whole_at o.sizes (contents two.map) o.id) == 0) bit.1
+        (still_some (times bit.0 (whole_at o.sizes (contents m) o.id)) (times bit.0 (whole_at o.sizes (contents one.map) o.id)) (whole_grows o v now m fresh told1 c0 c1 one bit.0)),
+    subst (λ (x : Room). k ≡ 1 + bit.0 / per_block x) rest bit.2,
+  )
+
+  bits_twice : HasWritten (HasBitIn v (λ j. is_new (whole_at o.sizes (contents m) o.id) (whole_at o.sizes (contents two.map) o.id) j ≡ true)) c0 c2 (frame_at o.sizes (contents two.map) o.id)
+  bits_twice =
+      let all : List ℕ = frame_at o.sizes (contents two.map) o.id in
+      wrote_twice (HasBitIn v (λ j. is_new (whole_at o.sizes (contents m) o.id) (whole_at o.sizes (contents two.map) o.id) j ≡ true)) c0 c1 c2 all
+      (wrote_more (HasBitIn v (λ j. is_new (whole_at o.sizes (contents m) o.id) (whole_at o.sizes (contents two.map) o.id) j ≡ true)) c0 c1 (frame_at o.sizes (contents one.map) o.id) all two.keeps
+      (wrote_wider (HasBitIn v (λ j. is_new (whole_at o.sizes (contents m) o.id) (whole_at o.sizes (contents one.map) o.id) j ≡ true)) (HasBitIn v (λ j. is_new (whole_at o.sizes (contents m) o.id) (whole_at o.sizes (contents two.map) o.id) j ≡ true)) c0 c1
+      (frame_at o.sizes (contents one.map) o.id) bits_first one.bits))
+      (wrote_wider (HasBitIn now (λ j. is_new (whole_at o.sizes (contents one.map) o.id) (whole_at o.sizes (contents two.map) o.id) j ≡ true)) (HasBitIn v (λ j. is_new (whole_at o.sizes (contents m) o.id) (whole_at o.sizes (contents two.map) o.id) j ≡ true)) c1 c2 all
+      bits_second two.bits)
+
   pub grown_twice : Grown o v later m (fresh ++ more) told2 c0 c2
   grown_twice = record {
     map = two.map;
@@ -121,7 +180,7 @@ module _ (o : Origin) (v now later : Room) (m : ℕ → Option (List ℕ)) (fres
     owns = two.owns;
     places = two.places ∙ ap (λ (l : List ℕ). l ++ more) one.places ∙ append_assoc (places_at o.sizes (contents m) o.id) fresh more;
     keeps = λ k has. two.keeps k (one.keeps k has);
-    were_free = is_new;
+    were_free = was_free;
     free = λ k.
         two.free k ∙ ap (λ (b : Bool). b && (times k (whole_at o.sizes (contents two.map) o.id) == 0)) (one.free k)
         ∙ both_free (is_free v m k) (times k (whole_at o.sizes (contents one.map) o.id)) (times k (whole_at o.sizes (contents two.map) o.id)) (whole_kept k);
@@ -136,8 +195,11 @@ module _ (o : Origin) (v now later : Room) (m : ℕ → Option (List ℕ)) (fres
     others = λ k out none. two.others k (outside_now k out) none ∙ one.others k out (frame_gone k none);
     first = λ none. two.first none ∙ one.first (frame_gone 0 none);
     kept = keeps_twice (contents m o.id) (contents one.map o.id) (contents two.map o.id) one.kept two.kept;
-    written = wrote_twice v c0 c1 c2 (frame_at o.sizes (contents two.map) o.id) (wrote_more v c0 c1 (frame_at o.sizes (contents one.map) o.id) (frame_at o.sizes (contents two.map) o.id) two.keeps one.written)
+    written = wrote_twice (IsBitmapBlock v) c0 c1 c2 (frame_at o.sizes (contents two.map) o.id) (wrote_more (IsBitmapBlock v) c0 c1 (frame_at o.sizes (contents one.map) o.id) (frame_at o.sizes (contents two.map) o.id) two.keeps one.written)
         (subst (λ (x : Room). AreWritten x c1 c2 (frame_at o.sizes (contents two.map) o.id)) rest two.written);
+    bits = bits_twice;
+    stays = λ k t. two.stays k (one.stays k t);
+    entered = entered_twice;
   }
 
 -- the same of so many blocks

@@ -1,12 +1,12 @@
 -- How a stream grows.
 use Rattle.std.specs.List.{flat_map}
-use Rattle.std.specs.Prelude.{◌≡◌, ◌≤◌, ◌<◌, ◌⊎◌, ℕ, ◌+◌, ◌-◌, ◌*◌, ◌==◌, ◌&&◌, List, [], ◌++◌, length, Option, Some, Bool, true, false, slice_set, replicate, All, not, if◌then◌else◌}
+use Rattle.std.specs.Prelude.{◌≡◌, ◌≤◌, ◌<◌, ◌⊎◌, ℕ, ◌+◌, ◌-◌, ◌*◌, ◌/◌, ◌==◌, ◌&&◌, List, [], ◌++◌, length, Option, Some, Bool, true, false, slice_set, replicate, All, not, if◌then◌else◌}
 use Rattle.bfs_base.specs.Lists.{times, Has, IsOnce}
 use Rattle.bfs_bytes.specs.declared.Run.{Run}
 use Rattle.bfs_bitmap.specs.Runs.{Room, Fits, IsCounted, HasNoRun, per_block, is_free, marked}
 use Rattle.bfs_bitmap.specs.Fills.{IsBitmapBlock}
 use Rattle.bfs_inode.specs.Inode.{Stream, KeepsOutside, stream_at, inode_at}
-use Rattle.bfs_txn.specs.Told.{with_block}
+use Rattle.bfs_txn.specs.Told.{StaysChanged, with_block}
 use Rattle.bfs_stream.specs.Sizes.{Sizes, Origin, IsWhole, array_length, table_length}
 use Rattle.bfs_stream.specs.Places.{run_blocks, blocks_of, array_runs, used_runs, fields, level_blocks, levels_at, places_at, frame_at, whole_at, second_arrays}
 use Rattle.bfs_stream.specs.declared.grow.Table.{Table}
@@ -51,6 +51,14 @@ pub record Took (s : Sizes) (v now : Room) (run : Run) (m : ℕ → Option (List
 abbrev pub room_at : Sizes → (ℕ → List ℕ) → ℕ → ℕ
 room_at s blocks id = array_length s * (table_length s * table_length s) - length (level_blocks s (levels_at s blocks id).runs)
 
+-- each block that was changed had been so before, or is one for which this holds, or is in the list
+abbrev pub HasWritten : (ℕ → Type 0) → (ℕ → Bool) → (ℕ → Bool) → List ℕ → Type 0
+HasWritten P old new xs = (k : ℕ) → new k ≡ true → (old k ≡ true) ⊎ (P k ⊎ Has xs k)
+
+-- the block of the bitmap that has the bit of a block for which this holds
+abbrev pub HasBitIn : Room → (ℕ → Type 0) → ℕ → Type 0
+HasBitIn v P k = (j : ℕ) × P j × (k ≡ 1 + j / per_block v)
+
 -- each block that was changed had been so before, or holds bits, or is one of these
 abbrev pub AreWritten : Room → (ℕ → Bool) → (ℕ → Bool) → List ℕ → Type 0
 AreWritten v old new xs = (k : ℕ) → new k ≡ true → (old k ≡ true) ⊎ (IsBitmapBlock v k ⊎ Has xs k)
@@ -68,8 +76,9 @@ is_new before after k = (times k before == 0) && not (times k after == 0)
 
 -- The stream has grown by fresh blocks: what it has now and had not was free, and its bit is set; no other bit changed;
 -- what is free now was free and is not in it; the room of the double indirect level fell by no more; but for its inode,
--- its arrays and bits nothing changed; of the inode the ranges and runs alone; and a right count of the used blocks stays
--- right.
+-- its arrays and bits nothing changed, and of the blocks with bits those alone that have one of what it has now and had not;
+-- what was changed stays so, and so is each block of an array that it had not; of the inode the ranges and runs alone; and a
+-- right count of the used blocks stays right.
 pub record Grown (o : Origin) (v now : Room) (m : ℕ → Option (List ℕ)) (fresh : List ℕ) (told : Option (ℕ → Option (List ℕ))) (old new : ℕ → Bool) : Type 0 where
   pub map : ℕ → Option (List ℕ)
   pub is : told ≡ Some map
@@ -84,6 +93,9 @@ pub record Grown (o : Origin) (v now : Room) (m : ℕ → Option (List ℕ)) (fr
   pub others : (k : ℕ) → IsOutside v k → times k (frame_at o.sizes (contents map) o.id) ≡ 0 → map k ≡ m k
   pub first : times 0 (frame_at o.sizes (contents map) o.id) ≡ 0 → map 0 ≡ m 0
   pub written : AreWritten v old new (frame_at o.sizes (contents map) o.id)
+  pub bits : HasWritten (HasBitIn v (λ j. is_new (whole_at o.sizes (contents m) o.id) (whole_at o.sizes (contents map) o.id) j ≡ true)) old new (frame_at o.sizes (contents map) o.id)
+  pub stays : StaysChanged old new
+  pub entered : (k : ℕ) → Has (frame_at o.sizes (contents map) o.id) k → times k (whole_at o.sizes (contents m) o.id) ≡ 0 → new k ≡ true
   pub kept : KeepsRest (contents m o.id) (contents map o.id)
 
 -- it has grown by so many blocks
@@ -174,7 +186,9 @@ pub record IsStuck (o : Origin) (v : Room) (m : ℕ → Option (List ℕ)) (adde
   pub now : Room
   pub rest : now ≡ record v { tally = now.tally }
   pub map : ℕ → Option (List ℕ)
-  pub grown : HasGrown o v now m added (Some map) (λ k. false) (λ k. false)
+  pub old : ℕ → Bool
+  pub new : ℕ → Bool
+  pub grown : HasGrown o v now m added (Some map) old new
   pub wanted : (asked ≡ 1) ⊎ (asked ≡ array_length o.sizes)
   pub none : HasNoRun now map asked free
 

@@ -6,7 +6,7 @@ use Rattle.bfs_bitmap.specs.Runs.{Room, Fits, IsCounted, per_block, is_free, is_
 use Rattle.bfs_stream.specs.Sizes.{Origin, array_length, table_length}
 use Rattle.bfs_stream.specs.Places.{Levels, used_runs, level_blocks, fields, second_arrays, levels_at, places_at, frame_at, whole_at}
 use Rattle.bfs_stream.specs.Told.{contents}
-use Rattle.bfs_stream.specs.Grown.{IsOutside, Owns, AreWritten, KeepsRest, UsesDouble, is_new}
+use Rattle.bfs_stream.specs.Grown.{IsOutside, Owns, AreWritten, HasWritten, HasBitIn, KeepsRest, UsesDouble, is_new}
 
 -- each of these blocks that the volume has is marked as used
 abbrev pub AreMarked : Room → List ℕ → (ℕ → Option (List ℕ)) → Type 0
@@ -26,8 +26,9 @@ pub record Gave (v now : Room) (xs : List ℕ) (m : ℕ → Option (List ℕ)) (
 
 -- The stream has been cut: these blocks at its end are in it no more. It has no block that it had not; what was its and is
 -- so no more has no bit set and is reserved; no other bit changed, and nothing else is reserved; the same blocks are free; but
--- for bits nothing changed that isn't its inode or an array which it has still; of the inode the ranges and runs alone; and
--- where its blocks were used, a right count of the used blocks stays right.
+-- for bits nothing changed that isn't its inode or an array which it has still, and of the blocks with bits those alone that
+-- have one of what is its no more; of the inode the ranges and runs alone; and where its blocks were used, a right count of the
+-- used blocks stays right.
 pub record Trimmed (o : Origin) (v now : Room) (m : ℕ → Option (List ℕ)) (gone : List ℕ) (told : Option (ℕ → Option (List ℕ))) (old new : ℕ → Bool) : Type 0 where
   pub map : ℕ → Option (List ℕ)
   pub is : told ≡ Some map
@@ -44,6 +45,7 @@ pub record Trimmed (o : Origin) (v now : Room) (m : ℕ → Option (List ℕ)) (
   pub others : (k : ℕ) → IsOutside v k → times k touched ≡ 0 → map k ≡ m k
   pub first : times 0 touched ≡ 0 → map 0 ≡ m 0
   pub written : AreWritten v old new touched
+  pub bits : HasWritten (HasBitIn v (λ j. is_new (whole_at o.sizes (contents map) o.id) (whole_at o.sizes (contents m) o.id) j ≡ true)) old new touched
   pub kept : KeepsRest (contents m o.id) (contents map o.id)
 
 -- it has been cut by so many blocks

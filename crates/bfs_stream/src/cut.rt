@@ -1,6 +1,7 @@
 // Takes runs from the end of a stream.
 ghost use Rattle.std.specs.Prelude.{◌≡◌, ◌<◌, ◌≤◌, ◌⊎◌, ◌+◌, ◌-◌, ◌*◌, ◌/◌, ◌^◌, ℕ, pos, List, [], length, slice_set, slice_get, Option, Some, OnOk, IfOk, IfErr, true};
 ghost use Rattle.bfs_inode.specs.Inode.{stream_at};
+ghost use Rattle.bfs_base.specs.Lists.{Has};
 ghost use Rattle.bfs_txn.specs.Faults.{AreLater, IsCaused};
 ghost use Rattle.bfs_bitmap.specs.Runs.{Fits, as_kept};
 ghost use Rattle.bfs_bitmap.specs.Fills.{IsBitmapBlock};
@@ -9,8 +10,9 @@ ghost use Rattle.bfs_stream.specs.Places.{fields, run_blocks, array_runs, used_r
 ghost use Rattle.bfs_stream.specs.Told.{contents, AreTold};
 ghost use Rattle.bfs_stream.specs.Scans.{IsDamage};
 ghost use Rattle.bfs_stream.specs.Faults.{IsCauseIn};
-ghost use Rattle.bfs_stream.specs.Grown.{IsOfVolume, Owns, KeepsRest, IsTable, AreTables, HasTables, table_runs};
+ghost use Rattle.bfs_stream.specs.Grown.{IsOfVolume, Owns, KeepsRest, IsTable, AreTables, HasTables, table_runs, HasBitIn};
 ghost use Rattle.bfs_stream.specs.Trimmed.{Gave, HasCut, HasNoArrays, MayLose};
+ghost use Rattle.bfs_txn.specs.Told.{StaysChanged};
 
 use crate::Stream;
 use crate::grow::{MOST_BLOCKS, NO_RUN, Table, Tables};
@@ -35,6 +37,8 @@ impl Stream {
         ensures rest { bitmap.new ≡ record bitmap.old { given = bitmap.new.given; tally = bitmap.new.tally } }
         ensures kept { as_kept bitmap.new ≡ as_kept bitmap.old }
         ensures changed { (k : ℕ) → E.changed edits.new k ≡ true → (E.changed edits.old k ≡ true) ⊎ IsBitmapBlock bitmap.old k }
+        ensures bits { (k : ℕ) → E.changed edits.new k ≡ true → (E.changed edits.old k ≡ true) ⊎ HasBitIn bitmap.old (Has (run_blocks self.now.sizes run)) k }
+        ensures stays { StaysChanged (E.changed edits.old) (E.changed edits.new) }
         ensures size { E.size edits.new ≡ E.size edits.old }
         ensures frame { E.frame edits.new ≡ E.frame edits.old }
         ensures cause { IsCaused (E.counts edits.old) (E.counts edits.new) result }
@@ -111,6 +115,7 @@ impl Stream {
         ensures rest { bitmap.new ≡ record bitmap.old { given = bitmap.new.given; tally = bitmap.new.tally } }
         ensures kept { as_kept bitmap.new ≡ as_kept bitmap.old }
         ensures changed { (k : ℕ) → E.changed edits.new k ≡ true → (E.changed edits.old k ≡ true) ⊎ (IsBitmapBlock bitmap.old k ⊎ (k < self.now.sizes.blocks)) }
+        ensures stays { StaysChanged (E.changed edits.old) (E.changed edits.new) }
         ensures size { E.size edits.new ≡ E.size edits.old }
         ensures frame { E.frame edits.new ≡ E.frame edits.old }
         ensures later { AreLater (E.counts edits.old) (E.counts edits.new) }
@@ -195,6 +200,7 @@ impl Stream {
         ensures rest { bitmap.new ≡ record bitmap.old { given = bitmap.new.given; tally = bitmap.new.tally } }
         ensures kept { as_kept bitmap.new ≡ as_kept bitmap.old }
         ensures changed { (k : ℕ) → E.changed edits.new k ≡ true → (E.changed edits.old k ≡ true) ⊎ (IsBitmapBlock bitmap.old k ⊎ (k < self.now.sizes.blocks)) }
+        ensures stays { StaysChanged (E.changed edits.old) (E.changed edits.new) }
         ensures size { E.size edits.new ≡ E.size edits.old }
         ensures frame { E.frame edits.new ≡ E.frame edits.old }
         ensures later { AreLater (E.counts edits.old) (E.counts edits.new) }
@@ -286,6 +292,7 @@ impl Stream {
         ensures rest { bitmap.new ≡ record bitmap.old { given = bitmap.new.given; tally = bitmap.new.tally } }
         ensures kept { as_kept bitmap.new ≡ as_kept bitmap.old }
         ensures changed { (k : ℕ) → E.changed edits.new k ≡ true → (E.changed edits.old k ≡ true) ⊎ (IsBitmapBlock bitmap.old k ⊎ (k < self.now.sizes.blocks)) }
+        ensures stays { StaysChanged (E.changed edits.old) (E.changed edits.new) }
         ensures size { E.size edits.new ≡ E.size edits.old }
         ensures frame { E.frame edits.new ≡ E.frame edits.old }
         ensures later { AreLater (E.counts edits.old) (E.counts edits.new) }

@@ -8,9 +8,10 @@ ghost use Rattle.bfs_bitmap.specs.Fills.{IsBitmapBlock};
 ghost use Rattle.bfs_stream.specs.Sizes.{IsInVolume, IsWhole, runs_per_block, array_length};
 ghost use Rattle.bfs_stream.specs.Places.{used_runs, run_blocks, blocks_of, array_runs, fields};
 ghost use Rattle.bfs_stream.specs.Told.{contents, AreTold};
-ghost use Rattle.bfs_stream.specs.Grown.{IsOfVolume, Took, Owns, HasGrown, HasPut, HasFields, HasCleared, IsTable, HasTables, HasPutBelow, table_runs, AreTables, HasTable, HasArray, UsesDouble, KeepsRest};
+ghost use Rattle.bfs_stream.specs.Grown.{IsOfVolume, Took, Owns, HasGrown, HasPut, HasFields, HasCleared, IsTable, HasTables, HasPutBelow, table_runs, AreTables, HasTable, HasArray, UsesDouble, KeepsRest, HasBitIn};
 ghost use Rattle.bfs_stream.specs.Faults.{IsCauseIn, IsGrowCause, IsNoRunFor, IsStepFault};
 ghost use Rattle.bfs_stream.specs.Scans.{IsDamage};
+ghost use Rattle.bfs_txn.specs.Told.{StaysChanged};
 
 use crate::{GrowFault, Stream};
 use bfs_bitmap::{Bitmap, RunFault};
@@ -66,6 +67,8 @@ impl Stream {
         ensures no_run { (m : ℕ → Option (List ℕ)) → E.told edits.old ≡ Some m → Fits bitmap.old m → IfErr result (IsNoRunFor bitmap.old m wanted) }
         ensures rest { bitmap.new ≡ record bitmap.old { tally = bitmap.new.tally } }
         ensures changed { (k : ℕ) → E.changed edits.new k ≡ true → (E.changed edits.old k ≡ true) ⊎ IsBitmapBlock bitmap.old k }
+        ensures bits { IfOk result (λ run. (k : ℕ) → E.changed edits.new k ≡ true → (E.changed edits.old k ≡ true) ⊎ HasBitIn bitmap.old (Has (run_blocks self.now.sizes run)) k) }
+        ensures stays { StaysChanged (E.changed edits.old) (E.changed edits.new) }
         ensures size { E.size edits.new ≡ E.size edits.old }
         ensures frame { E.frame edits.new ≡ E.frame edits.old }
         ensures later { AreLater (E.counts edits.old) (E.counts edits.new) }
@@ -126,6 +129,7 @@ impl Stream {
         ensures some { IfOk result (λ n. 1 ≤ n) }
         ensures rest { bitmap.new ≡ record bitmap.old { tally = bitmap.new.tally } }
         ensures changed { (k : ℕ) → E.changed edits.new k ≡ true → (E.changed edits.old k ≡ true) ⊎ (IsBitmapBlock bitmap.old k ⊎ (k < self.now.sizes.blocks)) }
+        ensures stays { StaysChanged (E.changed edits.old) (E.changed edits.new) }
         ensures size { E.size edits.new ≡ E.size edits.old }
         ensures frame { E.frame edits.new ≡ E.frame edits.old }
         ensures later { AreLater (E.counts edits.old) (E.counts edits.new) }
@@ -165,6 +169,7 @@ impl Stream {
         ensures length { length bytes.new ≡ self.now.sizes.block_size }
         ensures written { (k : ℕ) → E.changed edits.new k ≡ true → (E.changed edits.old k ≡ true) ⊎ Has (run_blocks self.now.sizes array) k }
         ensures changed { (k : ℕ) → E.changed edits.new k ≡ true → (E.changed edits.old k ≡ true) ⊎ (k < self.now.sizes.blocks) }
+        ensures stays { StaysChanged (E.changed edits.old) (E.changed edits.new) }
         ensures size { E.size edits.new ≡ E.size edits.old }
         ensures frame { E.frame edits.new ≡ E.frame edits.old }
         ensures cause { IsCaused (E.counts edits.old) (E.counts edits.new) result }
@@ -197,6 +202,7 @@ impl Stream {
         ensures length { length bytes.new ≡ self.now.sizes.block_size }
         ensures written { (k : ℕ) → E.changed edits.new k ≡ true → (E.changed edits.old k ≡ true) ⊎ Has (run_blocks self.now.sizes array) k }
         ensures changed { (k : ℕ) → E.changed edits.new k ≡ true → (E.changed edits.old k ≡ true) ⊎ (k < self.now.sizes.blocks) }
+        ensures stays { StaysChanged (E.changed edits.old) (E.changed edits.new) }
         ensures size { E.size edits.new ≡ E.size edits.old }
         ensures frame { E.frame edits.new ≡ E.frame edits.old }
         ensures cause { IsCaused (E.counts edits.old) (E.counts edits.new) result }
@@ -230,6 +236,7 @@ impl Stream {
         ensures length { length bytes.new ≡ self.now.sizes.block_size }
         ensures written { (k : ℕ) → E.changed edits.new k ≡ true → (E.changed edits.old k ≡ true) ⊎ (k ≡ self.now.id) }
         ensures changed { (k : ℕ) → E.changed edits.new k ≡ true → (E.changed edits.old k ≡ true) ⊎ (k < self.now.sizes.blocks) }
+        ensures stays { StaysChanged (E.changed edits.old) (E.changed edits.new) }
         ensures size { E.size edits.new ≡ E.size edits.old }
         ensures frame { E.frame edits.new ≡ E.frame edits.old }
         ensures cause { IsCaused (E.counts edits.old) (E.counts edits.new) result }
@@ -272,6 +279,7 @@ impl Stream {
         ensures some { IfOk result (λ n. 1 ≤ n) }
         ensures rest { bitmap.new ≡ record bitmap.old { tally = bitmap.new.tally } }
         ensures changed { (k : ℕ) → E.changed edits.new k ≡ true → (E.changed edits.old k ≡ true) ⊎ (IsBitmapBlock bitmap.old k ⊎ (k < self.now.sizes.blocks)) }
+        ensures stays { StaysChanged (E.changed edits.old) (E.changed edits.new) }
         ensures size { E.size edits.new ≡ E.size edits.old }
         ensures frame { E.frame edits.new ≡ E.frame edits.old }
         ensures later { AreLater (E.counts edits.old) (E.counts edits.new) }
@@ -310,6 +318,8 @@ impl Stream {
         ensures length { length bytes.new ≡ self.now.sizes.block_size }
         ensures written { (k : ℕ) → E.changed edits.new k ≡ true → (E.changed edits.old k ≡ true) ⊎ Has (run_blocks self.now.sizes array) k }
         ensures changed { (k : ℕ) → E.changed edits.new k ≡ true → (E.changed edits.old k ≡ true) ⊎ (k < self.now.sizes.blocks) }
+        ensures stays { StaysChanged (E.changed edits.old) (E.changed edits.new) }
+        ensures set { OnOk result ((k : ℕ) → Has (run_blocks self.now.sizes array) k → E.changed edits.new k ≡ true) }
         ensures size { E.size edits.new ≡ E.size edits.old }
         ensures frame { E.frame edits.new ≡ E.frame edits.old }
         ensures counts { E.counts edits.new ≡ E.counts edits.old }
@@ -338,6 +348,7 @@ impl Stream {
         ensures length { length bytes.new ≡ self.now.sizes.block_size }
         ensures written { (k : ℕ) → E.changed edits.new k ≡ true → (E.changed edits.old k ≡ true) ⊎ (k ≡ self.now.id) }
         ensures changed { (k : ℕ) → E.changed edits.new k ≡ true → (E.changed edits.old k ≡ true) ⊎ (k < self.now.sizes.blocks) }
+        ensures stays { StaysChanged (E.changed edits.old) (E.changed edits.new) }
         ensures size { E.size edits.new ≡ E.size edits.old }
         ensures frame { E.frame edits.new ≡ E.frame edits.old }
         ensures cause { IsCaused (E.counts edits.old) (E.counts edits.new) result }
@@ -370,6 +381,7 @@ impl Stream {
         ensures length { length bytes.new ≡ self.now.sizes.block_size }
         ensures rest { bitmap.new ≡ record bitmap.old { tally = bitmap.new.tally } }
         ensures changed { (k : ℕ) → E.changed edits.new k ≡ true → (E.changed edits.old k ≡ true) ⊎ (IsBitmapBlock bitmap.old k ⊎ (k < self.now.sizes.blocks)) }
+        ensures stays { StaysChanged (E.changed edits.old) (E.changed edits.new) }
         ensures size { E.size edits.new ≡ E.size edits.old }
         ensures frame { E.frame edits.new ≡ E.frame edits.old }
         ensures later { AreLater (E.counts edits.old) (E.counts edits.new) }
@@ -425,6 +437,7 @@ impl Stream {
         ensures length { length bytes.new ≡ self.now.sizes.block_size }
         ensures written { (k : ℕ) → E.changed edits.new k ≡ true → (E.changed edits.old k ≡ true) ⊎ (k ≡ self.now.id) }
         ensures changed { (k : ℕ) → E.changed edits.new k ≡ true → (E.changed edits.old k ≡ true) ⊎ (k < self.now.sizes.blocks) }
+        ensures stays { StaysChanged (E.changed edits.old) (E.changed edits.new) }
         ensures size { E.size edits.new ≡ E.size edits.old }
         ensures frame { E.frame edits.new ≡ E.frame edits.old }
         ensures cause { IsCaused (E.counts edits.old) (E.counts edits.new) result }
@@ -457,6 +470,7 @@ impl Stream {
         ensures length { length bytes.new ≡ self.now.sizes.block_size }
         ensures rest { bitmap.new ≡ record bitmap.old { tally = bitmap.new.tally } }
         ensures changed { (k : ℕ) → E.changed edits.new k ≡ true → (E.changed edits.old k ≡ true) ⊎ (IsBitmapBlock bitmap.old k ⊎ (k < self.now.sizes.blocks)) }
+        ensures stays { StaysChanged (E.changed edits.old) (E.changed edits.new) }
         ensures size { E.size edits.new ≡ E.size edits.old }
         ensures frame { E.frame edits.new ≡ E.frame edits.old }
         ensures later { AreLater (E.counts edits.old) (E.counts edits.new) }
@@ -500,6 +514,7 @@ impl Stream {
         ensures length { length bytes.new ≡ self.now.sizes.block_size }
         ensures rest { bitmap.new ≡ record bitmap.old { tally = bitmap.new.tally } }
         ensures changed { (k : ℕ) → E.changed edits.new k ≡ true → (E.changed edits.old k ≡ true) ⊎ (IsBitmapBlock bitmap.old k ⊎ (k < self.now.sizes.blocks)) }
+        ensures stays { StaysChanged (E.changed edits.old) (E.changed edits.new) }
         ensures size { E.size edits.new ≡ E.size edits.old }
         ensures frame { E.frame edits.new ≡ E.frame edits.old }
         ensures later { AreLater (E.counts edits.old) (E.counts edits.new) }
@@ -544,6 +559,7 @@ impl Stream {
         ensures length { length bytes.new ≡ self.now.sizes.block_size }
         ensures written { (m : ℕ → Option (List ℕ)) → E.told edits.old ≡ Some m → HasTables self.now.sizes array m → place < length (table_runs self.now.sizes (contents m) array) → (k : ℕ) → E.changed edits.new k ≡ true → (E.changed edits.old k ≡ true) ⊎ Has (blocks_of self.now.sizes (used_runs (array_runs self.now.sizes (contents m) array))) k }
         ensures changed { (k : ℕ) → E.changed edits.new k ≡ true → (E.changed edits.old k ≡ true) ⊎ (k < self.now.sizes.blocks) }
+        ensures stays { StaysChanged (E.changed edits.old) (E.changed edits.new) }
         ensures size { E.size edits.new ≡ E.size edits.old }
         ensures frame { E.frame edits.new ≡ E.frame edits.old }
         ensures later { AreLater (E.counts edits.old) (E.counts edits.new) }
@@ -577,6 +593,7 @@ impl Stream {
         ensures length { length bytes.new ≡ self.now.sizes.block_size }
         ensures written { (m : ℕ → Option (List ℕ)) → E.told edits.old ≡ Some m → HasTables self.now.sizes array m → listed ≡ length (used_runs (array_runs self.now.sizes (contents m) array)) → (k : ℕ) → E.changed edits.new k ≡ true → (E.changed edits.old k ≡ true) ⊎ Has (blocks_of self.now.sizes (used_runs (array_runs self.now.sizes (contents m) array))) k }
         ensures changed { (k : ℕ) → E.changed edits.new k ≡ true → (E.changed edits.old k ≡ true) ⊎ (k < self.now.sizes.blocks) }
+        ensures stays { StaysChanged (E.changed edits.old) (E.changed edits.new) }
         ensures size { E.size edits.new ≡ E.size edits.old }
         ensures frame { E.frame edits.new ≡ E.frame edits.old }
         ensures later { AreLater (E.counts edits.old) (E.counts edits.new) }
@@ -603,6 +620,7 @@ impl Stream {
         ensures length { length bytes.new ≡ self.now.sizes.block_size }
         ensures written { (k : ℕ) → E.changed edits.new k ≡ true → (E.changed edits.old k ≡ true) ⊎ (k ≡ self.now.id) }
         ensures changed { (k : ℕ) → E.changed edits.new k ≡ true → (E.changed edits.old k ≡ true) ⊎ (k < self.now.sizes.blocks) }
+        ensures stays { StaysChanged (E.changed edits.old) (E.changed edits.new) }
         ensures size { E.size edits.new ≡ E.size edits.old }
         ensures frame { E.frame edits.new ≡ E.frame edits.old }
         ensures cause { IsCaused (E.counts edits.old) (E.counts edits.new) result }
@@ -644,6 +662,7 @@ impl Stream {
         ensures some { IfOk result (λ n. 1 ≤ n) }
         ensures rest { bitmap.new ≡ record bitmap.old { tally = bitmap.new.tally } }
         ensures changed { (k : ℕ) → E.changed edits.new k ≡ true → (E.changed edits.old k ≡ true) ⊎ (IsBitmapBlock bitmap.old k ⊎ (k < self.now.sizes.blocks)) }
+        ensures stays { StaysChanged (E.changed edits.old) (E.changed edits.new) }
         ensures size { E.size edits.new ≡ E.size edits.old }
         ensures frame { E.frame edits.new ≡ E.frame edits.old }
         ensures later { AreLater (E.counts edits.old) (E.counts edits.new) }

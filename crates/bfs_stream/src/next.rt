@@ -9,6 +9,7 @@ ghost use Rattle.bfs_stream.specs.Told.{contents, Stands};
 ghost use Rattle.bfs_stream.specs.Scans.{IsDamage, ends_of};
 ghost use Rattle.bfs_stream.specs.Faults.{IsCauseIn, IsGrowCause, IsStepFault, IsGrowFault};
 ghost use Rattle.bfs_stream.specs.Grown.{IsOfVolume, Owns, HasGrown, AreTables, HasArray, HasTable, HasGrownBy, IsTable, UsesDouble, room_at};
+ghost use Rattle.bfs_txn.specs.Told.{StaysChanged};
 
 use crate::count::count_used;
 use crate::grow::{MOST_BLOCKS, Table, Tables};
@@ -107,6 +108,7 @@ impl Stream {
         ensures length { length bytes.new ≡ self.now.sizes.block_size }
         ensures rest { bitmap.new ≡ record bitmap.old { tally = bitmap.new.tally } }
         ensures changed { (k : ℕ) → E.changed edits.new k ≡ true → (E.changed edits.old k ≡ true) ⊎ (IsBitmapBlock bitmap.old k ⊎ (k < self.now.sizes.blocks)) }
+        ensures stays { StaysChanged (E.changed edits.old) (E.changed edits.new) }
         ensures size { E.size edits.new ≡ E.size edits.old }
         ensures frame { E.frame edits.new ≡ E.frame edits.old }
         ensures later { AreLater (E.counts edits.old) (E.counts edits.new) }
@@ -148,6 +150,7 @@ impl Stream {
         ensures length { length bytes.new ≡ self.now.sizes.block_size }
         ensures rest { bitmap.new ≡ record bitmap.old { tally = bitmap.new.tally } }
         ensures changed { (k : ℕ) → E.changed edits.new k ≡ true → (E.changed edits.old k ≡ true) ⊎ (IsBitmapBlock bitmap.old k ⊎ (k < self.now.sizes.blocks)) }
+        ensures stays { StaysChanged (E.changed edits.old) (E.changed edits.new) }
         ensures size { E.size edits.new ≡ E.size edits.old }
         ensures frame { E.frame edits.new ≡ E.frame edits.old }
         ensures later { AreLater (E.counts edits.old) (E.counts edits.new) }
@@ -224,6 +227,7 @@ impl Stream {
         ensures length { length bytes.new ≡ self.now.sizes.block_size }
         ensures rest { bitmap.new ≡ record bitmap.old { tally = bitmap.new.tally } }
         ensures changed { (k : ℕ) → E.changed edits.new k ≡ true → (E.changed edits.old k ≡ true) ⊎ (IsBitmapBlock bitmap.old k ⊎ (k < self.now.sizes.blocks)) }
+        ensures stays { StaysChanged (E.changed edits.old) (E.changed edits.new) }
         ensures size { E.size edits.new ≡ E.size edits.old }
         ensures frame { E.frame edits.new ≡ E.frame edits.old }
         ensures later { AreLater (E.counts edits.old) (E.counts edits.new) }
@@ -259,6 +263,7 @@ impl Stream {
         ensures length { length bytes.new ≡ self.now.sizes.block_size }
         ensures rest { bitmap.new ≡ record bitmap.old { tally = bitmap.new.tally } }
         ensures changed { (k : ℕ) → E.changed edits.new k ≡ true → (E.changed edits.old k ≡ true) ⊎ (IsBitmapBlock bitmap.old k ⊎ (k < self.now.sizes.blocks)) }
+        ensures stays { StaysChanged (E.changed edits.old) (E.changed edits.new) }
         ensures size { E.size edits.new ≡ E.size edits.old }
         ensures frame { E.frame edits.new ≡ E.frame edits.old }
         ensures later { AreLater (E.counts edits.old) (E.counts edits.new) }
@@ -298,6 +303,7 @@ impl Stream {
         ensures length { length bytes.new ≡ self.now.sizes.block_size }
         ensures rest { bitmap.new ≡ record bitmap.old { tally = bitmap.new.tally } }
         ensures changed { (k : ℕ) → E.changed edits.new k ≡ true → (E.changed edits.old k ≡ true) ⊎ (IsBitmapBlock bitmap.old k ⊎ (k < self.now.sizes.blocks)) }
+        ensures stays { StaysChanged (E.changed edits.old) (E.changed edits.new) }
         ensures size { E.size edits.new ≡ E.size edits.old }
         ensures frame { E.frame edits.new ≡ E.frame edits.old }
         ensures later { AreLater (E.counts edits.old) (E.counts edits.new) }
@@ -337,6 +343,7 @@ impl Stream {
         ensures length { length bytes.new ≡ self.now.sizes.block_size }
         ensures rest { bitmap.new ≡ record bitmap.old { tally = bitmap.new.tally } }
         ensures changed { (k : ℕ) → E.changed edits.new k ≡ true → (E.changed edits.old k ≡ true) ⊎ (IsBitmapBlock bitmap.old k ⊎ (k < self.now.sizes.blocks)) }
+        ensures stays { StaysChanged (E.changed edits.old) (E.changed edits.new) }
         ensures size { E.size edits.new ≡ E.size edits.old }
         ensures frame { E.frame edits.new ≡ E.frame edits.old }
         ensures later { AreLater (E.counts edits.old) (E.counts edits.new) }
@@ -374,6 +381,7 @@ impl Stream {
         ensures length { length bytes.new ≡ self.now.sizes.block_size }
         ensures rest { bitmap.new ≡ record bitmap.old { tally = bitmap.new.tally } }
         ensures changed { (k : ℕ) → E.changed edits.new k ≡ true → (E.changed edits.old k ≡ true) ⊎ (IsBitmapBlock bitmap.old k ⊎ (k < self.now.sizes.blocks)) }
+        ensures stays { StaysChanged (E.changed edits.old) (E.changed edits.new) }
         ensures size { E.size edits.new ≡ E.size edits.old }
         ensures frame { E.frame edits.new ≡ E.frame edits.old }
         ensures later { AreLater (E.counts edits.old) (E.counts edits.new) }
@@ -424,6 +432,7 @@ impl Stream {
         ensures same { self.new ≡ self.old }
         ensures rest { bitmap.new ≡ record bitmap.old { tally = bitmap.new.tally } }
         ensures changed { (k : ℕ) → E.changed edits.new k ≡ true → (E.changed edits.old k ≡ true) ⊎ (IsBitmapBlock bitmap.old k ⊎ (k < self.old.sizes.blocks)) }
+        ensures stays { StaysChanged (E.changed edits.old) (E.changed edits.new) }
         ensures size { E.size edits.new ≡ E.size edits.old }
         ensures frame { E.frame edits.new ≡ E.frame edits.old }
         ensures later { AreLater (E.counts edits.old) (E.counts edits.new) }

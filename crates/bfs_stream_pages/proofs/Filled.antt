@@ -1,5 +1,5 @@
 -- The blocks of a stream are written one after the other, from a place on.
-use Rattle.std.proofs.Common.{◌≡◌, ◌≢◌, ◌≤◌, ◌<◌, ◌+◌, ◌∙◌, ◌⊎◌, inl, inr, ℕ, zero, suc, List, [], ◌∷◌, length, take, drop, Bool, true, false, cond, Option, Some, unwrap_or, refl, sym, ap, subst, arith}
+use Rattle.std.proofs.Common.{◌≡◌, ◌≢◌, ◌≤◌, ◌<◌, ◌+◌, ◌∙◌, ◌⊎◌, inl, inr, ℕ, zero, suc, List, [], ◌∷◌, length, take, drop, Bool, true, false, ◌||◌, cond, Option, Some, unwrap_or, refl, sym, ap, subst, arith}
 use Rattle.std.specs.Prelude.{◌==◌, ◌/◌, max, IsSome, slice_get, Result, OnOk, IfErr}
 use Rattle.bfs_base.specs.Lists.{times, Has, IsOnce, Agree}
 use Rattle.bfs_super.specs.Geometry.{IsBlockSize}
@@ -13,6 +13,7 @@ use Rattle.bfs_stream.proofs.Frames.{has_first, has_rest, levels_same}
 use Rattle.bfs_stream.proofs.AddsDirect.{same_test}
 use Rattle.bfs_stream.proofs.Writes.{number_set}
 use Rattle.bfs_stream_pages.specs.Steps.{HasFilled, IsToldTo, IsToldWhole, IsUndamaged}
+use Rattle.bfs_stream_pages.specs.MovesLaws.{stays_set}
 use Rattle.bfs_stream_pages.proofs.Rooms.{dropped_less}
 use Rattle.bfs_stream_pages.proofs.Writing.{is_equal, counted_at}
 
@@ -25,7 +26,7 @@ all_taken (x ∷ xs) (suc n) le = ap (λ (l : List ℕ). x ∷ l) (all_taken xs 
 
 -- nothing was written yet
 pub told_none : (o : Origin) (m : ℕ → Option (List ℕ)) (index : ℕ) (told : Option (ℕ → Option (List ℕ))) (old : ℕ → Bool) → told ≡ Some m → AreTold m (take index (places_at o.sizes (contents m) o.id)) → IsToldTo o m index index told old old
-told_none o m index told old is are = record { map = m; is = is; are = are; same = λ k none. refl; kept = λ k some. some; written = λ k e. inl e }
+told_none o m index told old is are = record { map = m; is = is; are = are; same = λ k none. refl; kept = λ k some. some; written = λ k e. inl e; stays = λ k e. e; set = λ k has none. let some : 0 < times k (take index (places_at o.sizes (contents m) o.id)) = has in absurd (omega (arith, some, none)) }
 
 module _ (o : Origin) (m : ℕ → Option (List ℕ)) (once : IsOnce (whole_at o.sizes (contents m) o.id)) (stands : Stands o m) (index at : ℕ) (told : Option (ℕ → Option (List ℕ))) (old new : ℕ → Bool) (so_far : IsToldTo o m index at told old new) where
   frame_apart : (k : ℕ) → Has (frame_at o.sizes (contents m) o.id) k → times k (drop index (places_at o.sizes (contents m) o.id)) ≡ 0
@@ -93,6 +94,8 @@ module _ (o : Origin) (m : ℕ → Option (List ℕ)) (once : IsOnce (whole_at o
     same = λ k none. other k (λ e. let some : 0 < times k (drop index (places_at o.sizes (contents m) o.id)) = subst (Has (drop index (places_at o.sizes (contents m) o.id))) (sym e) mine in absurd (omega (arith, some, none))) ∙ so_far.same k none;
     kept = λ k some. still_told k (so_far.kept k some);
     written = λ k e. by_set k (number_set n mid k (sym (set k) ∙ e));
+    stays = λ k e. still_set k (so_far.stays k e);
+    set = λ k has none. by_taken k none (taken_more (places_at o.sizes (contents m) o.id) at n k place (subst (λ (j : ℕ). Has (take j (places_at o.sizes (contents m) o.id)) k) next has));
   }
     where
       next : at + 1 ≡ suc at
@@ -125,6 +128,16 @@ module _ (o : Origin) (m : ℕ → Option (List ℕ)) (once : IsOnce (whole_at o
       by_last k (inl has) = still_told k (so_far.are k has)
       by_last k (inr e) = subst (λ (j : ℕ). IsSome (with_block n bytes so_far.map j)) (sym e) here
 
+      still_set : (k : ℕ) → mid k ≡ true → new k ≡ true
+      still_set = stays_set n mid new set
+
+      set_here : new n ≡ true
+      set_here = set n ∙ ap (λ (b : Bool). b || mid n) (same_test n)
+
+      by_taken : (k : ℕ) → times k (take index (places_at o.sizes (contents m) o.id)) ≡ 0 → Has (take at (places_at o.sizes (contents m) o.id)) k ⊎ (k ≡ n) → new k ≡ true
+      by_taken k none (inl has) = still_set k (so_far.set k has none)
+      by_taken k none (inr e) = subst (λ (j : ℕ). new j ≡ true) (sym e) set_here
+
       by_set : (k : ℕ) → (mid k ≡ true) ⊎ (k ≡ n) → (old k ≡ true) ⊎ Has (places_at o.sizes (contents m) o.id) k
       by_set k (inl before) = so_far.written k before
       by_set k (inr e) = inr (subst (Has (places_at o.sizes (contents m) o.id)) (sym e) (counted_at (places_at o.sizes (contents m) o.id) at n place))
@@ -134,28 +147,38 @@ module _ (o : Origin) (m : ℕ → Option (List ℕ)) (once : IsOnce (whole_at o
   told_end (past, is, same) = record {
     map = so_far.map;
     is = is;
-    are = λ k has. so_far.are k (subst (λ (l : List ℕ). Has l k) (first (length (places_at o.sizes (contents m) o.id)) (omega arith) ∙ sym (first at (subst (λ (l : List ℕ). length l ≤ at) (places o m once stands index at told old mid so_far) past))) has);
+    are = λ k has. so_far.are k (subst (λ (l : List ℕ). Has l k) all has);
     same = so_far.same;
     kept = so_far.kept;
     written = λ k e. so_far.written k (sym (ap (λ (f : ℕ → Bool). f k) same) ∙ e);
+    stays = λ k e. ap (λ (f : ℕ → Bool). f k) same ∙ so_far.stays k e;
+    set = λ k has none. ap (λ (f : ℕ → Bool). f k) same ∙ so_far.set k (subst (λ (l : List ℕ). Has l k) all has) none;
   }
     where
       first : (n : ℕ) → length (places_at o.sizes (contents m) o.id) ≤ n → take n (places_at o.sizes (contents m) o.id) ≡ places_at o.sizes (contents m) o.id
       first n low = all_taken (places_at o.sizes (contents m) o.id) n low
+
+      all : take (length (places_at o.sizes (contents m) o.id)) (places_at o.sizes (contents m) o.id) ≡ take at (places_at o.sizes (contents m) o.id)
+      all = first (length (places_at o.sizes (contents m) o.id)) (omega arith) ∙ sym (first at (subst (λ (l : List ℕ). length l ≤ at) (places o m once stands index at told old mid so_far) past))
 
 -- where the last place is behind all blocks, all are told
 pub told_all : (o : Origin) (m : ℕ → Option (List ℕ)) (index at : ℕ) (told : Option (ℕ → Option (List ℕ))) (old new : ℕ → Bool) → IsToldTo o m index at told old new → length (places_at o.sizes (contents m) o.id) ≤ at → IsToldWhole o m index told old new
 told_all o m index at told old new so_far past = record {
   map = so_far.map;
   is = so_far.is;
-  are = λ k has. so_far.are k (subst (λ (l : List ℕ). Has l k) (first (length (places_at o.sizes (contents m) o.id)) (omega arith) ∙ sym (first at past)) has);
+  are = λ k has. so_far.are k (subst (λ (l : List ℕ). Has l k) all has);
   same = so_far.same;
   kept = so_far.kept;
   written = so_far.written;
+  stays = so_far.stays;
+  set = λ k has none. so_far.set k (subst (λ (l : List ℕ). Has l k) all has) none;
 }
   where
     first : (n : ℕ) → length (places_at o.sizes (contents m) o.id) ≤ n → take n (places_at o.sizes (contents m) o.id) ≡ places_at o.sizes (contents m) o.id
     first n low = all_taken (places_at o.sizes (contents m) o.id) n low
+
+    all : take (length (places_at o.sizes (contents m) o.id)) (places_at o.sizes (contents m) o.id) ≡ take at (places_at o.sizes (contents m) o.id)
+    all = first (length (places_at o.sizes (contents m) o.id)) (omega arith) ∙ sym (first at past)
 
 -- an array has at most four blocks
 pub array_short : (o : Origin) → HasSizes o.sizes → array_length o.sizes ≤ 4

@@ -1,5 +1,5 @@
 -- What is known of the pages behind a call.
-use Rattle.std.proofs.Common.{◌≡◌, ◌≤◌, ◌<◌, ◌+◌, ◌-◌, ◌*◌, ◌%◌, ◌∙◌, ◌⊎◌, inl, inr, ℕ, List, ◌++◌, length, take, drop, Bool, true, false, Option, Some, None, IfSome, refl, sym, ap, subst, arith}
+use Rattle.std.proofs.Common.{◌≡◌, ◌≤◌, ◌<◌, ◌+◌, ◌-◌, ◌*◌, ◌%◌, ◌∙◌, ◌⊎◌, ◌&&◌, inl, inr, ℕ, List, ◌++◌, length, take, drop, Bool, true, false, is_some, Option, Some, None, IfSome, refl, sym, ap, subst, arith}
 use Rattle.std.specs.Prelude.{IsSome, slice_get, Result, Ok, Err, OnOk, OnErr}
 use Rattle.std.specs.Option.{option_map}
 use Rattle.std.proofs.lemmas.List.{take-append-le, take-take, drop-take}
@@ -21,12 +21,12 @@ use Rattle.bfs_stream.specs.declared.fault.GrowFault.{GrowFault}
 use Rattle.bfs_stream.specs.declared.fault.GrowFault.TheVariants as grow
 use Rattle.bfs_stream.proofs.Writes.{wrote_none, wrote_more, wrote_twice}
 use Rattle.bfs_stream_pages.specs.Held.{Held, IsReadable, Tells, known, stream_of}
-use Rattle.bfs_stream_pages.specs.Moves.{Moved}
-use Rattle.bfs_stream_pages.specs.Causes.{HasFailed, HasCause, IsPageCause}
+use Rattle.bfs_stream_pages.specs.Moves.{ChangesFresh, Moved}
+use Rattle.bfs_stream_pages.specs.Causes.{HasFailed, HasCause, IsPageCause, IsOfBlock}
 use Rattle.bfs_stream_pages.specs.Goes.{HasMoved, HasFault, GoesOn}
 use Rattle.bfs_stream_pages.specs.Steps.{Comes, IsUndamaged, HasRoom, HasWritten, HasSize, HasAdded, all_of}
 use Rattle.bfs_stream_pages.specs.BytesLaws.{take_write, take_added, part_of}
-use Rattle.bfs_stream_pages.specs.MovesLaws.{moved_none, moved_twice, whole_moves}
+use Rattle.bfs_stream_pages.specs.MovesLaws.{fresh_none, fresh_twice, moved_none, moved_twice, stays_same, stays_twice, whole_moves}
 use Rattle.bfs_stream_pages.specs.GoesLaws.{goes_same, reads_stream, stream_is, long_fits, all_long, are_blocks}
 
 -- what is told, of what is known
@@ -48,9 +48,11 @@ comes_twice o v now later more most m told1 told2 c0 c1 c2 one two = record {
   is = two.is;
   held = two.held;
   moved = moved_twice o v now later m one.map two.map one.moved two.moved;
-  written = wrote_twice v c0 c1 c2 (whole_at o.sizes (contents two.map) o.id)
-      (wrote_more v c0 c1 (whole_at o.sizes (contents one.map) o.id) (whole_at o.sizes (contents two.map) o.id) (λ k has. whole_moves o now later one.map two.map two.moved k has) one.written)
+  written = wrote_twice (IsBitmapBlock v) c0 c1 c2 (whole_at o.sizes (contents two.map) o.id)
+      (wrote_more (IsBitmapBlock v) c0 c1 (whole_at o.sizes (contents one.map) o.id) (whole_at o.sizes (contents two.map) o.id) (λ k has. whole_moves o now later one.map two.map two.moved k has) one.written)
       (subst (λ (x : Room). AreWritten x c1 c2 (whole_at o.sizes (contents two.map) o.id)) one.moved.rest two.written);
+  stays = stays_twice c0 c1 c2 one.stays two.stays;
+  fresh = fresh_twice o m one.map two.map c1 c2 one.fresh two.fresh two.stays;
 }
 
 -- a step behind which a call left what was told
@@ -61,6 +63,8 @@ comes_kept o v now more m told1 told2 c0 c1 c2 one told changed = record {
   held = one.held;
   moved = one.moved;
   written = subst (λ (f : ℕ → Bool). AreWritten v c0 f (whole_at o.sizes (contents one.map) o.id)) (sym changed) one.written;
+  stays = stays_twice c0 c1 c2 one.stays (stays_same c1 c2 changed);
+  fresh = λ k has none. stays_same c1 c2 changed k (one.fresh k has none);
 }
 
 below_or : (a b : ℕ) → (a < b) ⊎ (b ≤ a)
@@ -81,7 +85,7 @@ module _ (o : Origin) (v now : Room) (long more : ℕ) (failed : Option GrowFaul
   moved_some (Some m) (Some map) some held step = λ h.
       let w = step m refl h in
       let same : w.map ≡ map = sym (same_some map w.map w.is) in
-      subst (λ (x : ℕ → Option (List ℕ)). Held o now more x × (Moved o v now m x × AreWritten v old new (whole_at o.sizes (contents x) o.id))) same (w.held, (w.moved, w.written))
+      subst (λ (x : ℕ → Option (List ℕ)). Held o now more x × (Moved o v now m x × AreWritten v old new (whole_at o.sizes (contents x) o.id) × ChangesFresh o m x new)) same (w.held, (w.moved, w.written, w.fresh))
 
   pub now_moved : HasMoved o v now long more (known failed start told) (known failed start told_now) failed old new
   now_moved = by_known failed start tells held
@@ -142,6 +146,7 @@ goes_quiet o v long failed start told told_now old new counts counts_now standin
       moved = subst (λ (t : Option (ℕ → Option (List ℕ))). HasMoved o v v long long (known failed start told) (known failed start t) failed old new) (sym same) (subst (λ (f : ℕ → Bool). HasMoved o v v long long (known failed start told) (known failed start told) failed old f) (sym changed) none.moved);
       fault = none_failed o v long (known failed start told) failed counts counts_now standing;
       changed = λ k is. inl (sym (ap (λ (f : ℕ → Bool). f k) changed) ∙ is);
+      stays = stays_same old new changed;
       later = later;
     }
 
@@ -182,6 +187,22 @@ memory_cause fault old new e = subst (IsGrowCause 1 old new) (sym e) tt
 
 pub memory_is : (fault : GrowFault) → fault ≡ grow.Block NoMemory → IsUndamaged fault
 memory_is fault e = subst IsUndamaged (sym e) (λ d. d)
+
+-- fixed pages have no fault of a page that could not be added
+pub failed_block : (fixed : Bool) (failed : Option GrowFault) (fault : GrowFault) → (fixed && is_some failed) ≡ false → failed ≡ Some fault → fixed ≡ true → IsOfBlock fault
+failed_block fixed failed fault unfailed is e = absurd (not_both (sym (λ i. e i && is_some (is i)) ∙ unfailed))
+  where
+    not_both : true ≡ false → ⊥
+    not_both bad = cc
+
+pub open_block : (fixed : Bool) (fault : GrowFault) → fixed ≡ false → fixed ≡ true → IsOfBlock fault
+open_block fixed fault open_now e = absurd (not_both (sym e ∙ open_now))
+  where
+    not_both : true ≡ false → ⊥
+    not_both bad = cc
+
+pub memory_block : (fault : GrowFault) → fault ≡ grow.Block NoMemory → IsOfBlock fault
+memory_block fault e = subst IsOfBlock (sym e) tt
 
 -- there was no memory
 pub memory_page : (o : Origin) (v : Room) (long : ℕ) (failed : Option GrowFault) (start told : Option (ℕ → Option (List ℕ))) (counts : Counts) (fault : GrowFault) → failed ≡ None → fault ≡ grow.Block NoMemory → IsPageCause o v long (known failed start told) failed counts counts fault
@@ -305,5 +326,7 @@ either_comes o v long m at page told told_now old new (Err fault) written kept i
   is = kept.0 ∙ is;
   held = held;
   moved = moved_none o v m held.owns;
-  written = wrote_none v old new (whole_at o.sizes (contents m) o.id) kept.1;
+  written = wrote_none (IsBitmapBlock v) old new (whole_at o.sizes (contents m) o.id) kept.1;
+  stays = stays_same old new kept.1;
+  fresh = fresh_none o m m new refl;
 }

@@ -1,5 +1,5 @@
 -- A stream has grown by a block, and its fresh blocks are told.
-use Rattle.std.proofs.Common.{◌≡◌, ◌≤◌, ◌<◌, ◌+◌, ◌*◌, ◌∙◌, inl, inr, ◌≤ℤ◌, pos, ℕ, ℤ, zero, suc, List, [], ◌∷◌, ◌++◌, length, take, drop, Bool, Option, Some, unwrap_or, refl, sym, ap, subst, arith, length-append}
+use Rattle.std.proofs.Common.{◌≡◌, ◌≤◌, ◌<◌, ◌+◌, ◌*◌, ◌∙◌, inl, inr, ◌≤ℤ◌, pos, ℕ, ℤ, zero, suc, List, [], ◌∷◌, ◌++◌, length, take, drop, Bool, true, Option, Some, unwrap_or, refl, sym, ap, subst, arith, length-append}
 use Rattle.std.specs.Prelude.{IsSome, slice_get, Result, Ok, Err, OnOk, IfErr}
 use Rattle.std.specs.List.{flat_map}
 use Rattle.std.proofs.lemmas.Int.{ints}
@@ -10,6 +10,7 @@ use Rattle.std.proofs.Math.Seq.{take-append_seam, drop-append_seam, take-length}
 use Rattle.bfs_base.specs.Lists.{times, Has, Agree}
 use Rattle.bfs_super.specs.Conditions.{natural}
 use Rattle.bfs_super.specs.Geometry.{IsBlockSize}
+use Rattle.bfs_bitmap.specs.Fills.{IsBitmapBlock}
 use Rattle.bfs_bitmap.specs.Runs.{Room}
 use Rattle.bfs_stream.specs.Sizes.{Origin, HasSizes, array_length}
 use Rattle.bfs_stream.specs.Places.{Levels, levels_at, arrays_at, fields, places_at, frame_at, whole_at}
@@ -22,9 +23,9 @@ use Rattle.bfs_stream.proofs.Doubles.{times-append}
 use Rattle.bfs_stream.proofs.Frames.{has_first, has_right, joined_same, levels_same}
 use Rattle.bfs_stream.proofs.Writes.{wrote_none, wrote_left, wrote_more, wrote_these, wrote_twice}
 use Rattle.bfs_stream_pages.specs.Held.{Held}
-use Rattle.bfs_stream_pages.specs.Moves.{KeepsInode}
+use Rattle.bfs_stream_pages.specs.Moves.{ChangesFresh, KeepsInode}
 use Rattle.bfs_stream_pages.specs.Steps.{HasRoom, IsToldWhole, IsUndamaged, all_of}
-use Rattle.bfs_stream_pages.specs.MovesLaws.{with_size, keeps_inode_none, moved_none, moved_grown, moved_rewritten, moved_twice, owns_now, places_same, whole_same}
+use Rattle.bfs_stream_pages.specs.MovesLaws.{with_size, fresh_none, keeps_inode_none, moved_none, moved_grown, moved_rewritten, moved_twice, owns_now, places_same, stays_same, stays_twice, whole_same}
 use Rattle.bfs_stream_pages.specs.GoesLaws.{long_fits}
 
 got_inside : (xs : List ℕ) (i n : ℕ) → slice_get xs i ≡ Some n → i < length xs
@@ -36,7 +37,7 @@ got_inside (x ∷ xs) (suc i) n e = let ih : i < length xs = got_inside xs i n e
 -- the stream has a block there already
 pub room_there : (o : Origin) (v : Room) (long : ℕ) (m : ℕ → Option (List ℕ)) (index n : ℕ) (told : Option (ℕ → Option (List ℕ))) (old new : ℕ → Bool) → Held o v long m → slice_get (places_at o.sizes (contents m) o.id) index ≡ Some n → told ≡ Some m → new ≡ old → HasRoom o v v long m index told old new
 room_there o v long m index n told old new held at is same = record {
-  comes = record { map = m; is = is; held = held; moved = moved_none o v m held.owns; written = wrote_none v old new (whole_at o.sizes (contents m) o.id) same };
+  comes = record { map = m; is = is; held = held; moved = moved_none o v m held.owns; written = wrote_none (IsBitmapBlock v) old new (whole_at o.sizes (contents m) o.id) same; stays = stays_same old new same; fresh = fresh_none o m m new refl };
   inside = got_inside (places_at o.sizes (contents m) o.id) index n at;
   rest = [];
   bytes = sym (append-nil (all_of o m));
@@ -154,10 +155,28 @@ module _ (o : Origin) (v now : Room) (long : ℕ) (m : ℕ → Option (List ℕ)
             omega (arith, once, parts, split, h)
 
     written_first : AreWritten v old mid (whole_at o.sizes (contents grown.grown.2.map) o.id)
-    written_first = wrote_left v old mid (frame_at o.sizes (contents grown.grown.2.map) o.id) (places_at o.sizes (contents grown.grown.2.map) o.id) grown.grown.2.written
+    written_first = wrote_left (IsBitmapBlock v) old mid (frame_at o.sizes (contents grown.grown.2.map) o.id) (places_at o.sizes (contents grown.grown.2.map) o.id) grown.grown.2.written
 
     written_then : AreWritten v mid new (whole_at o.sizes (contents grown.grown.2.map) o.id)
-    written_then = wrote_more v mid new (places_at o.sizes (contents grown.grown.2.map) o.id) (whole_at o.sizes (contents grown.grown.2.map) o.id) whole_has (wrote_these v mid new (places_at o.sizes (contents grown.grown.2.map) o.id) filled.written)
+    written_then = wrote_more (IsBitmapBlock v) mid new (places_at o.sizes (contents grown.grown.2.map) o.id) (whole_at o.sizes (contents grown.grown.2.map) o.id) whole_has (wrote_these (IsBitmapBlock v) mid new (places_at o.sizes (contents grown.grown.2.map) o.id) filled.written)
+
+    -- what it has and had not is an array's, or was written over
+    fresh : ChangesFresh o m filled.map new
+    fresh k has none = by_frame (times k (frame_at o.sizes (contents grown.grown.2.map) o.id)) refl (subst (λ (l : List ℕ). Has l k) whole_is has)
+      where
+        none_before : times k (take index (places_at o.sizes (contents grown.grown.2.map) o.id)) ≡ 0
+        none_before =
+            let parts = times-append k (frame_at o.sizes (contents m) o.id) (places_at o.sizes (contents m) o.id) in
+            let few : times k (places_at o.sizes (contents m) o.id) ≡ 0 = omega (arith, parts, none) in
+            ap (times k) had ∙ few
+
+        by_frame : (j : ℕ) → times k (frame_at o.sizes (contents grown.grown.2.map) o.id) ≡ j → Has (whole_at o.sizes (contents grown.grown.2.map) o.id) k → new k ≡ true
+        by_frame zero e some =
+            let h : 0 < times k (whole_at o.sizes (contents grown.grown.2.map) o.id) = some in
+            let parts = times-append k (frame_at o.sizes (contents grown.grown.2.map) o.id) (places_at o.sizes (contents grown.grown.2.map) o.id) in
+            let p : Has (places_at o.sizes (contents grown.grown.2.map) o.id) k = let q : 0 < times k (places_at o.sizes (contents grown.grown.2.map) o.id) = omega (arith, h, parts, e) in q in
+            filled.set k (subst (λ (l : List ℕ). Has l k) (sym (take-length (places_at o.sizes (contents grown.grown.2.map) o.id))) p) none_before
+        by_frame (suc j) e some = filled.stays k (grown.grown.2.entered k (let p : 0 < times k (frame_at o.sizes (contents grown.grown.2.map) o.id) = omega (arith, e) in p) none)
 
     pub room_grown : HasRoom o v now long m index told2 old new
     room_grown = record {
@@ -170,7 +189,9 @@ module _ (o : Origin) (v now : Room) (long : ℕ) (m : ℕ → Option (List ℕ)
           size = ap (λ (l : Levels). l.stream.size) levels;
         };
         moved = moved_twice o v now now m grown.grown.2.map filled.map (moved_grown o v now m grown.grown.0 told old mid grown.grown.2 rest) (moved_rewritten o now grown.grown.2.map filled.map owns same are (pos long) levels low_size high_size kept);
-        written = subst (AreWritten v old new) (sym whole_is) (wrote_twice v old mid new (whole_at o.sizes (contents grown.grown.2.map) o.id) written_first written_then);
+        written = subst (AreWritten v old new) (sym whole_is) (wrote_twice (IsBitmapBlock v) old mid new (whole_at o.sizes (contents grown.grown.2.map) o.id) written_first written_then);
+        stays = stays_twice old mid new grown.grown.2.stays filled.stays;
+        fresh = fresh;
       };
       inside = subst (λ (l : List ℕ). index < length l) (sym places_are) (let enough = grown.enough in omega (arith, behind, longer, enough));
       rest = flat_map (contents filled.map) grown.grown.0;

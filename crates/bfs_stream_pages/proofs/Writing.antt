@@ -5,6 +5,7 @@ use Rattle.std.specs.List.{flat_map}
 use Rattle.std.proofs.lemmas.Int.{ints}
 use Rattle.bfs_base.specs.Lists.{times, Has, Agree}
 use Rattle.bfs_super.specs.Conditions.{natural}
+use Rattle.bfs_bitmap.specs.Fills.{IsBitmapBlock}
 use Rattle.bfs_bitmap.specs.Runs.{Room}
 use Rattle.bfs_inode.specs.Inode.{Stream, stream_at}
 use Rattle.bfs_txn.specs.Told.{AreSized, with_block, with_number}
@@ -21,7 +22,7 @@ use Rattle.bfs_stream_pages.specs.Moves.{KeepsInode}
 use Rattle.bfs_stream_pages.specs.Steps.{Comes, HasWritten, HasSize}
 use Rattle.bfs_stream_pages.specs.BytesLaws.{write_of}
 use Rattle.bfs_stream_pages.specs.GoesLaws.{are_blocks}
-use Rattle.bfs_stream_pages.specs.MovesLaws.{with_size, keeps_inode_none, places_same, whole_same, owns_now, moved_rewritten}
+use Rattle.bfs_stream_pages.specs.MovesLaws.{with_size, fresh_none, stays_set, keeps_inode_none, places_same, whole_same, owns_now, moved_rewritten}
 
 pub is_equal : (k n : ℕ) → (k == n) ≡ true → k ≡ n
 is_equal k n e = grind (arith, e)
@@ -99,7 +100,9 @@ module _ (o : Origin) (v : Room) (long more : ℕ) (m : ℕ → Option (List ℕ
         size = ap (λ (l : Levels). l.stream.size) levels;
       };
       moved = moved_rewritten o v m map held.owns same are (pos more) levels low fits kept;
-      written = wrote_more v old new (n ∷ []) (whole_at s (contents map) o.id) (λ k has. only_these n k (whole_at s (contents map) o.id) has (subst (λ (l : List ℕ). Has l n) (sym whole_now) mine)) (wrote_set v old new n n refl set);
+      written = wrote_more (IsBitmapBlock v) old new (n ∷ []) (whole_at s (contents map) o.id) (λ k has. only_these n k (whole_at s (contents map) o.id) has (subst (λ (l : List ℕ). Has l n) (sym whole_now) mine)) (wrote_set (IsBitmapBlock v) old new n n refl set);
+      stays = stays_set n old new set;
+      fresh = fresh_none o m map new whole_now;
     }
 
 -- a page was written into one of the stream's blocks

@@ -6,6 +6,7 @@ use Rattle.std.proofs.lemmas.List.{length-take-le}
 use Rattle.std.proofs.Props.{props}
 use Rattle.std.proofs.Math.Logic.{∥∥₁_elim, ∥∥₁_map}
 use Rattle.bfs_super.specs.Conditions.{natural}
+use Rattle.bfs_bitmap.specs.Fills.{IsBitmapBlock}
 use Rattle.bfs_bitmap.specs.Runs.{Room}
 use Rattle.bfs_txn.specs.Told.{AreSized}
 use Rattle.bfs_txn.specs.Faults.{Counts, AreLater}
@@ -22,12 +23,12 @@ use Rattle.bfs_stream.specs.declared.fault.GrowFault.TheVariants as grow
 use Rattle.bfs_stream.proofs.Arrays.{later_twice}
 use Rattle.bfs_stream.proofs.Writes.{wrote_none, wrote_more, wrote_twice, changed_twice, later_none}
 use Rattle.bfs_stream_pages.specs.Held.{Held, IsReadable, known, stream_of}
-use Rattle.bfs_stream_pages.specs.Moves.{Moved}
+use Rattle.bfs_stream_pages.specs.Moves.{ChangesFresh, Moved}
 use Rattle.bfs_stream_pages.specs.Causes.{IsReadCause, HasFailed, HasCause, IsPageCause}
 use Rattle.bfs_stream_pages.specs.Goes.{IsRead, OnlyReads, HasMoved, HasFault, GoesOn}
 use Rattle.bfs_stream_pages.specs.Steps.{all_of}
 use Rattle.bfs_stream_pages.specs.BytesLaws.{AreBlocks, length_all}
-use Rattle.bfs_stream_pages.specs.MovesLaws.{moved_none, moved_twice, whole_moves}
+use Rattle.bfs_stream_pages.specs.MovesLaws.{fresh_none, fresh_twice, moved_none, moved_twice, stays_twice, whole_moves}
 
 -- nothing has happened
 pub goes_same : (o : Origin) (v : Room) (long : ℕ) (told : Option (ℕ → Option (List ℕ))) (failed : Option GrowFault) (old : ℕ → Bool) (counts : Counts) → GoesOn o v v long long told told failed failed old old counts counts
@@ -36,12 +37,13 @@ goes_same o v long told failed old counts = record {
   moved = by_told told;
   fault = by_failed failed;
   changed = λ k is. inl is;
+  stays = λ k is. is;
   later = later_none counts;
 }
   where
     by_told : (told : Option (ℕ → Option (List ℕ))) → HasMoved o v v long long told told failed old old
     by_told None = tt
-    by_told (Some m) = λ held. (held, (moved_none o v m held.owns, wrote_none v old old (whole_at o.sizes (contents m) o.id) refl))
+    by_told (Some m) = λ held. (held, (moved_none o v m held.owns, wrote_none (IsBitmapBlock v) old old (whole_at o.sizes (contents m) o.id) refl, fresh_none o m m old refl))
 
     by_failed : (failed : Option GrowFault) → HasFault o v long told failed failed counts counts
     by_failed None = tt
@@ -94,15 +96,18 @@ goes_twice o v now later l0 l1 l2 told told1 told2 f0 f1 f2 c0 c1 c2 n0 n1 n2 on
   moved = by_told told told1 told2 one.moved two.moved two.fault;
   fault = by_failed f0 f1 f2 one.fault one.moved two.fault;
   changed = changed_twice o.sizes v now c0 c1 c2 one.rest one.changed two.changed;
+  stays = stays_twice c0 c1 c2 one.stays two.stays;
   later = later_twice n0 n1 n2 one.later two.later;
 }
   where
-    both : (m mid map : ℕ → Option (List ℕ)) → Moved o v now m mid × AreWritten v c0 c1 (whole_at o.sizes (contents mid) o.id) → Moved o now later mid map × AreWritten now c1 c2 (whole_at o.sizes (contents map) o.id) → Moved o v later m map × AreWritten v c0 c2 (whole_at o.sizes (contents map) o.id)
+    both : (m mid map : ℕ → Option (List ℕ)) → Moved o v now m mid × AreWritten v c0 c1 (whole_at o.sizes (contents mid) o.id) × ChangesFresh o m mid c1 → Moved o now later mid map × AreWritten now c1 c2 (whole_at o.sizes (contents map) o.id) × ChangesFresh o mid map c2
+        → Moved o v later m map × AreWritten v c0 c2 (whole_at o.sizes (contents map) o.id) × ChangesFresh o m map c2
     both m mid map a b = (
       moved_twice o v now later m mid map a.0 b.0,
-      wrote_twice v c0 c1 c2 (whole_at o.sizes (contents map) o.id)
-          (wrote_more v c0 c1 (whole_at o.sizes (contents mid) o.id) (whole_at o.sizes (contents map) o.id) (λ k has. whole_moves o now later mid map b.0 k has) a.1)
+      wrote_twice (IsBitmapBlock v) c0 c1 c2 (whole_at o.sizes (contents map) o.id)
+          (wrote_more (IsBitmapBlock v) c0 c1 (whole_at o.sizes (contents mid) o.id) (whole_at o.sizes (contents map) o.id) (λ k has. whole_moves o now later mid map b.0 k has) a.1)
           (subst (λ (x : Room). AreWritten x c1 c2 (whole_at o.sizes (contents map) o.id)) one.rest b.1),
+      fresh_twice o m mid map c1 c2 a.2 b.2 two.stays,
     )
 
     by_told : (t t1 t2 : Option (ℕ → Option (List ℕ))) → HasMoved o v now l0 l1 t t1 f1 c0 c1 → HasMoved o now later l1 l2 t1 t2 f2 c1 c2 → HasFault o now l1 t1 f1 f2 n1 n2 → HasMoved o v later l0 l2 t t2 f2 c0 c2
@@ -219,7 +224,7 @@ read_twice v now later l0 l1 l2 t0 t1 t2 f0 f1 f2 c0 c1 c2 p0 p1 p2 n0 n1 n2 one
 -- the counts alone move on
 goes_counts : (o : Origin) (v : Room) (long : ℕ) (told : Option (ℕ → Option (List ℕ))) (failed : Option GrowFault) (old : ℕ → Bool) (counts counts_now : Counts) → AreLater counts counts_now → (IsSome failed → counts_now ≡ counts) → GoesOn o v v long long told told failed failed old old counts counts_now
 goes_counts o v long told failed old counts counts_now later unasked =
-    let none = goes_same o v long told failed old counts in record { rest = refl; moved = none.moved; fault = by_failed failed unasked; changed = none.changed; later = later }
+    let none = goes_same o v long told failed old counts in record { rest = refl; moved = none.moved; fault = by_failed failed unasked; changed = none.changed; stays = none.stays; later = later }
   where
     by_failed : (f : Option GrowFault) → (IsSome f → counts_now ≡ counts) → HasFault o v long told f f counts counts_now
     by_failed None same = tt

@@ -1,5 +1,5 @@
 -- What writing and adding pages changes of a volume.
-use Rattle.std.specs.Prelude.{◌≡◌, ◌<◌, ℕ, ◌==◌, ◌&&◌, List, [], ◌++◌, true, Option, if◌then◌else◌}
+use Rattle.std.specs.Prelude.{◌≡◌, ◌<◌, ℕ, ◌==◌, ◌&&◌, List, [], ◌++◌, Bool, true, Option, if◌then◌else◌}
 use Rattle.bfs_base.specs.Lists.{times, Has}
 use Rattle.bfs_bitmap.specs.Runs.{Room, IsCounted, per_block, is_free, marked}
 use Rattle.bfs_inode.specs.Inode.{KeepsOutside, inode_at}
@@ -11,6 +11,10 @@ use Rattle.bfs_stream.specs.Grown.{Owns, IsOutside, is_new}
 -- the fields of the inode beside its stream are the same, and so is each byte beside the stream's
 abbrev pub KeepsInode : List ℕ → List ℕ → Type 0
 KeepsInode old new = (inode_at new ≡ record (inode_at old) { stream_bytes = (inode_at new).stream_bytes }) × KeepsOutside old new
+
+-- each block that the stream has now and had not is changed
+abbrev pub ChangesFresh : Origin → (ℕ → Option (List ℕ)) → (ℕ → Option (List ℕ)) → (ℕ → Bool) → Type 0
+ChangesFresh o m map new = (k : ℕ) → Has (whole_at o.sizes (contents map) o.id) k → times k (whole_at o.sizes (contents m) o.id) ≡ 0 → new k ≡ true
 
 -- Pages were written, or added: the stream has its blocks, and perhaps fresh ones behind them; what it has now and had not
 -- was free, and its bit is set; no other bit changed; what is free now was free and is not in it; but for its own blocks and

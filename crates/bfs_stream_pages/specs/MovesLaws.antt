@@ -1,5 +1,5 @@
 -- What stays of a volume where pages are written or added.
-use Rattle.std.proofs.Common.{◌≡◌, ◌≤◌, ◌<◌, ◌+◌, ◌-◌, ◌*◌, ◌∙◌, ◌≤ℤ◌, pos, ℕ, ℤ, zero, suc, List, [], ◌∷◌, ◌++◌, length, Bool, true, false, ◌&&◌, Option, refl, sym, ap, ap₂, subst, arith, append_assoc, not, cond}
+use Rattle.std.proofs.Common.{◌≡◌, ◌≤◌, ◌<◌, ◌+◌, ◌-◌, ◌*◌, ◌∙◌, ◌≤ℤ◌, pos, ℕ, ℤ, zero, suc, List, [], ◌∷◌, ◌++◌, length, Bool, true, false, ◌&&◌, ◌||◌, Option, refl, sym, ap, ap₂, subst, arith, append_assoc, not, cond}
 use Rattle.std.specs.Prelude.{◌==◌}
 use Rattle.std.proofs.lemmas.List.{append-nil}
 use Rattle.bfs_base.specs.Lists.{times, Has}
@@ -13,7 +13,8 @@ use Rattle.bfs_stream.specs.Grown.{Owns, Grown, IsOutside}
 use Rattle.bfs_stream.proofs.Doubles.{times-append}
 use Rattle.bfs_stream.proofs.Taking.{some_test}
 use Rattle.bfs_stream.proofs.Finish.{free_same, marked_same, fits_same, counted_same}
-use Rattle.bfs_stream_pages.specs.Moves.{Moved, KeepsInode}
+use Rattle.bfs_txn.specs.Told.{StaysChanged, with_number}
+use Rattle.bfs_stream_pages.specs.Moves.{ChangesFresh, Moved, KeepsInode}
 
 both_free : (b : Bool) (x y : ℕ) → (0 < x → 0 < y) → ((b && (x == 0)) && (y == 0)) ≡ (b && (y == 0))
 both_free false x y more = refl
@@ -154,6 +155,32 @@ module _ (o : Origin) (v now later : Room) (m mid map : ℕ → Option (List ℕ
     first = λ none. two.first none ∙ one.first (none_before 0 none);
     kept = keeps_inode_twice (contents m o.id) (contents mid o.id) (contents map o.id) one.kept two.kept;
   }
+
+-- where nothing is the stream's that wasn't, nothing is fresh
+pub fresh_none : (o : Origin) (m map : ℕ → Option (List ℕ)) (new : ℕ → Bool) → whole_at o.sizes (contents map) o.id ≡ whole_at o.sizes (contents m) o.id → ChangesFresh o m map new
+fresh_none o m map new same k has none = let some : 0 < times k (whole_at o.sizes (contents m) o.id) = subst (λ (l : List ℕ). Has l k) same has in absurd (omega (arith, some, none))
+
+-- what is fresh after both steps is fresh after one of them
+pub fresh_twice : (o : Origin) (m mid map : ℕ → Option (List ℕ)) (old new : ℕ → Bool) → ChangesFresh o m mid old → ChangesFresh o mid map new → StaysChanged old new → ChangesFresh o m map new
+fresh_twice o m mid map old new one two stays k has none = by_count (times k (whole_at o.sizes (contents mid) o.id)) refl
+  where
+    by_count : (n : ℕ) → times k (whole_at o.sizes (contents mid) o.id) ≡ n → new k ≡ true
+    by_count zero e = two k has e
+    by_count (suc n) e = stays k (one k (let h : 0 < times k (whole_at o.sizes (contents mid) o.id) = omega (arith, e) in h) none)
+
+-- what was changed stays so through two steps, where nothing changes, and where a block does
+pub stays_twice : (a b c : ℕ → Bool) → StaysChanged a b → StaysChanged b c → StaysChanged a c
+stays_twice a b c one two k is = two k (one k is)
+
+pub stays_same : (a b : ℕ → Bool) → b ≡ a → StaysChanged a b
+stays_same a b e k is = ap (λ (f : ℕ → Bool). f k) e ∙ is
+
+pub stays_set : (n : ℕ) (old new : ℕ → Bool) → ((k : ℕ) → new k ≡ with_number n old k) → StaysChanged old new
+stays_set n old new set k e = set k ∙ by_test (k == n)
+  where
+    by_test : (b : Bool) → (b || old k) ≡ true
+    by_test true = refl
+    by_test false = e
 
 -- the levels with another size
 abbrev pub with_size : Levels → ℤ → Levels

@@ -4,7 +4,7 @@ use Rattle.std.specs.List.{flat_map}
 use Rattle.bfs_base.specs.Lists.{times, Has}
 use Rattle.bfs_bitmap.specs.Runs.{Room}
 use Rattle.bfs_txn.specs.Pages.{with_page}
-use Rattle.bfs_txn.specs.Told.{with_block, with_number}
+use Rattle.bfs_txn.specs.Told.{StaysChanged, with_block, with_number}
 use Rattle.bfs_stream.specs.Sizes.{Origin}
 use Rattle.bfs_stream.specs.Places.{places_at, whole_at}
 use Rattle.bfs_stream.specs.Told.{contents, AreTold}
@@ -13,7 +13,7 @@ use Rattle.bfs_stream.specs.Grown.{AreWritten}
 use Rattle.bfs_stream.specs.declared.fault.GrowFault.{GrowFault}
 use Rattle.bfs_stream.specs.declared.fault.GrowFault.TheVariants as grow
 use Rattle.bfs_stream_pages.specs.Held.{Held, stream_of}
-use Rattle.bfs_stream_pages.specs.Moves.{Moved}
+use Rattle.bfs_stream_pages.specs.Moves.{ChangesFresh, Moved}
 
 -- a block could not be had, and none is damaged
 abbrev pub IsUndamaged : GrowFault → Type 0
@@ -25,20 +25,23 @@ IsUndamaged (grow.Block fault) = ¬ IsDamage fault
 abbrev pub all_of : Origin → (ℕ → Option (List ℕ)) → List ℕ
 all_of o m = flat_map (contents m) (places_at o.sizes (contents m) o.id)
 
--- what is told now: the stream is held, with so many bytes, and the volume has moved on
+-- what is told now: the stream is held, with so many bytes, and the volume has moved on; what was changed stays so, and fresh
+-- blocks are changed
 pub record Comes (o : Origin) (v now : Room) (long : ℕ) (m : ℕ → Option (List ℕ)) (told : Option (ℕ → Option (List ℕ))) (old new : ℕ → Bool) : Type 0 where
   pub map : ℕ → Option (List ℕ)
   pub is : told ≡ Some map
   pub held : Held o now long map
   pub moved : Moved o v now m map
   pub written : AreWritten v old new (whole_at o.sizes (contents map) o.id)
+  pub stays : StaysChanged old new
+  pub fresh : ChangesFresh o m map new
 
 -- the stream's block at a place has these bytes; or it has none there, and nothing has changed
 abbrev pub HasFilled : Origin → (ℕ → Option (List ℕ)) → ℕ → List ℕ → Option (ℕ → Option (List ℕ)) → (ℕ → Bool) → (ℕ → Bool) → Bool → Type 0
 HasFilled o m index bytes told old new true = (n : ℕ) × (slice_get (places_at o.sizes (contents m) o.id) index ≡ Some n) × (told ≡ Some (with_block n bytes m)) × ((k : ℕ) → new k ≡ with_number n old k)
 HasFilled o m index bytes told old new false = (length (places_at o.sizes (contents m) o.id) ≤ index) × (told ≡ Some m) × (new ≡ old)
 
--- The stream's blocks before a place are told now; what was written are blocks of it from an earlier place on.
+-- The stream's blocks before a place are told now; what was written are blocks of it, all those from an earlier place on.
 pub record IsToldTo (o : Origin) (m : ℕ → Option (List ℕ)) (index at : ℕ) (told : Option (ℕ → Option (List ℕ))) (old new : ℕ → Bool) : Type 0 where
   pub map : ℕ → Option (List ℕ)
   pub is : told ≡ Some map
@@ -46,6 +49,8 @@ pub record IsToldTo (o : Origin) (m : ℕ → Option (List ℕ)) (index at : ℕ
   pub same : (k : ℕ) → times k (drop index (places_at o.sizes (contents m) o.id)) ≡ 0 → map k ≡ m k
   pub kept : (k : ℕ) → IsSome (m k) → IsSome (map k)
   pub written : (k : ℕ) → new k ≡ true → (old k ≡ true) ⊎ Has (places_at o.sizes (contents m) o.id) k
+  pub stays : StaysChanged old new
+  pub set : (k : ℕ) → Has (take at (places_at o.sizes (contents m) o.id)) k → times k (take index (places_at o.sizes (contents m) o.id)) ≡ 0 → new k ≡ true
 
 -- all of the stream's blocks are told now
 abbrev pub IsToldWhole : Origin → (ℕ → Option (List ℕ)) → ℕ → Option (ℕ → Option (List ℕ)) → (ℕ → Bool) → (ℕ → Bool) → Type 0

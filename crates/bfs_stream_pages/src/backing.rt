@@ -8,6 +8,7 @@ ghost use Rattle.bfs_bitmap.specs.Fills.{IsBitmapBlock};
 ghost use Rattle.bfs_inode.specs.Inode.{stream_at};
 ghost use Rattle.bfs_txn.specs.Faults.{AreLater};
 ghost use Rattle.bfs_txn.specs.Pages.{page_at, with_page};
+ghost use Rattle.bfs_txn.specs.Told.{StaysChanged};
 ghost use Rattle.bfs_stream.specs.Sizes.{sizes_of, HasSizes};
 ghost use Rattle.bfs_stream.specs.Places.{places_at, whole_at};
 ghost use Rattle.bfs_stream.specs.Told.{contents, AreTold, Stands};
@@ -173,6 +174,7 @@ impl Backing {
         ensures same { self.new ≡ self.old }
         ensures rest { bitmap.new ≡ record bitmap.old { tally = bitmap.new.tally } }
         ensures changed { (k : ℕ) → E.changed edits.new k ≡ true → (E.changed edits.old k ≡ true) ⊎ (IsBitmapBlock bitmap.old k ⊎ (k < self.old.sizes.blocks)) }
+        ensures stays { StaysChanged (E.changed edits.old) (E.changed edits.new) }
         ensures size { E.size edits.new ≡ E.size edits.old }
         ensures frame { E.frame edits.new ≡ E.frame edits.old }
         ensures later { AreLater (E.counts edits.old) (E.counts edits.new) }
@@ -203,6 +205,7 @@ impl Backing {
         ensures sound { (m : ℕ → Option (List ℕ)) → E.told edits.old ≡ Some m → Stands self.old m → IfErr result IsUndamaged }
         ensures same { self.new ≡ self.old }
         ensures changed { (k : ℕ) → E.changed edits.new k ≡ true → (E.changed edits.old k ≡ true) ⊎ (k < self.old.sizes.blocks) }
+        ensures stays { StaysChanged (E.changed edits.old) (E.changed edits.new) }
         ensures size { E.size edits.new ≡ E.size edits.old }
         ensures frame { E.frame edits.new ≡ E.frame edits.old }
         ensures later { AreLater (E.counts edits.old) (E.counts edits.new) }
@@ -228,6 +231,7 @@ impl Backing {
         ensures sound { (m : ℕ → Option (List ℕ)) → E.told edits.old ≡ Some m → Stands self.old m → IsOnce (whole_at self.old.sizes (contents m) self.old.id) → AreTold m (take index (places_at self.old.sizes (contents m) self.old.id)) → IfErr result IsUndamaged }
         ensures same { self.new ≡ self.old }
         ensures changed { (k : ℕ) → E.changed edits.new k ≡ true → (E.changed edits.old k ≡ true) ⊎ (k < self.old.sizes.blocks) }
+        ensures stays { StaysChanged (E.changed edits.old) (E.changed edits.new) }
         ensures size { E.size edits.new ≡ E.size edits.old }
         ensures frame { E.frame edits.new ≡ E.frame edits.old }
         ensures later { AreLater (E.counts edits.old) (E.counts edits.new) }
@@ -265,9 +269,11 @@ impl Backing {
         ensures kept { OnErr result ((E.told edits.new ≡ E.told edits.old) × (E.changed edits.new ≡ E.changed edits.old)) }
         ensures same { self.new ≡ self.old }
         ensures changed { (k : ℕ) → E.changed edits.new k ≡ true → (E.changed edits.old k ≡ true) ⊎ (k < self.old.sizes.blocks) }
+        ensures stays { StaysChanged (E.changed edits.old) (E.changed edits.new) }
         ensures size { E.size edits.new ≡ E.size edits.old }
         ensures frame { E.frame edits.new ≡ E.frame edits.old }
         ensures later { AreLater (E.counts edits.old) (E.counts edits.new) }
+        ensures block { IfErr result IsOfBlock }
         ensures cause { IfErr result (IsGrowCause 1 (E.counts edits.old) (E.counts edits.new)) }
     {
         let number = match self.load(edits, index, block) {
@@ -297,6 +303,7 @@ impl Backing {
         ensures kept { OnErr result ((E.told edits.new ≡ E.told edits.old) × (E.changed edits.new ≡ E.changed edits.old)) }
         ensures same { self.new ≡ self.old }
         ensures changed { (k : ℕ) → E.changed edits.new k ≡ true → (E.changed edits.old k ≡ true) ⊎ (k < self.old.sizes.blocks) }
+        ensures stays { StaysChanged (E.changed edits.old) (E.changed edits.new) }
         ensures size { E.size edits.new ≡ E.size edits.old }
         ensures frame { E.frame edits.new ≡ E.frame edits.old }
         ensures later { AreLater (E.counts edits.old) (E.counts edits.new) }
@@ -334,6 +341,7 @@ impl Backing {
         ensures same { self.new ≡ self.old }
         ensures rest { bitmap.new ≡ record bitmap.old { tally = bitmap.new.tally } }
         ensures changed { (k : ℕ) → E.changed edits.new k ≡ true → (E.changed edits.old k ≡ true) ⊎ (IsBitmapBlock bitmap.old k ⊎ (k < self.old.sizes.blocks)) }
+        ensures stays { StaysChanged (E.changed edits.old) (E.changed edits.new) }
         ensures size { E.size edits.new ≡ E.size edits.old }
         ensures frame { E.frame edits.new ≡ E.frame edits.old }
         ensures later { AreLater (E.counts edits.old) (E.counts edits.new) }

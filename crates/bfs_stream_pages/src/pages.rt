@@ -1,5 +1,5 @@
 // The pages of one stream, over a volume that is lent.
-ghost use Rattle.std.specs.Prelude.{◌≡◌, ◌<◌, ◌%◌, ◌^◌, ℕ, List, Option, Some, IfSome, None, OnOk, IfErr, ◌+◌};
+ghost use Rattle.std.specs.Prelude.{◌≡◌, ◌<◌, ◌%◌, ◌^◌, ◌&&◌, ℕ, List, Option, Some, IfSome, None, OnOk, IfErr, ◌+◌, true, false, is_some};
 ghost use Rattle.bfs_super.specs.Conditions.{IsValid, natural};
 ghost use Rattle.bfs_txn.specs.Faults.{AreLater};
 ghost use Rattle.bfs_stream.specs.Sizes.{sizes_of};
@@ -17,24 +17,28 @@ use std::sync::ledger::Ledger;
 
 /// One stream of a volume as pages of 1,024 bytes, over the blocks and the bitmap of that volume. A page that is added behind
 /// the last block makes the stream grow. Where it can't be added, nothing is known of the stream any more, each later call
-/// answers the fault of that one again, and the caller gives up what was changed.
+/// answers the fault of that one again, and the caller gives up what was changed. Fixed pages are for a caller that adds none:
+/// none can be added to them, and each of their faults is of a block.
 pub struct StreamPages<'a, 'b, E: Edits> {
     edits: &'a mut E,
     bitmap: &'b mut Bitmap,
     backing: Backing,
     length: u64,
     failed: Option<GrowFault>,
+    fixed: bool,
     start: Snapshot<E>,
     last: Snapshot<u64>,
     ghost size: { E.size edits.now ≡ backing.sizes.block_size },
     ghost volume: { IsOfVolume backing.sizes bitmap.now },
     ghost whole: { length % 1024 ≡ 0 },
+    ghost unfailed: { (fixed && is_some failed) ≡ false },
     ghost tells: { Tells failed (E.told start.value) (E.told edits.now) },
     ghost held: { (m : ℕ → Option (List ℕ)) → known failed (E.told start.value) (E.told edits.now) ≡ Some m → ∥ Held backing bitmap.now length m ∥₁ },
 }
 
 impl<'a, 'b, E: Edits> StreamPages<'a, 'b, E> {
-    /// The pages of the stream of the inode at a block, which has so many bytes. Takes no memory.
+    /// The pages of the stream of the inode at a block, which has so many bytes; fixed ones, or ones that can be added to.
+    /// Takes no memory.
     pub fn over(
         alloc: Global,
         edits: &'a mut E,
@@ -42,6 +46,7 @@ impl<'a, 'b, E: Edits> StreamPages<'a, 'b, E> {
         inode: u64,
         sup: &Super,
         length: u64,
+        fixed: bool,
     ) -> StreamPages<'a, 'b, E>
         requires valid { IsValid sup.now }
         requires inside { inode < natural sup.now.num_blocks }
@@ -56,6 +61,7 @@ impl<'a, 'b, E: Edits> StreamPages<'a, 'b, E> {
         ensures backing { result.backing ≡ record { id = inode; sizes = sizes_of sup.now } }
         ensures length { result.length ≡ length }
         ensures failed { result.failed ≡ None }
+        ensures fixed { result.fixed ≡ fixed }
         ensures start { result.start.value ≡ edits.old }
     {
         let start = Snapshot::of(edits);
@@ -65,16 +71,20 @@ impl<'a, 'b, E: Edits> StreamPages<'a, 'b, E> {
             backing: Backing::at(alloc, inode, sup),
             length,
             failed: None,
+            fixed,
             start,
             last: Snapshot::of(&0),
         }
     }
 }
 
-// The length with a page more, where a signed number of 64 bits has it.
-fn longer(length: u64) -> Option<u64>
-    ensures { IfSome result (λ n. (n ≡ length + 1024) × (n < 2 ^ 63)) }
+// The length with a page more, where one can be added and a signed number of 64 bits has it.
+fn longer(length: u64, fixed: bool) -> Option<u64>
+    ensures { IfSome result (λ n. (n ≡ length + 1024) × (n < 2 ^ 63) × (fixed ≡ false)) }
 {
+    if fixed {
+        return None;
+    }
     if length < 0x7fff_ffff_ffff_f000 {
         Some(length + 1024)
     } else {
@@ -98,7 +108,7 @@ impl<E: Edits> Pages for StreamPages<'_, '_, E> {
     ghost use Rattle.std.specs.Option.{option_map};
     ghost use Rattle.bfs_stream_pages.specs.Held.{known, stream_of};
     ghost use Rattle.bfs_stream_pages.specs.Goes.{GoesOn, IsRead};
-    ghost use Rattle.bfs_stream_pages.specs.Causes.{IsPageCause};
+    ghost use Rattle.bfs_stream_pages.specs.Causes.{IsPageCause, IsOfBlock};
     ghost use Rattle.std.proofs.Common.{◌∙◌, subst, ap};
     ghost use Rattle.bfs_stream.specs.Sizes.{Origin};
     ghost use Rattle.bfs_stream_pages.specs.GoesLaws.{goes_same, goes_twice, cause_before, told_sized, known_sized, read_same, read_twice, read_goes};
@@ -115,23 +125,23 @@ impl<E: Edits> Pages for StreamPages<'_, '_, E> {
 
     ghost last = { λ p. p.last.value };
 
-    ghost goes_on = { λ p q. (q.backing ≡ p.backing) × (E.frame q.edits.now ≡ E.frame p.edits.now) × GoesOn p.backing p.bitmap.now q.bitmap.now p.length q.length (known p.failed (E.told p.start.value) (E.told p.edits.now)) (known q.failed (E.told q.start.value) (E.told q.edits.now)) p.failed q.failed (E.changed p.edits.now) (E.changed q.edits.now) (E.counts p.edits.now) (E.counts q.edits.now) };
+    ghost goes_on = { λ p q. (q.backing ≡ p.backing) × (E.frame q.edits.now ≡ E.frame p.edits.now) × GoesOn p.backing p.bitmap.now q.bitmap.now p.length q.length (known p.failed (E.told p.start.value) (E.told p.edits.now)) (known q.failed (E.told q.start.value) (E.told q.edits.now)) p.failed q.failed (E.changed p.edits.now) (E.changed q.edits.now) (E.counts p.edits.now) (E.counts q.edits.now) × (q.fixed ≡ p.fixed) };
 
-    ghost is_read = { λ p q. (q.backing ≡ p.backing) × (q.start.value ≡ p.start.value) × (E.frame q.edits.now ≡ E.frame p.edits.now) × (q.edits.ghost_name ≡ p.edits.ghost_name) × (q.bitmap.ghost_name ≡ p.bitmap.ghost_name) × IsRead p.bitmap.now q.bitmap.now p.length q.length (E.told p.edits.now) (E.told q.edits.now) p.failed q.failed (E.changed p.edits.now) (E.changed q.edits.now) (E.pairs p.edits.now) (E.pairs q.edits.now) (E.counts p.edits.now) (E.counts q.edits.now) };
+    ghost is_read = { λ p q. (q.backing ≡ p.backing) × (q.start.value ≡ p.start.value) × (E.frame q.edits.now ≡ E.frame p.edits.now) × (q.edits.ghost_name ≡ p.edits.ghost_name) × (q.bitmap.ghost_name ≡ p.bitmap.ghost_name) × IsRead p.bitmap.now q.bitmap.now p.length q.length (E.told p.edits.now) (E.told q.edits.now) p.failed q.failed (E.changed p.edits.now) (E.changed q.edits.now) (E.pairs p.edits.now) (E.pairs q.edits.now) (E.counts p.edits.now) (E.counts q.edits.now) × (q.fixed ≡ p.fixed) };
 
-    ghost is_cause = { λ p q fault. IsPageCause p.backing p.bitmap.now p.length (known p.failed (E.told p.start.value) (E.told p.edits.now)) p.failed (E.counts p.edits.now) (E.counts q.edits.now) fault };
+    ghost is_cause = { λ p q fault. IsPageCause p.backing p.bitmap.now p.length (known p.failed (E.told p.start.value) (E.told p.edits.now)) p.failed (E.counts p.edits.now) (E.counts q.edits.now) fault × (p.fixed ≡ true → IsOfBlock fault) };
 
-    ghost goes_on_same = { λ p. (refl, refl, goes_same p.backing p.bitmap.now p.length (known p.failed (E.told p.start.value) (E.told p.edits.now)) p.failed (E.changed p.edits.now) (E.counts p.edits.now)) };
+    ghost goes_on_same = { λ p. (refl, refl, goes_same p.backing p.bitmap.now p.length (known p.failed (E.told p.start.value) (E.told p.edits.now)) p.failed (E.changed p.edits.now) (E.counts p.edits.now), refl) };
 
-    ghost goes_on_twice = { λ p q r a b. (b.0 ∙ a.0, b.1 ∙ a.1, goes_twice p.backing p.bitmap.now q.bitmap.now r.bitmap.now p.length q.length r.length (known p.failed (E.told p.start.value) (E.told p.edits.now)) (known q.failed (E.told q.start.value) (E.told q.edits.now)) (known r.failed (E.told r.start.value) (E.told r.edits.now)) p.failed q.failed r.failed (E.changed p.edits.now) (E.changed q.edits.now) (E.changed r.edits.now) (E.counts p.edits.now) (E.counts q.edits.now) (E.counts r.edits.now) a.2 (subst (λ (o : Origin). GoesOn o q.bitmap.now r.bitmap.now q.length r.length (known q.failed (E.told q.start.value) (E.told q.edits.now)) (known r.failed (E.told r.start.value) (E.told r.edits.now)) q.failed r.failed (E.changed q.edits.now) (E.changed r.edits.now) (E.counts q.edits.now) (E.counts r.edits.now)) a.0 b.2)) };
+    ghost goes_on_twice = { λ p q r a b. (b.0 ∙ a.0, b.1 ∙ a.1, goes_twice p.backing p.bitmap.now q.bitmap.now r.bitmap.now p.length q.length r.length (known p.failed (E.told p.start.value) (E.told p.edits.now)) (known q.failed (E.told q.start.value) (E.told q.edits.now)) (known r.failed (E.told r.start.value) (E.told r.edits.now)) p.failed q.failed r.failed (E.changed p.edits.now) (E.changed q.edits.now) (E.changed r.edits.now) (E.counts p.edits.now) (E.counts q.edits.now) (E.counts r.edits.now) a.2 (subst (λ (o : Origin). GoesOn o q.bitmap.now r.bitmap.now q.length r.length (known q.failed (E.told q.start.value) (E.told q.edits.now)) (known r.failed (E.told r.start.value) (E.told r.edits.now)) q.failed r.failed (E.changed q.edits.now) (E.changed r.edits.now) (E.counts q.edits.now) (E.counts r.edits.now)) a.0 b.2), b.3 ∙ a.3) };
 
-    ghost is_read_same = { λ p. (refl, refl, refl, refl, refl, read_same p.bitmap.now p.length (E.told p.edits.now) p.failed (E.changed p.edits.now) (E.pairs p.edits.now) (E.counts p.edits.now)) };
+    ghost is_read_same = { λ p. (refl, refl, refl, refl, refl, read_same p.bitmap.now p.length (E.told p.edits.now) p.failed (E.changed p.edits.now) (E.pairs p.edits.now) (E.counts p.edits.now), refl) };
 
-    ghost is_read_twice = { λ p q r a b. (b.0 ∙ a.0, b.1 ∙ a.1, b.2 ∙ a.2, b.3 ∙ a.3, b.4 ∙ a.4, read_twice p.bitmap.now q.bitmap.now r.bitmap.now p.length q.length r.length (E.told p.edits.now) (E.told q.edits.now) (E.told r.edits.now) p.failed q.failed r.failed (E.changed p.edits.now) (E.changed q.edits.now) (E.changed r.edits.now) (E.pairs p.edits.now) (E.pairs q.edits.now) (E.pairs r.edits.now) (E.counts p.edits.now) (E.counts q.edits.now) (E.counts r.edits.now) a.5 b.5) };
+    ghost is_read_twice = { λ p q r a b. (b.0 ∙ a.0, b.1 ∙ a.1, b.2 ∙ a.2, b.3 ∙ a.3, b.4 ∙ a.4, read_twice p.bitmap.now q.bitmap.now r.bitmap.now p.length q.length r.length (E.told p.edits.now) (E.told q.edits.now) (E.told r.edits.now) p.failed q.failed r.failed (E.changed p.edits.now) (E.changed q.edits.now) (E.changed r.edits.now) (E.pairs p.edits.now) (E.pairs q.edits.now) (E.pairs r.edits.now) (E.counts p.edits.now) (E.counts q.edits.now) (E.counts r.edits.now) a.5 b.5, b.6 ∙ a.6) };
 
-    ghost is_read_on = { λ p q a. (a.0, a.2, read_goes p.backing p.bitmap.now q.bitmap.now p.length q.length (E.told p.start.value) (E.told q.start.value) (E.told p.edits.now) (E.told q.edits.now) p.failed q.failed (E.changed p.edits.now) (E.changed q.edits.now) (E.pairs p.edits.now) (E.pairs q.edits.now) (E.counts p.edits.now) (E.counts q.edits.now) (ap (λ (e : E). E.told e) a.1) a.5) };
+    ghost is_read_on = { λ p q a. (a.0, a.2, read_goes p.backing p.bitmap.now q.bitmap.now p.length q.length (E.told p.start.value) (E.told q.start.value) (E.told p.edits.now) (E.told q.edits.now) p.failed q.failed (E.changed p.edits.now) (E.changed q.edits.now) (E.pairs p.edits.now) (E.pairs q.edits.now) (E.counts p.edits.now) (E.counts q.edits.now) (ap (λ (e : E). E.told e) a.1) a.5, a.6) };
 
-    ghost is_cause_before = { λ p q r fault a b. cause_before p.backing p.bitmap.now q.bitmap.now p.length q.length (known p.failed (E.told p.start.value) (E.told p.edits.now)) (known q.failed (E.told q.start.value) (E.told q.edits.now)) p.failed q.failed (E.changed p.edits.now) (E.changed q.edits.now) (E.counts p.edits.now) (E.counts q.edits.now) (E.counts r.edits.now) fault a.2 (subst (λ (o : Origin). IsPageCause o q.bitmap.now q.length (known q.failed (E.told q.start.value) (E.told q.edits.now)) q.failed (E.counts q.edits.now) (E.counts r.edits.now) fault) a.0 b) };
+    ghost is_cause_before = { λ p q r fault a b. (cause_before p.backing p.bitmap.now q.bitmap.now p.length q.length (known p.failed (E.told p.start.value) (E.told p.edits.now)) (known q.failed (E.told q.start.value) (E.told q.edits.now)) p.failed q.failed (E.changed p.edits.now) (E.changed q.edits.now) (E.counts p.edits.now) (E.counts q.edits.now) (E.counts r.edits.now) fault a.2 (subst (λ (o : Origin). IsPageCause o q.bitmap.now q.length (known q.failed (E.told q.start.value) (E.told q.edits.now)) q.failed (E.counts q.edits.now) (E.counts r.edits.now) fault) a.0 b.0), λ is. b.1 (a.3 ∙ is)) };
 
     ghost sized = { λ p. told_sized p.backing p.bitmap.now p.length (known p.failed (E.told p.start.value) (E.told p.edits.now)) p.held (known_sized p.failed (E.told p.start.value) p.backing.sizes.block_size (E.size p.edits.now) (E.told p.edits.now) p.size (E.sized p.edits.now)) };
 
@@ -194,7 +204,7 @@ impl<E: Edits> Pages for StreamPages<'_, '_, E> {
             Err(fault) => return Err(fault),
         }
         let at = self.length;
-        let Some(end) = longer(at) else {
+        let Some(end) = longer(at, self.fixed) else {
             return Err(GrowFault::Block(BlockFault::NoMemory));
         };
         let mut block = match self.backing.buffer() {
@@ -227,6 +237,7 @@ impl<E: Edits> Drop for StreamPages<'_, '_, E> {
             backing: _,
             length: _,
             failed: _,
+            fixed: _,
             start: _,
             last: _,
         } = self;

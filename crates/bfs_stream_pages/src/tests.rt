@@ -96,7 +96,7 @@ fn volume(alloc: Global, size: u32, used: usize) -> Result<Silent, AllocError>
     })
 }
 
-/// Adds a page of one byte behind so many bytes of a stream.
+/// Adds a page of one byte behind so many bytes of a stream, by pages that are fixed or not.
 fn added<E: Edits>(
     alloc: Global,
     edits: &mut E,
@@ -104,6 +104,7 @@ fn added<E: Edits>(
     sup: &Super,
     inode: u64,
     length: u64,
+    fixed: bool,
     fill: u8,
 ) -> Result<u64, GrowFault>
     requires valid { IsValid sup.now }
@@ -115,7 +116,7 @@ fn added<E: Edits>(
     ensures size { E.size edits.new ≡ E.size edits.old }
     ensures rest { bitmap.new ≡ record bitmap.old { tally = bitmap.new.tally } }
 {
-    let mut pages = StreamPages::over(alloc, edits, bitmap, inode, sup, length);
+    let mut pages = StreamPages::over(alloc, edits, bitmap, inode, sup, length, fixed);
     pages.append(&[fill; 1024])
 }
 
@@ -141,7 +142,7 @@ fn written<E: Edits>(
     ensures size { E.size edits.new ≡ E.size edits.old }
     ensures rest { bitmap.new ≡ record bitmap.old { tally = bitmap.new.tally } }
 {
-    let mut pages = StreamPages::over(alloc, edits, bitmap, inode, sup, length);
+    let mut pages = StreamPages::over(alloc, edits, bitmap, inode, sup, length, false);
     pages.set(at, &[fill; 1024])
 }
 
@@ -172,7 +173,7 @@ fn read<E: Edits, L: Ledger>(
 {
     let mut steps = Steps::<L>::begin(ledger);
     let mut into = [0u8; 1024];
-    let mut pages = StreamPages::over(alloc, edits, bitmap, inode, sup, length);
+    let mut pages = StreamPages::over(alloc, edits, bitmap, inode, sup, length, false);
     match pages.get(at, &mut into, &mut steps) {
         Ok(()) => Ok(into),
         Err(fault) => Err(fault),
@@ -232,11 +233,11 @@ fn add_by_turns(
 {
     for i in 0..count {
         let length = 1024 * u64::from(i);
-        match added(alloc, edits, bitmap, sup, 4, length, i) {
+        match added(alloc, edits, bitmap, sup, 4, length, false, i) {
             Ok(_) => {}
             Err(fault) => return Err(fault),
         }
-        match added(alloc, edits, bitmap, sup, 5, length, 255 - i) {
+        match added(alloc, edits, bitmap, sup, 5, length, false, 255 - i) {
             Ok(_) => {}
             Err(fault) => return Err(fault),
         }
@@ -338,12 +339,13 @@ fn pages_are_read_back_for_each_size_of_blocks(rt: HostRuntime) -> Result<(), Fa
     Ok(())
 }
 
-/// Adds a page to a stream on a volume with so many bytes of its bitmap set.
+/// Adds a page to a stream on a volume with so many bytes of its bitmap set, by pages that are fixed or not.
 fn added_on(
     alloc: Global,
     size: u32,
     shift: u32,
     used: usize,
+    fixed: bool,
 ) -> Result<Result<u64, GrowFault>, Fail>
     requires small { size ≤ 8192 }
     requires low { shift ≤ 13 }
@@ -360,7 +362,7 @@ fn added_on(
     let mut open = Changed::new(alloc);
     let mut bitmap = Bitmap::of(alloc, &sup);
     let mut edits = Overlay::begin(&mut open, &mut under);
-    let result = added(alloc, &mut edits, &mut bitmap, &sup, 4, 0, 7);
+    let result = added(alloc, &mut edits, &mut bitmap, &sup, 4, 0, fixed, 7);
     edits.drop_call();
     Ok(result)
 }
@@ -369,10 +371,26 @@ fn added_on(
 fn no_page_is_added_on_a_full_volume(rt: HostRuntime) -> Result<(), Fail> {
     let alloc = rt.alloc();
     for (size, shift) in [(1024u32, 10u32), (2048, 11), (4096, 12), (8192, 13)] {
-        let full = added_on(alloc, size, shift, 2 * size as usize + 512)?;
+        let full = added_on(alloc, size, shift, 2 * size as usize + 512, false)?;
         assert_eq!(rt; full, Err(GrowFault::NoRun { wanted: 1, free: 0 }));
-        let room = added_on(alloc, size, shift, 2 * size as usize + 511)?;
+        let room = added_on(alloc, size, shift, 2 * size as usize + 511, false)?;
         assert_eq!(rt; room, Ok(0));
+    }
+    Ok(())
+}
+
+#[test]
+fn no_page_is_added_to_fixed_pages(rt: HostRuntime) -> Result<(), Fail> {
+    let alloc = rt.alloc();
+    for (size, shift) in [(1024u32, 10u32), (2048, 11), (4096, 12), (8192, 13)] {
+        let empty = added_on(alloc, size, shift, 0, true)?;
+        assert_eq!(rt;
+            empty,
+            Err(GrowFault::Block(BlockFault::NoMemory)),
+            "{size}"
+        );
+        let full = added_on(alloc, size, shift, 2 * size as usize + 512, true)?;
+        assert_eq!(rt; full, Err(GrowFault::Block(BlockFault::NoMemory)), "{size}");
     }
     Ok(())
 }
@@ -420,7 +438,7 @@ fn is_fresh(alloc: Global, size: u32, shift: u32) -> Result<bool, Fail>
     let mut open = Changed::new(alloc);
     let mut bitmap = Bitmap::of(alloc, &sup);
     let mut edits = Overlay::begin(&mut open, &mut under);
-    let place = added(alloc, &mut edits, &mut bitmap, &sup, 4, 0, 7);
+    let place = added(alloc, &mut edits, &mut bitmap, &sup, 4, 0, false, 7);
     let read = edits.get(8, &mut block);
     edits.drop_call();
     Ok(place == Ok(0) && read == Ok(()) && is_page_of_sevens(&block))

@@ -1,8 +1,9 @@
--- What an `impl Blocks` shows of the trait's law: what is told of a block has a block's length.
-use Rattle.std.proofs.Common.{◌≡◌, ◌≤◌, ◌+◌, ◌*◌, ℕ, zero, suc, List, [], ◌∷◌, length, take, drop, Option, Some, None, IfSome, Bool, true, false, cond, refl, arith, ◌==◌, nat_le, length-drop, length-take-le}
+-- What an `impl Blocks` shows of the traits' laws: what is told of a block has a block's length, and changes tell where
+-- what lies below does.
+use Rattle.std.proofs.Common.{◌≡◌, ◌≤◌, ◌+◌, ◌*◌, ℕ, zero, suc, List, [], ◌∷◌, length, take, drop, Option, Some, None, IfSome, Bool, true, false, cond, is_some, refl, arith, ◌==◌, nat_le, length-drop, length-take-le}
 use Rattle.std.specs.Option.{option_map}
 use Rattle.bfs_txn.specs.Changed.{newest, over, or_else, AreOfSize, AreLayered}
-use Rattle.bfs_txn.specs.Told.{AreSized, blocks_of}
+use Rattle.bfs_txn.specs.Told.{AreSized, TellsOver, blocks_of}
 
 -- what is newest is some pair's bytes
 pub newest_sized : (size : ℕ) (ps : List (ℕ × List ℕ)) (k : ℕ) → AreOfSize size ps → IfSome (newest ps k) (λ bytes. length bytes ≡ size)
@@ -31,3 +32,7 @@ memory_sized size bytes k = by_test (nat_le (size * k + size) (length bytes)) (�
     by_test : (t : Bool) → (t ≡ true → size * k + size ≤ length bytes) → IfSome (cond t (Some (take size (drop (size * k) bytes))) None) (λ b. length b ≡ size)
     by_test true h = let le : size * k + size ≤ length bytes = h refl in length-take-le size (drop (size * k) bytes) (omega (arith, length-drop (size * k) bytes))
     by_test false h = tt
+
+pub over_tells : (ps : List (ℕ × List ℕ)) (told : Option (ℕ → Option (List ℕ))) → TellsOver (option_map (over ps) told) told
+over_tells ps None = refl
+over_tells ps (Some m) = refl

@@ -1,5 +1,5 @@
 -- What is told of a volume's blocks: a map from numbers to bytes. A block that is not in the map may have any bytes.
-use Rattle.std.specs.Prelude.{◌≡◌, ℕ, ◌+◌, ◌*◌, List, take, drop, length, replicate, Bool, ◌||◌, ◌==◌, nat_le, Option, Some, None, IfSome, unwrap_or, if◌then◌else◌}
+use Rattle.std.specs.Prelude.{◌≡◌, ℕ, ◌+◌, ◌*◌, List, take, drop, length, replicate, Bool, true, ◌||◌, ◌==◌, nat_le, Option, Some, None, IfSome, is_some, unwrap_or, if◌then◌else◌}
 use Rattle.std.specs.Option.{option_map}
 use Rattle.bfs_txn.specs.Changed.{newest}
 
@@ -40,6 +40,10 @@ read_over (Some k) pairs below = option_map (λ bytes. (k, bytes)) (newest pairs
 abbrev pub with_number : ℕ → (ℕ → Bool) → ℕ → Bool
 with_number block changed k = (k == block) || changed k
 
+-- what was changed stays changed
+abbrev pub StaysChanged : (ℕ → Bool) → (ℕ → Bool) → Type 0
+StaysChanged old new = (k : ℕ) → old k ≡ true → new k ≡ true
+
 -- What no call of an `Edits` changes: the names of the references that it holds, the pairs that stand
 -- once the call is given up, what is told below it, and what its owner notes.
 pub record Frame (N : Type 0) : Type 0 where
@@ -47,3 +51,7 @@ pub record Frame (N : Type 0) : Type 0 where
   pub names : List ℕ
   pub kept : List (ℕ × List ℕ)
   pub below : Option (ℕ → Option (List ℕ))
+
+-- something is told just where something is told below
+abbrev pub TellsOver : Option (ℕ → Option (List ℕ)) → Option (ℕ → Option (List ℕ)) → Type 0
+TellsOver told below = is_some told ≡ is_some below

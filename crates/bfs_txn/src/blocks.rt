@@ -1,7 +1,7 @@
 // A volume's blocks, to be read and changed.
 ghost use Rattle.std.specs.Prelude.{◌≡◌, ◌≤◌, ◌+◌, ℕ, Bool, List, Option, Some, OnOk, OnErr, length};
 ghost use Rattle.std.specs.Option.{option_map};
-ghost use Rattle.bfs_txn.specs.Told.{AreOfBlock, AreSized, Frame, with_block, with_number};
+ghost use Rattle.bfs_txn.specs.Told.{AreOfBlock, AreSized, Frame, TellsOver, with_block, with_number};
 ghost use Rattle.bfs_txn.specs.Faults.{Counts, IsCaused};
 
 use crate::BlockFault;
@@ -63,4 +63,8 @@ pub trait Edits: Blocks {
         ensures size { Self.size self.new ≡ Self.size self.old }
         ensures frame { Self.frame self.new ≡ Self.frame self.old }
         ensures counts { Self.counts self.new ≡ Self.counts self.old };
+
+    /// Blocks are told just where they are told of what lies below, which the frame keeps: what was told nothing of
+    /// stays so.
+    ghost tells: { (b : Self) → TellsOver (Self.told b) (Self.frame b).below };
 }

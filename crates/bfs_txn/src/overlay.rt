@@ -54,6 +54,10 @@ impl<B: Blocks> Blocks for Overlay<'_, B> {
 }
 
 impl<B: Blocks> Edits for Overlay<'_, B> {
+    ghost use Rattle.bfs_txn.specs.Laws.{over_tells};
+
+    ghost tells = { λ o. over_tells o.group.now (B.told o.under.now) };
+
     fn set(&mut self, block: u64, from: &[u8]) -> Result<(), AllocError> {
         self.group.put_above(self.mark, block, from)
     }

@@ -3,14 +3,14 @@ use Rattle.std.specs.Prelude.{IfErr, MatchResult}
 use Rattle.bfs_stream.specs.Sizes.{Origin}
 use Rattle.bfs_stream_pages.specs.Held.{stream_of}
 use Rattle.bfs_maps.specs.Mapped.{rows_of}
-use Rattle.bfs_maps.specs.NumberTrees.{IsNumberTree, IsNumberAt}
+use Rattle.bfs_maps.specs.NumberTrees.{HoldsNumber, IsNumberAt}
 use Rattle.bfs_maps.specs.Refused.{IsNumberPage, IsReadFault, IsUndone}
 use Rattle.bfs_maps.proofs.reading.number_with.Goals as goal
 
 pub returns-clause-found : goal.returns-clause-found
 returns-clause-found g c m told tree =
     let here = ap g.B.Blocks.told c.over-pages.ensures.under_now ∙ told in
-    let same = subst (λ (x : Origin). IsNumberTree c.args.tree.kind (stream_of x m)) (sym c.over-pages.ensures.backing) tree in
+    let same = subst (λ (x : Origin). HoldsNumber c.args.tree.kind c.args.key.now (stream_of x m)) (sym c.over-pages.ensures.backing) tree in
     subst (λ (x : Origin). MatchResult c.number_over.result (IsNumberAt c.args.tree.kind (rows_of c.args.tree.kind x m) c.args.key.now) IsUndone) c.over-pages.ensures.backing (c.number_over.ensures.found m here same)
 
 pub returns-clause-refused : goal.returns-clause-refused

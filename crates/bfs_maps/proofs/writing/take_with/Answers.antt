@@ -1,12 +1,11 @@
 use Rattle.std.proofs.Common.{rules, ◌≡◌, ◌∙◌, pos, Some, ap, subst}
 use Rattle.std.specs.Prelude.{IfOk, IfErr}
-use Rattle.bfs_bitmap.specs.Runs.{Room}
 use Rattle.bfs_pages.specs.Maps.{assoc, without}
 use Rattle.bfs_stream.specs.Sizes.{Origin}
 use Rattle.bfs_maps.specs.Mapped.{origin_of, rows_of}
 use Rattle.bfs_maps.specs.NumberTrees.{IsTreeOf}
 use Rattle.bfs_maps.specs.Refused.{IsTakeFault}
-use Rattle.bfs_maps.proofs.Over.{held_named, tree_named, now_named, on_ok, change_named}
+use Rattle.bfs_maps.proofs.Over.{held_named, tree_named, now_named, on_ok, taking_named}
 use Rattle.bfs_maps.specs.Refused.{IsNumberPage}
 use Rattle.bfs_maps.proofs.writing.take_with.Goals as goal
 
@@ -40,7 +39,7 @@ returns-clause-refused g c m told held tree =
     let here = ap g.E.Blocks.told c.over-pages.ensures.edits_now ∙ told in
     let held_p = held_named o p.backing v p.bitmap.now c.args.length p.length m c.over-pages.ensures.backing c.over-pages.ensures.bitmap_now c.over-pages.ensures.length held in
     let tree_p = tree_named c.args.tree.kind o p.backing m c.over-pages.ensures.backing tree in
-    subst (λ (x : Origin × Room). IfErr c.take_over.result (IsTakeFault c.args.tree.kind x.0 x.1 m (rows_of c.args.tree.kind x.0 m) c.args.key.now)) (λ i. (c.over-pages.ensures.backing i, c.over-pages.ensures.bitmap_now i)) (c.take_over.ensures.refused m here held_p tree_p)
+    subst (λ (x : Origin). IfErr c.take_over.result (IsTakeFault c.args.tree.kind (rows_of c.args.tree.kind x m) c.args.key.now)) c.over-pages.ensures.backing (c.take_over.ensures.refused m here held_p tree_p)
 
 pub returns-clause-blamed : goal.returns-clause-blamed
 returns-clause-blamed g c m told held =
@@ -49,4 +48,4 @@ returns-clause-blamed g c m told held =
     let v = c.args.bitmap.now in
     let here = ap g.E.Blocks.told c.over-pages.ensures.edits_now ∙ told in
     let held_p = held_named o p.backing v p.bitmap.now c.args.length p.length m c.over-pages.ensures.backing c.over-pages.ensures.bitmap_now c.over-pages.ensures.length held in
-    change_named (IsNumberPage c.args.tree.kind) m o p.backing v p.bitmap.now _ (g.E.Blocks.told c.take_over.new.pages.edits.now) c.take_over.result c.over-pages.ensures.backing c.over-pages.ensures.bitmap_now (search rules) (c.take_over.ensures.blamed m here held_p)
+    taking_named (IsNumberPage c.args.tree.kind) m o p.backing _ (g.E.Blocks.told c.take_over.new.pages.edits.now) c.take_over.result c.over-pages.ensures.backing (search rules) (c.take_over.ensures.blamed m here held_p)

@@ -1,11 +1,11 @@
-use Rattle.std.proofs.Common.{inl, ◌≡◌, ◌∙◌, ℕ, refl, sym, subst}
+use Rattle.std.proofs.Common.{◌≡◌, ◌∙◌, ℕ, refl, sym, subst}
 use Rattle.bfs_pages.specs.Maps.{without}
 use Rattle.bfs_stream.specs.Sizes.{Origin}
 use Rattle.bfs_stream_pages.specs.Held.{Held}
 use Rattle.bfs_stream_pages.specs.GoesLaws.{sized_of, readable}
 use Rattle.bfs_maps.specs.Mapped.{origin_of, rows_of}
 use Rattle.bfs_rows.specs.RowTrees.{IsRowTree}
-use Rattle.bfs_maps.proofs.Sized.{held_here, same_size, unsized_whole, unmoved}
+use Rattle.bfs_maps.proofs.Sized.{held_here, same_size, unsized_whole}
 use Rattle.bfs_maps.proofs.Over.{now_named, on_ok}
 use Rattle.bfs_rows.proofs.writing.take_row.Goals as goal
 
@@ -15,9 +15,8 @@ returns-in-Err-clause-refused g c m told d =
     let v = c.args.bitmap.now in
     let h = d.held in
     let r = readable o v h.0 m h.1 in
-    unmoved o v h.0 m c.in-Err.fault h.1
-    (unsized_whole o h.0 m c.in-Err.fault r (sized_of o.sizes.block_size (g.E.Blocks.size c.args.edits.now) (g.E.Blocks.told c.args.edits.now) m c.requires.size told (g.met.E.Blocks.sized c.args.edits.now)) d.tree.tree.whole
-    (c.in-Err.ensures.refused m told (held_here o v h.0 m h.1)))
+    unsized_whole o h.0 m c.in-Err.fault r (sized_of o.sizes.block_size (g.E.Blocks.size c.args.edits.now) (g.E.Blocks.told c.args.edits.now) m c.requires.size told (g.met.E.Blocks.sized c.args.edits.now)) d.tree.tree.whole
+    (c.in-Err.ensures.refused m told (held_here o v h.0 m h.1))
 
 pub take_with-requires-clause-held : goal.take_with-requires-clause-held
 take_with-requires-clause-held g c m told =
@@ -64,7 +63,7 @@ pub returns-in-Err-clause-blamed : goal.returns-in-Err-clause-blamed
 returns-in-Err-clause-blamed g c m told =
     let o : Origin = origin_of c.args.tree in
     let h = c.requires.stream m told in
-    inl (c.in-Err.ensures.refused m told (held_here o c.args.bitmap.now h.0 m h.1))
+    c.in-Err.ensures.refused m told (held_here o c.args.bitmap.now h.0 m h.1)
 
 pub returns-clause-blamed : goal.returns-clause-blamed
 returns-clause-blamed g c m told =

@@ -16,6 +16,7 @@ loop-at-init g c = (
   record { faults = omega arith; stops = refl; stop = refl },
   λ k t. inl t,
   λ m is has. (m, is, marks_none c.args.self.now m c.args.first (cond c.args.used 1 0) (c.args.first - c.args.first) (omega arith) has),
+  λ k t. t,
 )
 
 pub loop-at-preserved : goal.loop-at-preserved
@@ -40,4 +41,11 @@ loop-at-preserved g c =
           (c.loop-at.at - c.loop-at.at % c.per_block-bits.result + c.min-to.result - c.args.first) (cond c.args.used 1 0) (omega arith) (omega arith) (c.loop-at.invariant.7 m is has)
           (λ l e h.
           subst (λ (n : ℕ). IsTold (Marks c.args.self.now n (c.min-to.result - c.loop-at.at % c.per_block-bits.result) (cond c.args.used 1 0) l) (g.E.Blocks.told c.fill_part.new.edits)) place (c.in-Ok.ensures.marks l e h)),
+      λ k t. c.in-Ok.ensures.stays k (c.loop-at.invariant.8 k t),
     )
+
+pub returns-in-Err-clause-stays : goal.returns-in-Err-clause-stays
+returns-in-Err-clause-stays g c = λ k t. c.in-Err.ensures.stays k (c.loop-at.invariant.8 k t)
+
+pub returns-clause-stays : goal.returns-clause-stays
+returns-clause-stays g c = c.loop-at.invariant.8

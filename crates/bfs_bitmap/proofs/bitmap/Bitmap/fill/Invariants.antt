@@ -2,6 +2,7 @@ use Rattle.std.proofs.Common.{◌≡◌, ◌≤◌, ◌-◌, ℕ, List, Option, 
 use Rattle.bfs_bitmap.specs.Runs.{HasBitmap, Marks}
 use Rattle.bfs_bitmap.specs.Fills.{IsTold, HasBitOf}
 use Rattle.bfs_txn.specs.Faults.{AreLater}
+use Rattle.bfs_txn.specs.Told.{StaysChanged}
 use Rattle.bfs_bitmap.proofs.bitmap.Bitmap.fill.Given as goal
 
 abbrev pub invariant-loop-at : goal.invariant-loop-at
@@ -10,6 +11,7 @@ invariant-loop-at g l = (l.first ≤ l.at) × (l.at ≤ l.end) × (length l.byte
     × AreLater (g.E.Blocks.counts l.fn.edits) (g.E.Blocks.counts l.edits)
     × ((k : ℕ) → g.E.Blocks.changed l.edits k ≡ true → (g.E.Blocks.changed l.fn.edits k ≡ true) ⊎ HasBitOf l.self l.first l.len k)
     × ((m : ℕ → Option (List ℕ)) → g.E.Blocks.told l.fn.edits ≡ Some m → HasBitmap l.self m → IsTold (Marks l.self l.first (l.at - l.first) (cond l.used 1 0) m) (g.E.Blocks.told l.edits))
+    × StaysChanged (g.E.Blocks.changed l.fn.edits) (g.E.Blocks.changed l.edits)
 
 abbrev pub decreases-loop-at : goal.decreases-loop-at
 decreases-loop-at g l = l.end - l.at

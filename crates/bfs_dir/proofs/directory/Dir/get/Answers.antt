@@ -4,7 +4,7 @@ use Rattle.bfs_base.specs.declared.kind.KeyKind.TheVariants.{Text}
 use Rattle.bfs_stream.specs.Sizes.{Origin}
 use Rattle.bfs_stream_pages.specs.Held.{stream_of}
 use Rattle.bfs_maps.specs.Mapped.{rows_of, HasReadable}
-use Rattle.bfs_maps.specs.NumberTrees.{IsNumberTree, IsNumberAt}
+use Rattle.bfs_maps.specs.NumberTrees.{HoldsNumber, IsNumberAt}
 use Rattle.bfs_maps.specs.Refused.{IsNumberPage, IsReadFault, IsUndone}
 use Rattle.bfs_dir.proofs.directory.Dir.get.Goals as goal
 
@@ -14,7 +14,7 @@ number_at-requires-clause-stream g c m told = subst (λ (x : Origin). HasReadabl
 pub returns-clause-found : goal.returns-clause-found
 returns-clause-found g c m told tree =
     subst (λ (x : Origin). MatchResult c.number_at.result (IsNumberAt Text (rows_of Text x m) c.args.name.now) IsUndone) c.self.view_is
-    (c.number_at.ensures.found m told (subst (λ (x : Origin). IsNumberTree Text (stream_of x m)) (sym c.self.view_is) tree))
+    (c.number_at.ensures.found m told (subst (λ (x : Origin). HoldsNumber Text c.args.name.now (stream_of x m)) (sym c.self.view_is) tree))
 
 pub returns-clause-refused : goal.returns-clause-refused
 returns-clause-refused g c m told =

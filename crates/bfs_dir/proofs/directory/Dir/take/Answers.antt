@@ -7,7 +7,7 @@ use Rattle.bfs_maps.specs.Mapped.{rows_of, HasHeld, IsMap}
 use Rattle.bfs_maps.specs.NumberTrees.{IsTreeOf}
 use Rattle.bfs_maps.specs.Refused.{IsTakeFault}
 use Rattle.bfs_maps.proofs.Over.{now_named, on_ok}
-use Rattle.bfs_maps.specs.Refused.{IsChangeFault, IsNumberPage}
+use Rattle.bfs_maps.specs.Refused.{IsTakingFault, IsNumberPage}
 use Rattle.bfs_dir.proofs.directory.Dir.take.Goals as goal
 
 pub take_number-requires-clause-stream : goal.take_number-requires-clause-stream
@@ -35,8 +35,8 @@ returns-clause-refused g c m told d =
     let v = c.args.bitmap.now in
     let p : Origin = record { id = c.self.inside.inode; sizes = sizes_of c.self.inside.sup } in
     let d_p = subst (λ (x : Origin). IsMap Text x v m) (sym c.self.view_is) d in
-    subst (λ (x : Origin). IfErr c.take_number.result (IsTakeFault Text x v m (rows_of Text x m) c.args.name.now)) c.self.view_is (c.take_number.ensures.refused m told d_p)
+    subst (λ (x : Origin). IfErr c.take_number.result (IsTakeFault Text (rows_of Text x m) c.args.name.now)) c.self.view_is (c.take_number.ensures.refused m told d_p)
 
 pub returns-clause-blamed : goal.returns-clause-blamed
 returns-clause-blamed g c m told =
-    subst (λ (x : Origin). IfErr c.take_number.result (IsChangeFault (IsNumberPage Text) x c.args.bitmap.now m (g.E.Blocks.told c.take_number.new.edits))) c.self.view_is (c.take_number.ensures.blamed m told)
+    subst (λ (x : Origin). IfErr c.take_number.result (IsTakingFault (IsNumberPage Text) x m (g.E.Blocks.told c.take_number.new.edits))) c.self.view_is (c.take_number.ensures.blamed m told)

@@ -24,6 +24,7 @@ loop-left-preserved g c =
       left = let e = c.less-left.ensures in let le = c.loop-left.invariant.left in omega (arith, e, le);
       later = later_twice (g.E.Blocks.counts c.args.edits.now) (g.E.Blocks.counts c.loop-left.edits) (g.E.Blocks.counts c.add.new.edits) c.loop-left.invariant.later c.in-Ok.ensures.later;
       changed = changed_twice c.args.self.now.sizes c.args.bitmap.now c.loop-left.bitmap (g.E.Blocks.changed c.args.edits.now) (g.E.Blocks.changed c.loop-left.edits) (g.E.Blocks.changed c.add.new.edits) c.loop-left.invariant.rest c.loop-left.invariant.changed c.in-Ok.ensures.changed;
+      stays = λ k t. c.in-Ok.ensures.stays k (c.loop-left.invariant.stays k t);
     }
 
 pub loop-left-init : goal.loop-left-init
@@ -37,6 +38,7 @@ loop-left-init g c = record {
   left = omega arith;
   later = later_none (g.E.Blocks.counts c.args.edits.now);
   changed = λ k e. inl e;
+  stays = λ k t. t;
 }
 
 pub returns-clause-grown : goal.returns-clause-grown
@@ -49,3 +51,9 @@ returns-in-Err-clause-faults g c m is owns has =
     let so_far = c.loop-left.invariant.grown m is owns in
     stop_so_far c.args.self.now c.args.bitmap.now c.loop-left.bitmap m c.args.blocks c.loop-left.left (g.E.Blocks.told c.loop-left.edits) (g.E.Blocks.changed c.args.edits.now) (g.E.Blocks.changed c.loop-left.edits) so_far c.loop-left.invariant.rest
     (let t = c.loop-left-test.true in omega (arith, t)) has c.in-Err.fault (c.in-Err.ensures.faults so_far.grown.2.map so_far.grown.2.is so_far.grown.2.owns)
+
+pub returns-clause-stays : goal.returns-clause-stays
+returns-clause-stays g c = c.loop-left.invariant.stays
+
+pub returns-in-Err-clause-stays : goal.returns-in-Err-clause-stays
+returns-in-Err-clause-stays g c k t = c.in-Err.ensures.stays k (c.loop-left.invariant.stays k t)

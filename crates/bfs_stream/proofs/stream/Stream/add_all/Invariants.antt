@@ -1,5 +1,6 @@
 use Rattle.std.proofs.Common.{◌≡◌, ◌≤◌, ◌<◌, ◌⊎◌, true, ℕ, List, [], Option, Some, length}
 use Rattle.bfs_txn.specs.Faults.{AreLater}
+use Rattle.bfs_txn.specs.Told.{StaysChanged}
 use Rattle.bfs_bitmap.specs.Fills.{IsBitmapBlock}
 use Rattle.bfs_stream.specs.Grown.{IsOfVolume, Owns}
 use Rattle.bfs_stream.proofs.Twice.{IsGrownSo}
@@ -19,4 +20,5 @@ invariant-loop-left g l = record {
   left : l.left ≤ l.fn.blocks;
   later : AreLater (g.E.Blocks.counts l.fn.edits) (g.E.Blocks.counts l.edits);
   changed : (k : ℕ) → g.E.Blocks.changed l.edits k ≡ true → (g.E.Blocks.changed l.fn.edits k ≡ true) ⊎ (IsBitmapBlock l.fn.bitmap k ⊎ (k < l.self.sizes.blocks));
+  stays : StaysChanged (g.E.Blocks.changed l.fn.edits) (g.E.Blocks.changed l.edits);
 }

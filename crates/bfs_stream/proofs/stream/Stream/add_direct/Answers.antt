@@ -9,7 +9,7 @@ use Rattle.bfs_stream.specs.declared.grow.TheConstants.{NO_RUN}
 use Rattle.bfs_stream.specs.declared.lookup.Ends.{Ends}
 use Rattle.bfs_stream.proofs.Levels.{length-counted}
 use Rattle.bfs_stream.proofs.AddsDirect.{added}
-use Rattle.bfs_stream.proofs.Writes.{wrote_bits, wrote_set, wrote_twice}
+use Rattle.bfs_stream.proofs.Writes.{set_stays, wrote_bits, wrote_set, wrote_twice, IsBitBlockOf, all_bits}
 use Rattle.bfs_stream.proofs.Placed.{direct_end}
 use Rattle.bfs_stream.proofs.Few.{few_direct}
 use Rattle.bfs_stream.proofs.Stops.{step_none}
@@ -31,9 +31,10 @@ returns-in-Ok-set-clause-grown g c m is owns read used =
           (c.in-Ok-set.ensures.told ∙ ap (λ (x : Origin). option_map (with_block x.id c.put_direct.new.bytes) (g.E.Blocks.told c.take.new.edits)) c.self.view_is)
           read used c.requires.room (ap (λ (e : Ends). e.direct) c.ends-blocks.ensures) c.sizes.ensures.sizes c.in-Ok.ensures.inside some refl put c.put_direct.ensures.rest
           (g.E.Blocks.changed c.args.edits.now) (g.E.Blocks.changed c.set.new.self)
-          (wrote_twice c.args.bitmap.now (g.E.Blocks.changed c.args.edits.now) (g.E.Blocks.changed c.take.new.edits) (g.E.Blocks.changed c.set.new.self) (o.id ∷ [])
-          (wrote_bits c.args.bitmap.now (g.E.Blocks.changed c.args.edits.now) (g.E.Blocks.changed c.take.new.edits) (o.id ∷ []) c.in-Ok.ensures.changed)
-          (wrote_set c.args.bitmap.now (g.E.Blocks.changed c.take.new.edits) (g.E.Blocks.changed c.set.new.self) c.self.inside.inode o.id (ap (λ (x : Origin). x.id) c.self.view_is) c.in-Ok-set.ensures.changed)),
+          (wrote_twice (IsBitBlockOf c.args.bitmap.now (run_blocks o.sizes run)) (g.E.Blocks.changed c.args.edits.now) (g.E.Blocks.changed c.take.new.edits) (g.E.Blocks.changed c.set.new.self) (o.id ∷ [])
+          (wrote_bits (IsBitBlockOf c.args.bitmap.now (run_blocks o.sizes run)) (g.E.Blocks.changed c.args.edits.now) (g.E.Blocks.changed c.take.new.edits) (o.id ∷ []) (all_bits c.args.bitmap.now (run_blocks o.sizes run) (g.E.Blocks.changed c.args.edits.now) (g.E.Blocks.changed c.take.new.edits) c.in-Ok.ensures.changed c.in-Ok.ensures.bits))
+          (wrote_set (IsBitBlockOf c.args.bitmap.now (run_blocks o.sizes run)) (g.E.Blocks.changed c.take.new.edits) (g.E.Blocks.changed c.set.new.self) c.self.inside.inode o.id (ap (λ (x : Origin). x.id) c.self.view_is) c.in-Ok-set.ensures.changed))
+          (λ k t. set_stays c.self.inside.inode (g.E.Blocks.changed c.take.new.edits) (g.E.Blocks.changed c.set.new.self) c.in-Ok-set.ensures.changed k (c.in-Ok.ensures.stays k t)),
     )
 
 pub returns-then-blocks-gt-MOST_BLOCKS-clause-faults : goal.returns-then-blocks-gt-MOST_BLOCKS-clause-faults

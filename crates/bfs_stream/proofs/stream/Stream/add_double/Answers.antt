@@ -12,7 +12,7 @@ use Rattle.bfs_stream.proofs.Levels.{length-counted}
 use Rattle.bfs_stream.proofs.Belows.{all_places}
 use Rattle.bfs_stream.proofs.AddsRun.{added, uses, took_arrays, took_tables, took_listed, ended_length, inode_told}
 use Rattle.bfs_stream.proofs.AddsTable.{listed_blocks}
-use Rattle.bfs_stream.proofs.Writes.{wrote_bits, wrote_first, wrote_behind, wrote_four}
+use Rattle.bfs_stream.proofs.Writes.{wrote_bits, wrote_first, wrote_behind, wrote_four, IsBitBlockOf, all_bits}
 use Rattle.bfs_stream.proofs.Stops.{step_none}
 use Rattle.bfs_stream.proofs.stream.Stream.add_double.Goals as goal
 
@@ -47,11 +47,12 @@ returns-in-Ok-put_double_range-clause-grown g c m is owns tables =
       length-counted (first_block o.sizes run) run.len ∙ sym c.from-len.ensures,
       added o v now run array m told1 owns took tables.0 NO_RUN told2 told3 told4 used total c.in-Ok.ensures.rest ended put wrote' tables.2 tables.3 room
           (record { inside = c.in-Ok.ensures.inside; long = let e = c.array_length-whole.ensures.value in let lo = c.in-Ok.ensures.long.0 in let hi = c.in-Ok.ensures.long.1 in omega (arith, e, lo, hi) }) some refl (g.E.Blocks.changed c.args.edits.now) (g.E.Blocks.changed c.put_double_range.new.edits)
-          (wrote_four c.args.bitmap.now (g.E.Blocks.changed c.args.edits.now) (g.E.Blocks.changed c.take.new.edits) (g.E.Blocks.changed c.end_below.new.edits) (g.E.Blocks.changed c.put_below.new.edits) (g.E.Blocks.changed c.put_double_range.new.edits) (o.id ∷ listed_blocks o m)
-          (wrote_bits c.args.bitmap.now (g.E.Blocks.changed c.args.edits.now) (g.E.Blocks.changed c.take.new.edits) (o.id ∷ listed_blocks o m) c.in-Ok.ensures.changed)
-          (wrote_behind c.args.bitmap.now (g.E.Blocks.changed c.take.new.edits) (g.E.Blocks.changed c.end_below.new.edits) o.id (listed_blocks o m) (λ k e. subst (λ (l : List Run). (g.E.Blocks.changed c.take.new.edits k ≡ true) ⊎ Has (blocks_of o.sizes (used_runs l)) k) here (c.in-Ok-end_below.ensures.written took.map took.is has all k e)))
-          (wrote_behind c.args.bitmap.now (g.E.Blocks.changed c.end_below.new.edits) (g.E.Blocks.changed c.put_below.new.edits) o.id (listed_blocks o m) (λ k e. subst (λ (l : List Run). (g.E.Blocks.changed c.end_below.new.edits k ≡ true) ⊎ Has (blocks_of o.sizes (used_runs l)) k) (ended.listed ∙ here) (c.in-Ok-put_below.ensures.written ended.map ended.is ended.tables inside k e)))
-          (wrote_first c.args.bitmap.now (g.E.Blocks.changed c.put_below.new.edits) (g.E.Blocks.changed c.put_double_range.new.edits) o.id (listed_blocks o m) c.in-Ok-put_double_range.ensures.written)),
+          (wrote_four (IsBitBlockOf c.args.bitmap.now (run_blocks o.sizes run)) (g.E.Blocks.changed c.args.edits.now) (g.E.Blocks.changed c.take.new.edits) (g.E.Blocks.changed c.end_below.new.edits) (g.E.Blocks.changed c.put_below.new.edits) (g.E.Blocks.changed c.put_double_range.new.edits) (o.id ∷ listed_blocks o m)
+          (wrote_bits (IsBitBlockOf c.args.bitmap.now (run_blocks o.sizes run)) (g.E.Blocks.changed c.args.edits.now) (g.E.Blocks.changed c.take.new.edits) (o.id ∷ listed_blocks o m) (all_bits c.args.bitmap.now (run_blocks o.sizes run) (g.E.Blocks.changed c.args.edits.now) (g.E.Blocks.changed c.take.new.edits) c.in-Ok.ensures.changed c.in-Ok.ensures.bits))
+          (wrote_behind (IsBitBlockOf c.args.bitmap.now (run_blocks o.sizes run)) (g.E.Blocks.changed c.take.new.edits) (g.E.Blocks.changed c.end_below.new.edits) o.id (listed_blocks o m) (λ k e. subst (λ (l : List Run). (g.E.Blocks.changed c.take.new.edits k ≡ true) ⊎ Has (blocks_of o.sizes (used_runs l)) k) here (c.in-Ok-end_below.ensures.written took.map took.is has all k e)))
+          (wrote_behind (IsBitBlockOf c.args.bitmap.now (run_blocks o.sizes run)) (g.E.Blocks.changed c.end_below.new.edits) (g.E.Blocks.changed c.put_below.new.edits) o.id (listed_blocks o m) (λ k e. subst (λ (l : List Run). (g.E.Blocks.changed c.end_below.new.edits k ≡ true) ⊎ Has (blocks_of o.sizes (used_runs l)) k) (ended.listed ∙ here) (c.in-Ok-put_below.ensures.written ended.map ended.is ended.tables inside k e)))
+          (wrote_first (IsBitBlockOf c.args.bitmap.now (run_blocks o.sizes run)) (g.E.Blocks.changed c.put_below.new.edits) (g.E.Blocks.changed c.put_double_range.new.edits) o.id (listed_blocks o m) c.in-Ok-put_double_range.ensures.written))
+          (λ k t. c.in-Ok-put_double_range.ensures.stays k (c.in-Ok-put_below.ensures.stays k (c.in-Ok-end_below.ensures.stays k (c.in-Ok.ensures.stays k t)))),
     )
 
 pub returns-in-Err-clause-faults : goal.returns-in-Err-clause-faults

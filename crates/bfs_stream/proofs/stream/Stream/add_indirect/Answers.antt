@@ -8,7 +8,7 @@ use Rattle.bfs_stream.specs.Grown.{HasFields}
 use Rattle.bfs_stream.specs.declared.grow.TheConstants.{NO_RUN}
 use Rattle.bfs_stream.proofs.Levels.{length-counted}
 use Rattle.bfs_stream.proofs.AddsIndirect.{added, told_array, told_inode_now}
-use Rattle.bfs_stream.proofs.Writes.{wrote_bits, wrote_first, wrote_behind, wrote_four}
+use Rattle.bfs_stream.proofs.Writes.{wrote_bits, wrote_first, wrote_behind, wrote_four, IsBitBlockOf, all_bits}
 use Rattle.bfs_stream.proofs.Stops.{step_none}
 use Rattle.bfs_stream.proofs.stream.Stream.add_indirect.Goals as goal
 
@@ -27,11 +27,12 @@ returns-in-Ok-put_indirect_range-clause-grown g c m is owns table =
       length-counted (first_block o.sizes run) run.len ∙ sym c.from-len.ensures,
       added o c.args.bitmap.now c.take.new.bitmap run NO_RUN c.args.table.array m (g.E.Blocks.told c.take.new.edits) (g.E.Blocks.told c.end_in_array.new.edits) (g.E.Blocks.told c.put_in_array.new.edits) (g.E.Blocks.told c.put_indirect_range.new.edits)
           c.args.table.used c.args.table.blocks owns took c.in-Ok.ensures.rest table.0 table.1 table.2 ended put wrote' c.requires.room c.in-Ok.ensures.inside some refl (g.E.Blocks.changed c.args.edits.now) (g.E.Blocks.changed c.put_indirect_range.new.edits)
-          (wrote_four c.args.bitmap.now (g.E.Blocks.changed c.args.edits.now) (g.E.Blocks.changed c.take.new.edits) (g.E.Blocks.changed c.end_in_array.new.edits) (g.E.Blocks.changed c.put_in_array.new.edits) (g.E.Blocks.changed c.put_indirect_range.new.edits) (o.id ∷ run_blocks o.sizes c.args.table.array)
-          (wrote_bits c.args.bitmap.now (g.E.Blocks.changed c.args.edits.now) (g.E.Blocks.changed c.take.new.edits) (o.id ∷ run_blocks o.sizes c.args.table.array) c.in-Ok.ensures.changed)
-          (wrote_behind c.args.bitmap.now (g.E.Blocks.changed c.take.new.edits) (g.E.Blocks.changed c.end_in_array.new.edits) o.id (run_blocks o.sizes c.args.table.array) c.in-Ok-end_in_array.ensures.written)
-          (wrote_behind c.args.bitmap.now (g.E.Blocks.changed c.end_in_array.new.edits) (g.E.Blocks.changed c.put_in_array.new.edits) o.id (run_blocks o.sizes c.args.table.array) c.in-Ok-put_in_array.ensures.written)
-          (wrote_first c.args.bitmap.now (g.E.Blocks.changed c.put_in_array.new.edits) (g.E.Blocks.changed c.put_indirect_range.new.edits) o.id (run_blocks o.sizes c.args.table.array) c.in-Ok-put_indirect_range.ensures.written)),
+          (wrote_four (IsBitBlockOf c.args.bitmap.now (run_blocks o.sizes run)) (g.E.Blocks.changed c.args.edits.now) (g.E.Blocks.changed c.take.new.edits) (g.E.Blocks.changed c.end_in_array.new.edits) (g.E.Blocks.changed c.put_in_array.new.edits) (g.E.Blocks.changed c.put_indirect_range.new.edits) (o.id ∷ run_blocks o.sizes c.args.table.array)
+          (wrote_bits (IsBitBlockOf c.args.bitmap.now (run_blocks o.sizes run)) (g.E.Blocks.changed c.args.edits.now) (g.E.Blocks.changed c.take.new.edits) (o.id ∷ run_blocks o.sizes c.args.table.array) (all_bits c.args.bitmap.now (run_blocks o.sizes run) (g.E.Blocks.changed c.args.edits.now) (g.E.Blocks.changed c.take.new.edits) c.in-Ok.ensures.changed c.in-Ok.ensures.bits))
+          (wrote_behind (IsBitBlockOf c.args.bitmap.now (run_blocks o.sizes run)) (g.E.Blocks.changed c.take.new.edits) (g.E.Blocks.changed c.end_in_array.new.edits) o.id (run_blocks o.sizes c.args.table.array) c.in-Ok-end_in_array.ensures.written)
+          (wrote_behind (IsBitBlockOf c.args.bitmap.now (run_blocks o.sizes run)) (g.E.Blocks.changed c.end_in_array.new.edits) (g.E.Blocks.changed c.put_in_array.new.edits) o.id (run_blocks o.sizes c.args.table.array) c.in-Ok-put_in_array.ensures.written)
+          (wrote_first (IsBitBlockOf c.args.bitmap.now (run_blocks o.sizes run)) (g.E.Blocks.changed c.put_in_array.new.edits) (g.E.Blocks.changed c.put_indirect_range.new.edits) o.id (run_blocks o.sizes c.args.table.array) c.in-Ok-put_indirect_range.ensures.written))
+          (λ k t. c.in-Ok-put_indirect_range.ensures.stays k (c.in-Ok-put_in_array.ensures.stays k (c.in-Ok-end_in_array.ensures.stays k (c.in-Ok.ensures.stays k t)))),
     )
 
 pub returns-in-Err-clause-faults : goal.returns-in-Err-clause-faults

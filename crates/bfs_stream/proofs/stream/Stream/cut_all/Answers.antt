@@ -18,6 +18,7 @@ loop-gone-init g c = record {
   trimmed = λ m is owns may spare. trimmed_so_none c.args.self.now c.args.bitmap.now m c.args.blocks (g.E.Blocks.told c.args.edits.now) (g.E.Blocks.changed c.args.edits.now) owns is may spare;
   later = later_none (g.E.Blocks.counts c.args.edits.now);
   changed = λ k e. inl e;
+  stays = λ k t. t;
 }
 
 pub loop-gone-preserved : goal.loop-gone-preserved
@@ -37,6 +38,7 @@ loop-gone-preserved g c =
           step c.less-left.ensures c.in-Ok.ensures.most;
       later = later_twice (g.E.Blocks.counts c.args.edits.now) (g.E.Blocks.counts c.loop-gone.edits) (g.E.Blocks.counts c.cut.new.edits) c.loop-gone.invariant.later c.in-Ok.ensures.later;
       changed = changed_again c.args.self.now.sizes c.args.bitmap.now c.loop-gone.bitmap (g.E.Blocks.changed c.args.edits.now) (g.E.Blocks.changed c.loop-gone.edits) (g.E.Blocks.changed c.cut.new.edits) c.loop-gone.invariant.rest c.loop-gone.invariant.changed c.in-Ok.ensures.changed;
+      stays = λ k t. c.in-Ok.ensures.stays k (c.loop-gone.invariant.stays k t);
     }
 
 pub returns-then-gone-eq0-clause-trimmed : goal.returns-then-gone-eq0-clause-trimmed
@@ -53,3 +55,9 @@ pub returns-in-Err-clause-sound : goal.returns-in-Err-clause-sound
 returns-in-Err-clause-sound g c m is owns may spare =
     let so_far = c.loop-gone.invariant.trimmed m is owns may spare in
     c.in-Err.ensures.sound so_far.trimmed.2.map so_far.trimmed.2.is so_far.trimmed.2.owns
+
+pub returns-then-gone-eq0-clause-stays : goal.returns-then-gone-eq0-clause-stays
+returns-then-gone-eq0-clause-stays g c k t = c.in-Ok.ensures.stays k (c.loop-gone.invariant.stays k t)
+
+pub returns-in-Err-clause-stays : goal.returns-in-Err-clause-stays
+returns-in-Err-clause-stays g c k t = c.in-Err.ensures.stays k (c.loop-gone.invariant.stays k t)

@@ -1,5 +1,6 @@
 use Rattle.std.proofs.Common.{◌≡◌, ◌<◌, ◌⊎◌, true, ℕ, List, [], Option, Some, length}
 use Rattle.bfs_txn.specs.Faults.{AreLater}
+use Rattle.bfs_txn.specs.Told.{StaysChanged}
 use Rattle.bfs_bitmap.specs.Runs.{as_kept}
 use Rattle.bfs_bitmap.specs.Fills.{IsBitmapBlock}
 use Rattle.bfs_stream.specs.Grown.{IsOfVolume, Owns}
@@ -21,4 +22,5 @@ invariant-loop-gone g l = record {
   trimmed : (m : ℕ → Option (List ℕ)) → g.E.Blocks.told l.fn.edits ≡ Some m → Owns l.self l.fn.bitmap [] m → MayLose l.self m l.fn.blocks → HasSpare l.self m l.fn.blocks → IsTrimmedSo l.self l.fn.bitmap l.bitmap m l.fn.blocks l.left (g.E.Blocks.told l.edits) (g.E.Blocks.changed l.fn.edits) (g.E.Blocks.changed l.edits);
   later : AreLater (g.E.Blocks.counts l.fn.edits) (g.E.Blocks.counts l.edits);
   changed : (k : ℕ) → g.E.Blocks.changed l.edits k ≡ true → (g.E.Blocks.changed l.fn.edits k ≡ true) ⊎ (IsBitmapBlock l.fn.bitmap k ⊎ (k < l.self.sizes.blocks));
+  stays : StaysChanged (g.E.Blocks.changed l.fn.edits) (g.E.Blocks.changed l.edits);
 }

@@ -15,7 +15,7 @@ use Rattle.bfs_stream.proofs.AddsTable.{listed_blocks}
 use Rattle.bfs_stream.proofs.CutsDirect.{larger}
 use Rattle.bfs_stream.proofs.CutsIndirect.{front_of, runs_split, front_length, last_has, last_found, front_some, front_none, end_is}
 use Rattle.bfs_stream.proofs.CutsBelow.{arrays_are, has_tables, all_whole, whole_long, inode_told, fits_now, cut}
-use Rattle.bfs_stream.proofs.Writes.{wrote_none, wrote_bits, wrote_first, wrote_behind, wrote_four}
+use Rattle.bfs_stream.proofs.Writes.{wrote_none, wrote_bits, wrote_first, wrote_behind, wrote_four, IsBitBlockOf, all_bits}
 use Rattle.bfs_stream.proofs.stream.Stream.cut_below.Goals as goal
 
 pub returns-in-Err-clause-sound : goal.returns-in-Err-clause-sound
@@ -78,10 +78,10 @@ returns-in-Ok-give-clause-trimmed g c m is owns tables may =
     let gave = c.in-Ok-give.ensures.gave (with_block o.id wrote.bytes put.map) wrote.is fits in
     let done =
     cut o v array m owns tables.0 front last split c.give.new.bitmap NO_RUN told1 told2 told3 left put wrote zero_len left_is size old new gave c.in-Ok-give.ensures.rest
-    (wrote_four v old (g.E.Blocks.changed c.run_below.new.under) (g.E.Blocks.changed c.put_below.new.edits) (g.E.Blocks.changed c.put_double_range.new.edits) new (o.id ∷ listed_blocks o m)
-    (wrote_none v old (g.E.Blocks.changed c.run_below.new.under) (o.id ∷ listed_blocks o m) c.in-Ok.ensures.changed)
-    (wrote_behind v (g.E.Blocks.changed c.run_below.new.under) (g.E.Blocks.changed c.put_below.new.edits) o.id (listed_blocks o m)
+    (wrote_four (IsBitBlockOf v (run_blocks s last)) old (g.E.Blocks.changed c.run_below.new.under) (g.E.Blocks.changed c.put_below.new.edits) (g.E.Blocks.changed c.put_double_range.new.edits) new (o.id ∷ listed_blocks o m)
+    (wrote_none (IsBitBlockOf v (run_blocks s last)) old (g.E.Blocks.changed c.run_below.new.under) (o.id ∷ listed_blocks o m) c.in-Ok.ensures.changed)
+    (wrote_behind (IsBitBlockOf v (run_blocks s last)) (g.E.Blocks.changed c.run_below.new.under) (g.E.Blocks.changed c.put_below.new.edits) o.id (listed_blocks o m)
     (λ k e. subst (λ (l : List Run). (g.E.Blocks.changed c.run_below.new.under k ≡ true) ⊎ Has (blocks_of s (used_runs l)) k) (arrays_are o v array m owns tables.0) (c.in-Ok-put_below.ensures.written m (c.in-Ok.ensures.told ∙ is) has inside k e)))
-    (wrote_first v (g.E.Blocks.changed c.put_below.new.edits) (g.E.Blocks.changed c.put_double_range.new.edits) o.id (listed_blocks o m) c.in-Ok-put_double_range.ensures.written)
-    (wrote_bits v (g.E.Blocks.changed c.put_double_range.new.edits) new (o.id ∷ listed_blocks o m) c.in-Ok-give.ensures.changed)) in
+    (wrote_first (IsBitBlockOf v (run_blocks s last)) (g.E.Blocks.changed c.put_below.new.edits) (g.E.Blocks.changed c.put_double_range.new.edits) o.id (listed_blocks o m) c.in-Ok-put_double_range.ensures.written)
+    (wrote_bits (IsBitBlockOf v (run_blocks s last)) (g.E.Blocks.changed c.put_double_range.new.edits) new (o.id ∷ listed_blocks o m) (all_bits v (run_blocks s last) (g.E.Blocks.changed c.put_double_range.new.edits) new c.in-Ok-give.ensures.changed c.in-Ok-give.ensures.bits))) in
     ((run_blocks s last, length-counted (first_block s last) last.len ∙ sym taken, done.0), done.1)

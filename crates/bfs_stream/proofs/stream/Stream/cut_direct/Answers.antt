@@ -16,7 +16,7 @@ use Rattle.bfs_stream.proofs.Placed.{direct_end}
 use Rattle.bfs_stream.proofs.Few.{few_direct}
 use Rattle.bfs_stream.proofs.Shorter.{parts_of}
 use Rattle.bfs_stream.proofs.CutsDirect.{direct_long, places_long, larger, fits_now, cut, front, runs_are, front_long, last_some, last_inside}
-use Rattle.bfs_stream.proofs.Writes.{wrote_bits, wrote_set, wrote_twice, set_then_bits}
+use Rattle.bfs_stream.proofs.Writes.{wrote_bits, wrote_set, wrote_twice, set_then_bits, IsBitBlockOf, all_bits}
 use Rattle.bfs_stream.proofs.stream.Stream.cut_direct.Goals as goal
 
 pub returns-then-total-gt-MOST_BLOCKS-clause-sound : goal.returns-then-total-gt-MOST_BLOCKS-clause-sound
@@ -76,7 +76,7 @@ returns-in-Ok-give-clause-trimmed g c m is owns read used none may =
     let done =
     cut o c.args.bitmap.now c.give.new.bitmap c.direct-last.result part gone first m (g.E.Blocks.told c.give.new.edits) c.put_last_direct.new.bytes owns runs parts c.first_part-part.ensures.inside none size put kept
     (g.E.Blocks.changed c.args.edits.now) (g.E.Blocks.changed c.give.new.edits) gave c.in-Ok-give.ensures.rest
-    (wrote_twice c.args.bitmap.now (g.E.Blocks.changed c.args.edits.now) (g.E.Blocks.changed c.set.new.self) (g.E.Blocks.changed c.give.new.edits) (o.id ∷ [])
-    (wrote_set c.args.bitmap.now (g.E.Blocks.changed c.args.edits.now) (g.E.Blocks.changed c.set.new.self) c.self.inside.inode o.id id c.in-Ok.ensures.changed)
-    (wrote_bits c.args.bitmap.now (g.E.Blocks.changed c.set.new.self) (g.E.Blocks.changed c.give.new.edits) (o.id ∷ []) c.in-Ok-give.ensures.changed)) in
+    (wrote_twice (IsBitBlockOf c.args.bitmap.now (run_blocks s gone)) (g.E.Blocks.changed c.args.edits.now) (g.E.Blocks.changed c.set.new.self) (g.E.Blocks.changed c.give.new.edits) (o.id ∷ [])
+    (wrote_set (IsBitBlockOf c.args.bitmap.now (run_blocks s gone)) (g.E.Blocks.changed c.args.edits.now) (g.E.Blocks.changed c.set.new.self) c.self.inside.inode o.id id c.in-Ok.ensures.changed)
+    (wrote_bits (IsBitBlockOf c.args.bitmap.now (run_blocks s gone)) (g.E.Blocks.changed c.set.new.self) (g.E.Blocks.changed c.give.new.edits) (o.id ∷ []) (all_bits c.args.bitmap.now (run_blocks s gone) (g.E.Blocks.changed c.set.new.self) (g.E.Blocks.changed c.give.new.edits) c.in-Ok-give.ensures.changed c.in-Ok-give.ensures.bits))) in
     ((run_blocks s gone, length-counted (first_block s gone) gone.len ∙ sym c.from-in-Ok-give.ensures, done.0), done.1)

@@ -12,7 +12,7 @@ use Rattle.bfs_stream.proofs.Listed.{told_table}
 use Rattle.bfs_stream.proofs.Shorter.{parts_of}
 use Rattle.bfs_stream.proofs.CutsDirect.{larger}
 use Rattle.bfs_stream.proofs.CutsIndirect.{front_of, runs_split, front_length, last_long, last_has, front_some, front_none, end_is, table_whole_long, inode_told, fits_now, cut}
-use Rattle.bfs_stream.proofs.Writes.{wrote_none, wrote_bits, wrote_first, wrote_behind, wrote_four}
+use Rattle.bfs_stream.proofs.Writes.{wrote_none, wrote_bits, wrote_first, wrote_behind, wrote_four, IsBitBlockOf, all_bits}
 use Rattle.bfs_stream.proofs.stream.Stream.cut_indirect.Goals as goal
 
 pub returns-then-not-is_used-clause-sound : goal.returns-then-not-is_used-clause-sound
@@ -69,9 +69,9 @@ returns-in-Ok-give-clause-trimmed g c m is owns table none may =
     let gave = c.in-Ok-give.ensures.gave (with_block o.id wrote.bytes put.map) wrote.is fits in
     let done =
     cut o v c.give.new.bitmap last part gone array front m told1 told2 told3 left owns table.0 split put wrote parts c.first_part-part.ensures.inside none left_is size old new gave c.in-Ok-give.ensures.rest
-    (wrote_four v old (g.E.Blocks.changed c.run_in.new.under) (g.E.Blocks.changed c.put_in_array.new.edits) (g.E.Blocks.changed c.put_indirect_range.new.edits) new (o.id ∷ run_blocks s array)
-    (wrote_none v old (g.E.Blocks.changed c.run_in.new.under) (o.id ∷ run_blocks s array) c.in-Ok.ensures.changed)
-    (wrote_behind v (g.E.Blocks.changed c.run_in.new.under) (g.E.Blocks.changed c.put_in_array.new.edits) o.id (run_blocks s array) c.in-Ok-put_in_array.ensures.written)
-    (wrote_first v (g.E.Blocks.changed c.put_in_array.new.edits) (g.E.Blocks.changed c.put_indirect_range.new.edits) o.id (run_blocks s array) c.in-Ok-put_indirect_range.ensures.written)
-    (wrote_bits v (g.E.Blocks.changed c.put_indirect_range.new.edits) new (o.id ∷ run_blocks s array) c.in-Ok-give.ensures.changed)) in
+    (wrote_four (IsBitBlockOf v (run_blocks s gone)) old (g.E.Blocks.changed c.run_in.new.under) (g.E.Blocks.changed c.put_in_array.new.edits) (g.E.Blocks.changed c.put_indirect_range.new.edits) new (o.id ∷ run_blocks s array)
+    (wrote_none (IsBitBlockOf v (run_blocks s gone)) old (g.E.Blocks.changed c.run_in.new.under) (o.id ∷ run_blocks s array) c.in-Ok.ensures.changed)
+    (wrote_behind (IsBitBlockOf v (run_blocks s gone)) (g.E.Blocks.changed c.run_in.new.under) (g.E.Blocks.changed c.put_in_array.new.edits) o.id (run_blocks s array) c.in-Ok-put_in_array.ensures.written)
+    (wrote_first (IsBitBlockOf v (run_blocks s gone)) (g.E.Blocks.changed c.put_in_array.new.edits) (g.E.Blocks.changed c.put_indirect_range.new.edits) o.id (run_blocks s array) c.in-Ok-put_indirect_range.ensures.written)
+    (wrote_bits (IsBitBlockOf v (run_blocks s gone)) (g.E.Blocks.changed c.put_indirect_range.new.edits) new (o.id ∷ run_blocks s array) (all_bits v (run_blocks s gone) (g.E.Blocks.changed c.put_indirect_range.new.edits) new c.in-Ok-give.ensures.changed c.in-Ok-give.ensures.bits))) in
     ((run_blocks s gone, length-counted (first_block s gone) gone.len ∙ sym c.from-taken.ensures, done.0), done.1)

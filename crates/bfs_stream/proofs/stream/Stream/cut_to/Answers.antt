@@ -1,5 +1,5 @@
-use Rattle.std.proofs.Common.{◌≡◌, ◌≤◌, ◌<◌, ◌+◌, ◌-◌, ℕ, sym, subst, arith}
-use Rattle.std.specs.Prelude.{Result, Ok, Err, OnOk, length}
+use Rattle.std.proofs.Common.{◌≡◌, ◌+◌, ◌-◌, ℕ, sym, subst, arith}
+use Rattle.std.specs.Prelude.{Result, Ok, Err, OnOk}
 use Rattle.bfs_txn.specs.declared.fault.BlockFault.{BlockFault}
 use Rattle.bfs_stream.specs.Trimmed.{MayLose, HasSpare}
 use Rattle.bfs_stream.proofs.CutTwice.{trimmed_to_after, may_after, left_long}

@@ -1,37 +1,17 @@
-use Rattle.std.proofs.Common.{◌≡◌, ◌≤◌, ◌<◌, ◌+◌, ◌-◌, ◌*◌, ◌/◌, ◌∙◌, ◌⊎◌, inl, inr, ℕ, zero, Bool, true, List, [], ◌∷◌, ◌++◌, Option, Some, length, take, drop, refl, sym, ap, subst, arith, length-append}
-use Rattle.std.specs.Prelude.{Result, Ok, Err, OnOk, IfOk, IsSome, max}
-use Rattle.std.proofs.lemmas.List.{append-nil}
-use Rattle.bfs_base.specs.Lists.{times, Has}
+use Rattle.std.proofs.Common.{◌≡◌, ◌<◌, ◌+◌, ◌-◌, ◌∙◌, ◌⊎◌, inl, inr, ℕ, List, length, sym, ap, subst, arith}
+use Rattle.std.specs.Prelude.{Result, Ok, Err, OnOk, IfOk}
 use Rattle.bfs_bytes.specs.declared.Run.{Run}
-use Rattle.bfs_super.specs.Conditions.{natural}
 use Rattle.bfs_inode.specs.Inode.{stream_at}
 use Rattle.bfs_txn.specs.declared.fault.BlockFault.{BlockFault}
 use Rattle.bfs_txn.specs.Told.{AreOfBlock}
-use Rattle.bfs_bitmap.specs.Runs.{Room}
-use Rattle.bfs_bitmap.specs.Fills.{IsBitmapBlock}
-use Rattle.bfs_stream.specs.Sizes.{Origin, IsWhole, IsInVolume, array_length, table_length, runs_per_block}
-use Rattle.bfs_stream.specs.Places.{Levels, fields, run_blocks, blocks_of, used_runs, array_runs, level_blocks, second_arrays, levels_at, frame_at, places_at}
-use Rattle.bfs_stream.specs.Told.{contents, AreTold}
+use Rattle.bfs_stream.specs.Sizes.{Origin}
+use Rattle.bfs_stream.specs.Places.{fields, level_blocks, levels_at, places_at}
+use Rattle.bfs_stream.specs.Told.{contents}
 use Rattle.bfs_stream.specs.Scans.{ends_of}
-use Rattle.bfs_stream.specs.Grown.{Owns, AreTables, IsTable, table_runs}
-use Rattle.bfs_stream.specs.Trimmed.{Gave, HasTrimmed, HasDropped, HasSpare, MayLose, before_last_table}
-use Rattle.bfs_stream.specs.declared.grow.TheConstants.{NO_RUN}
 use Rattle.bfs_stream.specs.declared.lookup.Ends.{Ends}
 use Rattle.bfs_stream.proofs.Arrays.{read_is}
 use Rattle.bfs_stream.proofs.Placed.{told_inode, length-places, ends_are, AreEnds}
-use Rattle.bfs_stream.proofs.Doubles.{times-append, length-used}
-use Rattle.bfs_stream.proofs.Listed.{double_long, some_array}
-use Rattle.bfs_stream.proofs.CutsIndirect.{nothing_second}
-use Rattle.bfs_stream.proofs.CutsBelow.{frame_has}
 use Rattle.bfs_stream.proofs.CutTwice.{nothing_dropped, as_dropped, may_fewer}
-use Rattle.bfs_stream.proofs.Frames.{has_first, has_left, has_rest}
-use Rattle.bfs_stream.proofs.AddsIndirect.{in_arrays}
-use Rattle.bfs_stream.proofs.AddsArray.{same_map}
-use Rattle.bfs_stream.proofs.Writes.{wrote_none, wrote_bits, wrote_first, wrote_behind, wrote_four}
-use Rattle.bfs_stream.proofs.Gives.{gave_owns, gave_levels, gave_more, gave_frame}
-use Rattle.bfs_stream.proofs.Handed.{take_all, tables_stay, array_stays, inside_stays, gave_as, length-drop}
-use Rattle.bfs_stream.proofs.Drops.{blocks_split, length-take}
-use Rattle.bfs_stream.proofs.Dropping.{double_dropped, indirect_dropped, tables_dropped, inode_put_told}
 use Rattle.bfs_stream.proofs.stream.Stream.drop_first.Goals as goal
 
 on_ok : {P Q : Type 0} (r : Result (Unit {0}) BlockFault) → (P → Q) → OnOk r P → OnOk r Q

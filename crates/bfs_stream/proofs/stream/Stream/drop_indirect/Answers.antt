@@ -1,37 +1,26 @@
-use Rattle.std.proofs.Common.{◌≡◌, ◌≤◌, ◌<◌, ◌+◌, ◌-◌, ◌*◌, ◌/◌, ◌∙◌, ◌⊎◌, inl, inr, ℕ, zero, Bool, true, List, [], ◌∷◌, ◌++◌, Option, Some, length, take, drop, refl, sym, ap, subst, arith, length-append}
-use Rattle.std.specs.Prelude.{All, Result, Ok, Err, OnOk, IfOk, IsSome, max}
-use Rattle.std.proofs.lemmas.List.{append-nil}
+use Rattle.std.proofs.Common.{drop, ◌≡◌, ◌≤◌, ◌+◌, ◌-◌, ◌*◌, ◌∙◌, ◌⊎◌, ℕ, true, List, [], ◌∷◌, ◌++◌, Option, length, take, refl, sym, ap, subst, arith}
+use Rattle.std.specs.Prelude.{All, Result, Ok, Err, OnOk, IfOk, IsSome}
 use Rattle.bfs_base.specs.Lists.{times, Has}
 use Rattle.bfs_bytes.specs.declared.Run.{Run}
 use Rattle.bfs_super.specs.Conditions.{natural}
-use Rattle.bfs_inode.specs.Inode.{stream_at}
 use Rattle.bfs_txn.specs.declared.fault.BlockFault.{BlockFault}
-use Rattle.bfs_txn.specs.Told.{AreOfBlock}
 use Rattle.bfs_bitmap.specs.Runs.{Room}
 use Rattle.bfs_bitmap.specs.Fills.{IsBitmapBlock}
-use Rattle.bfs_stream.specs.Sizes.{Origin, IsWhole, IsInVolume, array_length, table_length, runs_per_block}
-use Rattle.bfs_stream.specs.Places.{Levels, fields, run_blocks, blocks_of, used_runs, array_runs, level_blocks, second_arrays, levels_at, frame_at, places_at}
-use Rattle.bfs_stream.specs.Told.{contents, AreTold}
-use Rattle.bfs_stream.specs.Scans.{ends_of}
-use Rattle.bfs_stream.specs.Grown.{Owns, AreTables, IsTable, table_runs}
-use Rattle.bfs_stream.specs.Trimmed.{Gave, HasTrimmed, HasDropped, HasSpare, MayLose, before_last_table}
+use Rattle.bfs_stream.specs.Sizes.{IsInVolume}
+use Rattle.bfs_stream.specs.Places.{Levels, fields, run_blocks, blocks_of, used_runs, array_runs, level_blocks, levels_at, frame_at, places_at}
+use Rattle.bfs_stream.specs.Told.{contents}
+use Rattle.bfs_stream.specs.Trimmed.{Gave}
 use Rattle.bfs_stream.specs.declared.grow.TheConstants.{NO_RUN}
-use Rattle.bfs_stream.specs.declared.lookup.Ends.{Ends}
-use Rattle.bfs_stream.proofs.Arrays.{read_is}
-use Rattle.bfs_stream.proofs.Placed.{told_inode, length-places, ends_are, AreEnds}
-use Rattle.bfs_stream.proofs.Doubles.{times-append, length-used}
-use Rattle.bfs_stream.proofs.Listed.{double_long, some_array}
+use Rattle.bfs_stream.proofs.Placed.{told_inode, length-places}
+use Rattle.bfs_stream.proofs.Doubles.{times-append}
 use Rattle.bfs_stream.proofs.CutsIndirect.{nothing_second}
-use Rattle.bfs_stream.proofs.CutsBelow.{frame_has}
-use Rattle.bfs_stream.proofs.CutTwice.{has_trimmed_none, has_trimmed_twice, may_after, may_fewer, left_long}
-use Rattle.bfs_stream.proofs.Frames.{has_first, has_left, has_rest}
+use Rattle.bfs_stream.proofs.Frames.{has_first, has_left, has_rest, has_right}
 use Rattle.bfs_stream.proofs.AddsIndirect.{in_arrays}
-use Rattle.bfs_stream.proofs.AddsArray.{same_map}
-use Rattle.bfs_stream.proofs.Writes.{wrote_none, wrote_bits, wrote_first, wrote_behind, wrote_four}
-use Rattle.bfs_stream.proofs.Gives.{gave_owns, gave_levels, gave_more, gave_frame}
-use Rattle.bfs_stream.proofs.Handed.{take_all, tables_stay, array_stays, inside_stays, gave_as, length-drop}
-use Rattle.bfs_stream.proofs.Drops.{blocks_split, length-take}
-use Rattle.bfs_stream.proofs.Dropping.{double_dropped, indirect_dropped, tables_dropped, inode_put_told}
+use Rattle.bfs_stream.proofs.Writes.{wrote_none, wrote_bits, wrote_first, wrote_four, IsBitBlockOf, part_bits}
+use Rattle.bfs_stream.proofs.Gives.{gave_more, gave_frame}
+use Rattle.bfs_stream.proofs.Handed.{take_all, gave_as}
+use Rattle.bfs_stream.proofs.Dropping.{indirect_dropped}
+use Rattle.bfs_stream.specs.Grown.{HasBitIn}
 use Rattle.bfs_stream.proofs.stream.Stream.drop_indirect.Goals as goal
 
 on_ok : {P Q : Type 0} (r : Result (Unit {0}) BlockFault) → (P → Q) → OnOk r P → OnOk r Q
@@ -80,9 +69,12 @@ returns-clause-dropped g c m is owns are none may =
     (λ wrote.
     let done =
     indirect_dropped o v b2 hand m told2 owns all rest2 NO_RUN refl told3 wrote none hand_is size c0 c3
-    (wrote_four v c0 c0 c1 c2 c3 (o.id ∷ []) (wrote_none v c0 c0 (o.id ∷ []) refl) (wrote_bits v c0 c1 (o.id ∷ []) c.in-Ok.ensures.changed)
-    (wrote_bits v c1 c2 (o.id ∷ []) (λ k e. subst (λ (x : Room). (c1 k ≡ true) ⊎ IsBitmapBlock x k) rest1 (c.in-Ok-give.ensures.changed k e)))
-    (wrote_first v c2 c3 o.id [] c.put_no_indirect.ensures.written)) in
+    (wrote_four (IsBitBlockOf v hand) c0 c0 c1 c2 c3 (o.id ∷ []) (wrote_none (IsBitBlockOf v hand) c0 c0 (o.id ∷ []) refl) (wrote_bits (IsBitBlockOf v hand) c0 c1 (o.id ∷ [])
+    (part_bits v (blocks_of s (take t.used (drop 0 (used_runs (array_runs s (contents m) t.array))))) hand c0 c1 (λ k has. has_left (level_blocks s l.table) (run_blocks s t.array) k (subst (λ (x : List ℕ). Has x k) (ap (blocks_of s) whole) has)) c.in-Ok.ensures.changed (c.in-Ok.ensures.bits m is owns inside (let e = are.1 in omega (arith, e)))))
+    (wrote_bits (IsBitBlockOf v hand) c1 c2 (o.id ∷ [])
+    (part_bits v (run_blocks s t.array) hand c1 c2 (λ k has. has_right (level_blocks s l.table) (run_blocks s t.array) k has) (λ k e. subst (λ (x : Room). (c1 k ≡ true) ⊎ IsBitmapBlock x k) rest1 (c.in-Ok-give.ensures.changed k e))
+    (λ k e. subst (λ (x : Room). (c1 k ≡ true) ⊎ HasBitIn x (Has (run_blocks s t.array)) k) rest1 (c.in-Ok-give.ensures.bits k e))))
+    (wrote_first (IsBitBlockOf v hand) c2 c3 o.id [] c.put_no_indirect.ensures.written)) in
     (((level_blocks s l.table, refl, done.0), λ k has. subst (λ (x : List ℕ). Has x k) done.1 has), (ap (λ (x : Levels). x.stream.indirect.len) done.2, ap (λ (x : Levels). x.stream.double_indirect.len) done.2 ∙ none)))
     (c.put_no_indirect.ensures.put all.map all.is inode_is)
 

@@ -1,39 +1,24 @@
-use Rattle.std.proofs.Common.{◌≡◌, ◌≤◌, ◌<◌, ◌+◌, ◌-◌, ◌*◌, ◌/◌, ◌∙◌, ◌⊎◌, inl, inr, ℕ, zero, suc, Bool, true, false, cond, get_or, List, [], ◌∷◌, ◌++◌, Option, Some, length, take, drop, refl, sym, ap, subst, arith, length-append}
-use Rattle.std.specs.Prelude.{◌==◌, All, Result, Ok, Err, OnOk, IfOk, IsSome, max}
-use Rattle.std.proofs.lemmas.List.{append-nil}
+use Rattle.std.proofs.Common.{◌≡◌, ◌<◌, ◌+◌, ◌-◌, ◌*◌, ◌∙◌, ◌⊎◌, ℕ, true, List, ◌∷◌, ◌++◌, length, take, drop, refl, sym, ap, subst, arith}
+use Rattle.std.specs.Prelude.{All, Result, Ok, Err, OnOk, IfOk}
 use Rattle.bfs_base.specs.Lists.{times, Has}
 use Rattle.bfs_bytes.specs.declared.Run.{Run}
-use Rattle.bfs_super.specs.Conditions.{natural}
-use Rattle.bfs_inode.specs.Inode.{stream_at}
 use Rattle.bfs_txn.specs.declared.fault.BlockFault.{BlockFault}
-use Rattle.bfs_txn.specs.Told.{AreOfBlock}
 use Rattle.bfs_bitmap.specs.Runs.{Room}
 use Rattle.bfs_bitmap.specs.Fills.{IsBitmapBlock}
-use Rattle.bfs_stream.specs.Sizes.{Sizes, Origin, first_block, IsWhole, IsInVolume, array_length, table_length, runs_per_block}
-use Rattle.bfs_stream.specs.Places.{Levels, fields, run_blocks, blocks_of, used_runs, array_runs, level_blocks, level_end, second_arrays, levels_at, frame_at, places_at}
-use Rattle.bfs_stream.specs.Told.{contents, AreTold, Stands}
-use Rattle.bfs_stream.specs.Scans.{ends_of}
-use Rattle.bfs_stream.specs.Grown.{Owns, AreTables, IsTable, table_runs}
-use Rattle.bfs_stream.specs.Trimmed.{Gave, HasTrimmed, HasDropped, HasSpare, MayLose, before_last_table}
+use Rattle.bfs_stream.specs.Sizes.{IsWhole, array_length, runs_per_block}
+use Rattle.bfs_stream.specs.Places.{run_blocks, blocks_of, used_runs, array_runs, level_blocks, second_arrays, levels_at, frame_at}
+use Rattle.bfs_stream.specs.Told.{contents, AreTold}
+use Rattle.bfs_stream.specs.Grown.{table_runs, HasBitIn}
+use Rattle.bfs_stream.specs.Trimmed.{Gave}
 use Rattle.bfs_stream.specs.declared.grow.TheConstants.{NO_RUN}
-use Rattle.bfs_stream.specs.declared.lookup.Ends.{Ends}
-use Rattle.bfs_stream.proofs.Arrays.{read_is, length-flat}
-use Rattle.bfs_stream.proofs.Levels.{length-counted}
-use Rattle.bfs_stream.proofs.Placed.{told_inode, length-places, ends_are, AreEnds}
-use Rattle.bfs_stream.proofs.Doubles.{times-append, length-used}
-use Rattle.bfs_stream.proofs.Listed.{double_long, some_array}
-use Rattle.bfs_stream.proofs.CutsIndirect.{nothing_second, no_second}
+use Rattle.bfs_stream.proofs.Doubles.{times-append}
 use Rattle.bfs_stream.proofs.CutsBelow.{frame_has}
-use Rattle.bfs_stream.proofs.CutTwice.{may_fewer}
-use Rattle.bfs_stream.proofs.Frames.{has_first, has_left, has_rest}
-use Rattle.bfs_stream.proofs.AddsIndirect.{in_arrays}
-use Rattle.bfs_stream.proofs.AddsArray.{same_map}
-use Rattle.bfs_stream.proofs.Writes.{wrote_none, wrote_bits, wrote_first, wrote_behind, wrote_four}
-use Rattle.bfs_stream.proofs.Gives.{gave_owns, gave_levels, gave_more, gave_frame}
-use Rattle.bfs_stream.proofs.Handed.{take_all, tables_stay, array_stays, array_told, inside_stays, gave_as, length-drop}
-use Rattle.bfs_stream.proofs.Drops.{blocks_split, length-take, ended}
-use Rattle.bfs_stream.proofs.Dropping.{double_dropped, indirect_dropped, tables_dropped, inode_put_told}
+use Rattle.bfs_stream.proofs.Writes.{wrote_bits, wrote_first, wrote_behind, wrote_four, IsBitBlockOf, part_bits}
+use Rattle.bfs_stream.proofs.Gives.{gave_owns, gave_more}
+use Rattle.bfs_stream.proofs.Handed.{take_all, array_stays, array_told, inside_stays, gave_as, length-drop}
+use Rattle.bfs_stream.proofs.Dropping.{tables_dropped, inode_put_told}
 use Rattle.bfs_stream.proofs.Lasts.{gone_long, reach_is, size_is, spare_is}
+use Rattle.bfs_stream.proofs.Frames.{has_left, has_right}
 use Rattle.bfs_stream.proofs.stream.Stream.drop_tables.Goals as goal
 
 on_ok : {P Q : Type 0} (r : Result (Unit {0}) BlockFault) → (P → Q) → OnOk r P → OnOk r Q
@@ -99,10 +84,13 @@ returns-in-Ok-put_double_range-clause-trimmed g c m is owns are most may few spa
     let c4 = g.E.Blocks.changed c.put_double_range.new.edits in
     let ws : List ℕ = o.id ∷ run_blocks s t.array in
     let done = tables_dropped o v b2 hand m told2 owns all rest2 NO_RUN refl told3 told4 t.array are.0 keep n reach fewer put wrote n_is hand_is reach_end size c0 c4
-    (wrote_four v c0 c1 c2 c3 c4 ws (wrote_bits v c0 c1 ws c.in-Ok.ensures.changed)
-    (wrote_bits v c1 c2 ws (λ k e. subst (λ (x : Room). (c1 k ≡ true) ⊎ IsBitmapBlock x k) rest1 (c.in-Ok-give_listed.ensures.changed k e)))
-    (wrote_behind v c2 c3 o.id (run_blocks s t.array) c.in-Ok-put_in_array.ensures.written)
-    (wrote_first v c3 c4 o.id (run_blocks s t.array) c.in-Ok-put_double_range.ensures.written)) in (
+    (wrote_four (IsBitBlockOf v hand) c0 c1 c2 c3 c4 ws (wrote_bits (IsBitBlockOf v hand) c0 c1 ws
+    (part_bits v (blocks_of s (drop n (used_runs (table_runs s (contents m) t.array)))) hand c0 c1 (λ k has. has_left runs_gone tables_gone k (subst (λ (x : List Run). Has (blocks_of s (drop n (used_runs x))) k) runs_is has)) c.in-Ok.ensures.changed (c.in-Ok.ensures.bits m is owns are)))
+    (wrote_bits (IsBitBlockOf v hand) c1 c2 ws
+    (part_bits v (blocks_of s (take (t.listed - keep) (drop keep (used_runs (array_runs s (contents one.map) t.array))))) hand c1 c2 (λ k has. has_right runs_gone tables_gone k (subst (λ (x : List ℕ). Has x k) (ap (blocks_of s) whole) has)) (λ k e. subst (λ (x : Room). (c1 k ≡ true) ⊎ IsBitmapBlock x k) rest1 (c.in-Ok-give_listed.ensures.changed k e))
+    (λ k e. subst (λ (x : Room). (c1 k ≡ true) ⊎ HasBitIn x (Has (blocks_of s (take (t.listed - keep) (drop keep (used_runs (array_runs s (contents one.map) t.array)))))) k) rest1 (c.in-Ok-give_listed.ensures.bits one.map one.is own1 inside1 (omega (arith, long1, below)) k e))))
+    (wrote_behind (IsBitBlockOf v hand) c2 c3 o.id (run_blocks s t.array) c.in-Ok-put_in_array.ensures.written)
+    (wrote_first (IsBitBlockOf v hand) c3 c4 o.id (run_blocks s t.array) c.in-Ok-put_double_range.ensures.written)) in (
       (runs_gone, gone_long o v m owns t.used n keep most used fewer n_is few spare ∙ sym gone_is, done.0),
       spare_is o v m owns t.used n keep most used fewer n_is few spare b2 told4 c0 c4 done.0 NO_RUN _ reach taken refl done.2 gone_is,
     )

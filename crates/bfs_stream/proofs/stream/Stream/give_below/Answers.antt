@@ -1,20 +1,19 @@
-use Rattle.std.proofs.Common.{◌≡◌, ◌≤◌, ◌<◌, ◌+◌, ◌-◌, ◌∙◌, ◌⊎◌, inl, inr, suc, true, false, ℕ, Bool, List, [], ◌++◌, Option, Some, length, take, drop, refl, sym, ap, subst, arith}
+use Rattle.std.proofs.Common.{◌≡◌, ◌≤◌, ◌+◌, ◌-◌, ◌∙◌, ◌⊎◌, inl, inr, true, ℕ, Bool, List, Some, length, take, drop, refl, sym, ap, subst, arith}
 use Rattle.std.specs.Prelude.{slice_get}
 use Rattle.bfs_bytes.specs.declared.Run.{Run}
-use Rattle.bfs_bitmap.specs.Runs.{Room, Fits}
+use Rattle.bfs_bitmap.specs.Runs.{Room}
 use Rattle.bfs_bitmap.specs.Fills.{IsBitmapBlock}
 use Rattle.bfs_stream.specs.Sizes.{IsWhole}
-use Rattle.bfs_stream.specs.Places.{blocks_of, used_runs, array_runs, run_blocks}
+use Rattle.bfs_stream.specs.Places.{blocks_of, used_runs, run_blocks}
 use Rattle.bfs_stream.specs.Told.{contents}
-use Rattle.bfs_stream.specs.Grown.{IsOfVolume, table_runs}
-use Rattle.bfs_stream.specs.Trimmed.{Gave}
+use Rattle.bfs_stream.specs.Grown.{IsOfVolume, table_runs, HasBitIn}
 use Rattle.bfs_stream.proofs.Arrays.{later_twice}
 use Rattle.bfs_stream.proofs.Doubles.{all_at, length-used}
-use Rattle.bfs_stream.proofs.Shorter.{used_some}
-use Rattle.bfs_stream.proofs.Writes.{later_none}
+use Rattle.bfs_stream.proofs.Writes.{later_none, bits_more}
 use Rattle.bfs_stream.proofs.CutsBelow.{has_tables, all_whole}
 use Rattle.bfs_stream.proofs.Gives.{gave_none, gave_more, gave_owns}
-use Rattle.bfs_stream.proofs.Handed.{next_blocks, used_run, take_all, length-drop, array_stays, array_told, table_runs_stay, tables_stay, gave_as}
+use Rattle.bfs_stream.proofs.Handed.{next_blocks, used_run, take_all, length-drop, table_runs_stay, tables_stay, gave_as}
+use Rattle.bfs_base.specs.Lists.{Has}
 use Rattle.bfs_stream.proofs.stream.Stream.give_below.Goals as goal
 
 bits_again : (v now : Room) (a b c : ℕ → Bool) → now ≡ record v { given = now.given; tally = now.tally } → ((k : ℕ) → b k ≡ true → (a k ≡ true) ⊎ IsBitmapBlock v k) → ((k : ℕ) → c k ≡ true → (b k ≡ true) ⊎ IsBitmapBlock now k) → (k : ℕ) → c k ≡ true → (a k ≡ true) ⊎ IsBitmapBlock v k
@@ -38,6 +37,8 @@ loop-i-init g c = record {
   gave = λ m is owns are.
       let none : c.args.from - c.args.from ≡ 0 = omega arith in
       gave_as c.args.bitmap.now c.args.bitmap.now _ _ m (g.E.Blocks.told c.args.edits.now) (sym (ap (λ (n : ℕ). blocks_of c.args.self.now.sizes (take n (drop c.args.from (used_runs (table_runs c.args.self.now.sizes (contents m) c.args.tables.array))))) none)) (gave_none c.args.bitmap.now m (g.E.Blocks.told c.args.edits.now) owns.fits is);
+  bits = λ m is owns are k e. inl e;
+  stays = λ k t. t;
 }
 
 pub loop-i-preserved : goal.loop-i-preserved
@@ -80,6 +81,27 @@ loop-i-preserved g c =
           let more = c.in-Ok-give.ensures.gave so_far.map (c.in-Ok.ensures.told ∙ so_far.is) so_far.fits in
           gave_as v c.give.new.bitmap _ _ m (g.E.Blocks.told c.give.new.edits) (sym (next_blocks s runs from (i - from) (i + 1 - from) c.in-Ok.run' (omega (arith, least)) (omega (arith, least, below, used)) found))
           (gave_more v c.loop-i.bitmap c.give.new.bitmap xs (run_blocks s c.in-Ok.run') m told0 (g.E.Blocks.told c.give.new.edits) so_far c.loop-i.invariant.rest more);
+      bits = λ m is owns are.
+          let so_far = c.loop-i.invariant.gave m is owns are in
+          let from = c.args.from in
+          let runs = table_runs s (contents m) c.args.tables.array in
+          let xs = blocks_of s (take (i - from) (drop from (used_runs runs))) in
+          let told0 = g.E.Blocks.told c.loop-i.edits in
+          let below = c.loop-i-test.true in
+          let least = c.loop-i.invariant.low in
+          let used = are.2 in
+          let le = length-used runs in
+          let own = gave_owns o v c.loop-i.bitmap xs m told0 owns so_far c.loop-i.invariant.rest in
+          let still = tables_stay o v c.loop-i.bitmap xs m told0 owns so_far c.loop-i.invariant.rest c.args.tables are in
+          let same = table_runs_stay o v c.loop-i.bitmap xs m told0 owns so_far c.loop-i.invariant.rest c.args.tables.array are.0 in
+          let long : length (table_runs s (contents so_far.map) c.args.tables.array) ≡ length runs = ap length same in
+          let found : slice_get runs (from + (i - from)) ≡ Some c.in-Ok.run' =
+          (let e : from + (i - from) ≡ i = omega (arith, least) in ap (slice_get runs) e)
+          ∙ ap (λ (l : List Run). slice_get l i) (sym same)
+          ∙ c.in-Ok.ensures.found so_far.map so_far.is (has_tables o c.loop-i.bitmap c.args.tables.array so_far.map own still.0) (omega (arith, below, used, le, long)) in
+          bits_more v c.loop-i.bitmap xs (run_blocks s c.in-Ok.run') _ (g.E.Blocks.changed c.args.edits.now) (g.E.Blocks.changed c.loop-i.edits) (g.E.Blocks.changed c.give.new.edits) c.loop-i.invariant.rest (sym (next_blocks s runs from (i - from) (i + 1 - from) c.in-Ok.run' (omega (arith, least)) (omega (arith, least, below, used)) found))
+          (c.loop-i.invariant.bits m is owns are) (λ k e. subst (λ (f : ℕ → Bool). (f k ≡ true) ⊎ HasBitIn c.loop-i.bitmap (Has (run_blocks s c.in-Ok.run')) k) c.in-Ok.ensures.changed (c.in-Ok-give.ensures.bits k e));
+      stays = λ k t. c.in-Ok-give.ensures.stays k (subst (λ (f : ℕ → Bool). f k ≡ true) (sym c.in-Ok.ensures.changed) (c.loop-i.invariant.stays k t));
     }
 
 pub returns-clause-gave : goal.returns-clause-gave
@@ -110,3 +132,22 @@ returns-in-Err-clause-sound g c m is owns are =
     let at = used_run (table_runs s (contents so_far.map) c.args.tables.array) i (omega (arith, below, used)) in
     c.in-Err.ensures.sound so_far.map so_far.is (has_tables o c.loop-i.bitmap c.args.tables.array so_far.map own still.0) at.0 at.1
     (all_at (IsWhole s) (used_runs (table_runs s (contents so_far.map) c.args.tables.array)) i at.0 (all_whole o c.loop-i.bitmap c.args.tables.array so_far.map own still.0) at.2)
+
+pub returns-clause-stays : goal.returns-clause-stays
+returns-clause-stays g c = c.loop-i.invariant.stays
+
+pub returns-in-Err-clause-stays : goal.returns-in-Err-clause-stays
+returns-in-Err-clause-stays g c k t = subst (λ (f : ℕ → Bool). f k ≡ true) (sym c.in-Err.ensures.changed) (c.loop-i.invariant.stays k t)
+
+pub returns-in-Err-give-clause-stays : goal.returns-in-Err-give-clause-stays
+returns-in-Err-give-clause-stays g c k t = c.in-Err-give.ensures.stays k (subst (λ (f : ℕ → Bool). f k ≡ true) (sym c.in-Ok.ensures.changed) (c.loop-i.invariant.stays k t))
+
+pub returns-clause-bits : goal.returns-clause-bits
+returns-clause-bits g c m is owns are k e =
+    let s = c.args.self.now.sizes in
+    let runs = used_runs (table_runs s (contents m) c.args.tables.array) in
+    let from = c.args.from in
+    let low = c.loop-i-test.false in
+    let used = are.2 in
+    let long = length-drop runs from in
+    subst (λ (l : List Run). (g.E.Blocks.changed c.args.edits.now k ≡ true) ⊎ HasBitIn c.args.bitmap.now (Has (blocks_of s l)) k) (take_all (drop from runs) (c.loop-i.i - from) (omega (arith, long, low, used))) (c.loop-i.invariant.bits m is owns are k e)

@@ -1,11 +1,13 @@
 use Rattle.std.proofs.Common.{◌≡◌, ◌≤◌, ◌-◌, ◌⊎◌, true, ℕ, List, [], Option, Some, length, take, drop}
 use Rattle.bfs_txn.specs.Faults.{AreLater}
+use Rattle.bfs_txn.specs.Told.{StaysChanged}
 use Rattle.bfs_bitmap.specs.Runs.{as_kept}
 use Rattle.bfs_bitmap.specs.Fills.{IsBitmapBlock}
 use Rattle.bfs_stream.specs.Places.{blocks_of, used_runs}
 use Rattle.bfs_stream.specs.Told.{contents}
-use Rattle.bfs_stream.specs.Grown.{IsOfVolume, Owns, AreTables, table_runs}
+use Rattle.bfs_stream.specs.Grown.{IsOfVolume, Owns, AreTables, table_runs, HasBitIn}
 use Rattle.bfs_stream.specs.Trimmed.{Gave}
+use Rattle.bfs_base.specs.Lists.{Has}
 use Rattle.bfs_stream.proofs.stream.Stream.give_below.Given as goal
 
 abbrev pub invariant-loop-i : goal.invariant-loop-i
@@ -20,4 +22,6 @@ invariant-loop-i g l = record {
   later : AreLater (g.E.Blocks.counts l.fn.edits) (g.E.Blocks.counts l.edits);
   changed : (k : ℕ) → g.E.Blocks.changed l.edits k ≡ true → (g.E.Blocks.changed l.fn.edits k ≡ true) ⊎ IsBitmapBlock l.fn.bitmap k;
   gave : (m : ℕ → Option (List ℕ)) → g.E.Blocks.told l.fn.edits ≡ Some m → Owns l.self l.fn.bitmap [] m → AreTables l.self m l.fn.tables → Gave l.fn.bitmap l.bitmap (blocks_of l.self.sizes (take (l.i - l.fn.from) (drop l.fn.from (used_runs (table_runs l.self.sizes (contents m) l.fn.tables.array))))) m (g.E.Blocks.told l.edits);
+  bits : (m : ℕ → Option (List ℕ)) → g.E.Blocks.told l.fn.edits ≡ Some m → Owns l.self l.fn.bitmap [] m → AreTables l.self m l.fn.tables → (k : ℕ) → g.E.Blocks.changed l.edits k ≡ true → (g.E.Blocks.changed l.fn.edits k ≡ true) ⊎ HasBitIn l.fn.bitmap (Has (blocks_of l.self.sizes (take (l.i - l.fn.from) (drop l.fn.from (used_runs (table_runs l.self.sizes (contents m) l.fn.tables.array)))))) k;
+  stays : StaysChanged (g.E.Blocks.changed l.fn.edits) (g.E.Blocks.changed l.edits);
 }

@@ -1,20 +1,19 @@
-use Rattle.std.proofs.Common.{◌≡◌, ◌≤◌, ◌<◌, ◌+◌, ◌-◌, ◌∙◌, ◌⊎◌, inl, inr, suc, true, false, ℕ, Bool, List, [], ◌++◌, Option, Some, length, take, drop, refl, sym, ap, subst, arith}
+use Rattle.std.proofs.Common.{◌≡◌, ◌+◌, ◌∙◌, ◌⊎◌, inl, inr, true, false, ℕ, Bool, List, Some, take, drop, refl, sym, ap, subst, arith}
 use Rattle.std.specs.Prelude.{slice_get}
 use Rattle.bfs_bytes.specs.declared.Run.{Run}
-use Rattle.bfs_bitmap.specs.Runs.{Room, Fits}
+use Rattle.bfs_bitmap.specs.Runs.{Room}
 use Rattle.bfs_bitmap.specs.Fills.{IsBitmapBlock}
 use Rattle.bfs_stream.specs.Sizes.{IsInVolume}
 use Rattle.bfs_stream.specs.Places.{blocks_of, used_runs, array_runs, run_blocks}
 use Rattle.bfs_stream.specs.Told.{contents}
-use Rattle.bfs_stream.specs.Grown.{IsOfVolume, table_runs}
-use Rattle.bfs_stream.specs.Trimmed.{Gave}
+use Rattle.bfs_stream.specs.Grown.{IsOfVolume, HasBitIn}
 use Rattle.bfs_stream.proofs.Arrays.{later_twice}
-use Rattle.bfs_stream.proofs.Doubles.{all_at, length-used}
+use Rattle.bfs_stream.proofs.Doubles.{all_at}
 use Rattle.bfs_stream.proofs.Shorter.{used_some}
-use Rattle.bfs_stream.proofs.Writes.{later_none}
-use Rattle.bfs_stream.proofs.CutsBelow.{has_tables}
-use Rattle.bfs_stream.proofs.Gives.{gave_none, gave_more, gave_owns}
-use Rattle.bfs_stream.proofs.Handed.{next_blocks, used_at_place, take_all, length-drop, array_stays, array_told, table_runs_stay, tables_stay, gave_as}
+use Rattle.bfs_stream.proofs.Writes.{later_none, bits_more}
+use Rattle.bfs_stream.proofs.Gives.{gave_none, gave_more}
+use Rattle.bfs_stream.proofs.Handed.{next_blocks, used_at_place, array_stays, array_told, gave_as}
+use Rattle.bfs_base.specs.Lists.{Has}
 use Rattle.bfs_stream.proofs.stream.Stream.give_listed.Goals as goal
 
 bits_again : (v now : Room) (a b c : ℕ → Bool) → now ≡ record v { given = now.given; tally = now.tally } → ((k : ℕ) → b k ≡ true → (a k ≡ true) ⊎ IsBitmapBlock v k) → ((k : ℕ) → c k ≡ true → (b k ≡ true) ⊎ IsBitmapBlock now k) → (k : ℕ) → c k ≡ true → (a k ≡ true) ⊎ IsBitmapBlock v k
@@ -35,6 +34,8 @@ loop-i-init g c = record {
   later = later_none (g.E.Blocks.counts c.args.edits.now);
   changed = λ k e. inl e;
   gave = λ m is owns inside few. gave_none c.args.bitmap.now m (g.E.Blocks.told c.args.edits.now) owns.fits is;
+  bits = λ m is owns inside few k e. inl e;
+  stays = λ k t. t;
 }
 
 pub loop-i-preserved : goal.loop-i-preserved
@@ -66,6 +67,17 @@ loop-i-preserved g c =
           let more = c.in-Ok-give.ensures.gave so_far.map (c.in-Ok.ensures.told ∙ so_far.is) so_far.fits in
           gave_as v c.give.new.bitmap _ _ m (g.E.Blocks.told c.give.new.edits) (sym (next_blocks s (array_runs s (contents m) c.args.array) c.args.from i (i + 1) c.in-Ok.run' (omega arith) (omega (arith, few, low)) found))
           (gave_more v c.loop-i.bitmap c.give.new.bitmap xs (run_blocks s c.in-Ok.run') m told0 (g.E.Blocks.told c.give.new.edits) so_far c.loop-i.invariant.rest more);
+      bits = λ m is owns inside few.
+          let so_far = c.loop-i.invariant.gave m is owns inside few in
+          let xs = blocks_of s (take i (drop c.args.from (used_runs (array_runs s (contents m) c.args.array)))) in
+          let told0 = g.E.Blocks.told c.loop-i.edits in
+          let low = c.loop-i-test.true in
+          let found : slice_get (array_runs s (contents m) c.args.array) (c.args.from + i) ≡ Some c.in-Ok.run' =
+          ap (λ (l : List Run). slice_get l (c.args.from + i)) (sym (array_stays o v c.loop-i.bitmap xs m told0 owns so_far c.loop-i.invariant.rest c.args.array inside))
+          ∙ c.in-Ok.ensures.found so_far.map so_far.is (array_told o v c.loop-i.bitmap xs m told0 owns so_far c.loop-i.invariant.rest c.args.array inside) in
+          bits_more v c.loop-i.bitmap xs (run_blocks s c.in-Ok.run') _ (g.E.Blocks.changed c.args.edits.now) (g.E.Blocks.changed c.loop-i.edits) (g.E.Blocks.changed c.give.new.edits) c.loop-i.invariant.rest (sym (next_blocks s (array_runs s (contents m) c.args.array) c.args.from i (i + 1) c.in-Ok.run' (omega arith) (omega (arith, few, low)) found))
+          (c.loop-i.invariant.bits m is owns inside few) (λ k e. subst (λ (f : ℕ → Bool). (f k ≡ true) ⊎ HasBitIn c.loop-i.bitmap (Has (run_blocks s c.in-Ok.run')) k) c.in-Ok.ensures.changed (c.in-Ok-give.ensures.bits k e));
+      stays = λ k t. c.in-Ok-give.ensures.stays k (subst (λ (f : ℕ → Bool). f k ≡ true) (sym c.in-Ok.ensures.changed) (c.loop-i.invariant.stays k t));
     }
 
 pub returns-clause-gave : goal.returns-clause-gave
@@ -91,3 +103,20 @@ returns-then-not-is_used-clause-sound g c m is owns inside few all t =
     ∙ c.in-Ok.ensures.found so_far.map so_far.is (array_told o v c.loop-i.bitmap xs m told0 owns so_far c.loop-i.invariant.rest c.args.array inside) in
     let used = used_at_place (array_runs s (contents m) c.args.array) (c.args.from + i) c.in-Ok.run' (omega (arith, few, low)) found in
     let bad : false ≡ true = c.if-not-is_used.ensures.1 (used_some (array_runs s (contents m) c.args.array) (c.args.from + i) c.in-Ok.run' used, all_at (IsInVolume s) (used_runs (array_runs s (contents m) c.args.array)) (c.args.from + i) c.in-Ok.run' all used) in cc
+
+pub returns-clause-stays : goal.returns-clause-stays
+returns-clause-stays g c = c.loop-i.invariant.stays
+
+pub returns-in-Err-clause-stays : goal.returns-in-Err-clause-stays
+returns-in-Err-clause-stays g c k t = subst (λ (f : ℕ → Bool). f k ≡ true) (sym c.in-Err.ensures.changed) (c.loop-i.invariant.stays k t)
+
+pub returns-in-Err-give-clause-stays : goal.returns-in-Err-give-clause-stays
+returns-in-Err-give-clause-stays g c k t = c.in-Err-give.ensures.stays k (subst (λ (f : ℕ → Bool). f k ≡ true) (sym c.in-Ok.ensures.changed) (c.loop-i.invariant.stays k t))
+
+pub returns-clause-bits : goal.returns-clause-bits
+returns-clause-bits g c m is owns inside few k e =
+    let s = c.args.self.now.sizes in
+    let high = c.loop-i.auto.i-end in
+    let low = c.loop-i-test.false in
+    let end : c.loop-i.i ≡ c.args.count = omega (arith, high, low) in
+    subst (λ (n : ℕ). (g.E.Blocks.changed c.args.edits.now k ≡ true) ⊎ HasBitIn c.args.bitmap.now (Has (blocks_of s (take n (drop c.args.from (used_runs (array_runs s (contents m) c.args.array)))))) k) end (c.loop-i.invariant.bits m is owns inside few k e)

@@ -1,6 +1,6 @@
 use Rattle.std.proofs.Common.{[], ◌∷◌, inr, refl, arith}
 use Rattle.bfs_stream.proofs.AddsArray.{inode_told, opened, ready}
-use Rattle.bfs_stream.proofs.Writes.{wrote_bits, wrote_first, wrote_behind, wrote_thrice}
+use Rattle.bfs_stream.proofs.Writes.{wrote_bits, wrote_first, wrote_behind, wrote_thrice, IsBitBlockOf, all_bits}
 use Rattle.bfs_stream.specs.Places.{run_blocks}
 use Rattle.bfs_stream.proofs.Stops.{step_none}
 use Rattle.bfs_stream.proofs.stream.Stream.open_indirect.Goals as goal
@@ -17,10 +17,12 @@ returns-in-Ok-put_indirect-clause-grown g c m is owns full empty =
       refl,
       opened o c.args.bitmap.now c.take.new.bitmap array m (g.E.Blocks.told c.take.new.edits) (g.E.Blocks.told c.clear_array.new.edits) (g.E.Blocks.told c.put_indirect.new.edits) owns took c.in-Ok.ensures.rest cleared
           wrote full empty c.in-Ok.ensures.inside (g.E.Blocks.changed c.args.edits.now) (g.E.Blocks.changed c.put_indirect.new.edits)
-          (wrote_thrice c.args.bitmap.now (g.E.Blocks.changed c.args.edits.now) (g.E.Blocks.changed c.take.new.edits) (g.E.Blocks.changed c.clear_array.new.edits) (g.E.Blocks.changed c.put_indirect.new.edits) (o.id ∷ run_blocks o.sizes array)
-          (wrote_bits c.args.bitmap.now (g.E.Blocks.changed c.args.edits.now) (g.E.Blocks.changed c.take.new.edits) (o.id ∷ run_blocks o.sizes array) c.in-Ok.ensures.changed)
-          (wrote_behind c.args.bitmap.now (g.E.Blocks.changed c.take.new.edits) (g.E.Blocks.changed c.clear_array.new.edits) o.id (run_blocks o.sizes array) c.in-Ok-clear_array.ensures.written)
-          (wrote_first c.args.bitmap.now (g.E.Blocks.changed c.clear_array.new.edits) (g.E.Blocks.changed c.put_indirect.new.edits) o.id (run_blocks o.sizes array) c.in-Ok-put_indirect.ensures.written)),
+          (wrote_thrice (IsBitBlockOf c.args.bitmap.now (run_blocks o.sizes array)) (g.E.Blocks.changed c.args.edits.now) (g.E.Blocks.changed c.take.new.edits) (g.E.Blocks.changed c.clear_array.new.edits) (g.E.Blocks.changed c.put_indirect.new.edits) (o.id ∷ run_blocks o.sizes array)
+          (wrote_bits (IsBitBlockOf c.args.bitmap.now (run_blocks o.sizes array)) (g.E.Blocks.changed c.args.edits.now) (g.E.Blocks.changed c.take.new.edits) (o.id ∷ run_blocks o.sizes array) (all_bits c.args.bitmap.now (run_blocks o.sizes array) (g.E.Blocks.changed c.args.edits.now) (g.E.Blocks.changed c.take.new.edits) c.in-Ok.ensures.changed c.in-Ok.ensures.bits))
+          (wrote_behind (IsBitBlockOf c.args.bitmap.now (run_blocks o.sizes array)) (g.E.Blocks.changed c.take.new.edits) (g.E.Blocks.changed c.clear_array.new.edits) o.id (run_blocks o.sizes array) c.in-Ok-clear_array.ensures.written)
+          (wrote_first (IsBitBlockOf c.args.bitmap.now (run_blocks o.sizes array)) (g.E.Blocks.changed c.clear_array.new.edits) (g.E.Blocks.changed c.put_indirect.new.edits) o.id (run_blocks o.sizes array) c.in-Ok-put_indirect.ensures.written))
+          (λ k t. c.in-Ok-put_indirect.ensures.stays k (c.in-Ok-clear_array.ensures.stays k (c.in-Ok.ensures.stays k t)))
+          (λ k has. c.in-Ok-put_indirect.ensures.stays k (c.in-Ok-clear_array.ensures.set k has)),
     )
 
 pub returns-in-Ok-put_indirect-clause-ready : goal.returns-in-Ok-put_indirect-clause-ready

@@ -3,7 +3,6 @@ use Rattle.std.specs.Option.{option_map}
 use Rattle.bfs_inode.specs.Inode.{Stream, stream_at}
 use Rattle.bfs_txn.specs.Told.{AreOfBlock, with_block}
 use Rattle.bfs_stream.specs.Sizes.{Origin}
-use Rattle.bfs_stream.specs.Told.{contents}
 use Rattle.bfs_stream.specs.Grown.{KeepsRest}
 use Rattle.bfs_stream.specs.declared.grow.TheConstants.{NO_RUN}
 use Rattle.bfs_stream.proofs.Arrays.{read_is}

@@ -31,6 +31,7 @@ loop-at-preserved g c = record {
   frame = c.in-Ok-true.ensures.frame ∙ c.loop-at.invariant.frame;
   later = search rules;
   changed = λ k e. by_side k (c.in-Ok-true.ensures.changed k e);
+  stays = λ k is. c.in-Ok-true.ensures.stays k (c.loop-at.invariant.stays k is);
   low = let low = c.loop-at.invariant.low in omega (arith, low);
   told = λ m is stands once told.
       let o = c.args.self.now in

@@ -4,14 +4,14 @@ use Rattle.bfs_stream.specs.Sizes.{Origin}
 use Rattle.bfs_stream_pages.specs.Held.{Held, known, stream_of}
 use Rattle.bfs_stream_pages.specs.Goes.{HasMoved}
 use Rattle.bfs_stream_pages.specs.GoesLaws.{goes_same}
-use Rattle.bfs_stream_pages.proofs.Paged.{goes_quiet, goes_failed, none_failed, now_failed, memory_page, has_cause, goes_lost, now_moved, now_held, now_tells, now_told}
+use Rattle.bfs_stream_pages.proofs.Paged.{failed_block, memory_block, open_block, goes_quiet, goes_failed, none_failed, now_failed, memory_page, has_cause, goes_lost, now_moved, now_held, now_tells, now_told}
 use Rattle.bfs_stream_pages.proofs.pages.StreamPagesPages.append.Goals as goal
 
 pub returns-in-Err-clause-goes_on : goal.returns-in-Err-clause-goes_on
-returns-in-Err-clause-goes_on g c = let s = c.args.self.now in (refl, refl, goes_same s.backing s.bitmap.now s.length (known s.failed (g.E.Blocks.told s.start.value) (g.E.Blocks.told s.edits.now)) s.failed (g.E.Blocks.changed s.edits.now) (g.E.Blocks.counts s.edits.now))
+returns-in-Err-clause-goes_on g c = let s = c.args.self.now in (refl, refl, goes_same s.backing s.bitmap.now s.length (known s.failed (g.E.Blocks.told s.start.value) (g.E.Blocks.told s.edits.now)) s.failed (g.E.Blocks.changed s.edits.now) (g.E.Blocks.counts s.edits.now), refl)
 
 pub returns-in-Err-clause-cause : goal.returns-in-Err-clause-cause
-returns-in-Err-clause-cause g c = let s = c.args.self.now in goes_failed s.backing s.bitmap.now s.length (known s.failed (g.E.Blocks.told s.start.value) (g.E.Blocks.told s.edits.now)) s.failed (g.E.Blocks.counts s.edits.now) c.in-Err.fault c.in-Err.ensures.again
+returns-in-Err-clause-cause g c = let s = c.args.self.now in (goes_failed s.backing s.bitmap.now s.length (known s.failed (g.E.Blocks.told s.start.value) (g.E.Blocks.told s.edits.now)) s.failed (g.E.Blocks.counts s.edits.now) c.in-Err.fault c.in-Err.ensures.again, failed_block s.fixed s.failed c.in-Err.fault s.unfailed c.in-Err.ensures.again)
 
 pub returns-in_default-clause-goes_on : goal.returns-in_default-clause-goes_on
 returns-in_default-clause-goes_on g c =
@@ -20,10 +20,11 @@ returns-in_default-clause-goes_on g c =
       refl,
       goes_quiet s.backing s.bitmap.now s.length s.failed (g.E.Blocks.told s.start.value) (g.E.Blocks.told s.edits.now) (g.E.Blocks.told s.edits.now) (g.E.Blocks.changed s.edits.now) (g.E.Blocks.changed s.edits.now) (g.E.Blocks.counts s.edits.now) (g.E.Blocks.counts s.edits.now) c.in-Ok.ensures.none refl refl
           (record { faults = omega arith; stops = refl; stop = refl }),
+      refl,
     )
 
 pub returns-in_default-clause-cause : goal.returns-in_default-clause-cause
-returns-in_default-clause-cause g c = let s = c.args.self.now in memory_page s.backing s.bitmap.now s.length s.failed (g.E.Blocks.told s.start.value) (g.E.Blocks.told s.edits.now) (g.E.Blocks.counts s.edits.now) _ c.in-Ok.ensures.none refl
+returns-in_default-clause-cause g c = let s = c.args.self.now in (memory_page s.backing s.bitmap.now s.length s.failed (g.E.Blocks.told s.start.value) (g.E.Blocks.told s.edits.now) (g.E.Blocks.counts s.edits.now) _ c.in-Ok.ensures.none refl, λ is. tt)
 
 pub returns-in-Err-buffer-clause-goes_on : goal.returns-in-Err-buffer-clause-goes_on
 returns-in-Err-buffer-clause-goes_on g c =
@@ -32,10 +33,11 @@ returns-in-Err-buffer-clause-goes_on g c =
       refl,
       goes_quiet s.backing s.bitmap.now s.length s.failed (g.E.Blocks.told s.start.value) (g.E.Blocks.told s.edits.now) (g.E.Blocks.told s.edits.now) (g.E.Blocks.changed s.edits.now) (g.E.Blocks.changed s.edits.now) (g.E.Blocks.counts s.edits.now) (g.E.Blocks.counts s.edits.now) c.in-Ok.ensures.none refl refl
           (record { faults = omega arith; stops = refl; stop = refl }),
+      refl,
     )
 
 pub returns-in-Err-buffer-clause-cause : goal.returns-in-Err-buffer-clause-cause
-returns-in-Err-buffer-clause-cause g c = let s = c.args.self.now in memory_page s.backing s.bitmap.now s.length s.failed (g.E.Blocks.told s.start.value) (g.E.Blocks.told s.edits.now) (g.E.Blocks.counts s.edits.now) c.in-Err-buffer.fault c.in-Ok.ensures.none c.in-Err-buffer.ensures.fault
+returns-in-Err-buffer-clause-cause g c = let s = c.args.self.now in (memory_page s.backing s.bitmap.now s.length s.failed (g.E.Blocks.told s.start.value) (g.E.Blocks.told s.edits.now) (g.E.Blocks.counts s.edits.now) c.in-Err-buffer.fault c.in-Ok.ensures.none c.in-Err-buffer.ensures.fault, λ is. memory_block c.in-Err-buffer.fault c.in-Err-buffer.ensures.fault)
 
 pub returns-in-Err-add_page-clause-goes_on : goal.returns-in-Err-add_page-clause-goes_on
 returns-in-Err-add_page-clause-goes_on g c =
@@ -47,14 +49,16 @@ returns-in-Err-add_page-clause-goes_on g c =
         moved = goes_lost s.backing s.bitmap.now c.add_page.new.bitmap s.length (known s.failed (g.E.Blocks.told s.start.value) (g.E.Blocks.told s.edits.now)) (g.E.Blocks.changed s.edits.now) (g.E.Blocks.changed c.add_page.new.edits) c.in-Err-add_page.fault;
         fault = now_failed s.backing s.bitmap.now s.length s.failed (g.E.Blocks.told s.start.value) (g.E.Blocks.told s.edits.now) (g.E.Blocks.counts s.edits.now) (g.E.Blocks.counts c.add_page.new.edits) c.in-Err-add_page.fault c.in-Ok.ensures.none c.in-Err-add_page.ensures.cause c.in-Err-add_page.ensures.faults;
         changed = c.add_page.ensures.changed;
+        stays = c.add_page.ensures.stays;
         later = c.add_page.ensures.later;
       },
+      refl,
     )
 
 pub returns-in-Err-add_page-clause-cause : goal.returns-in-Err-add_page-clause-cause
 returns-in-Err-add_page-clause-cause g c =
     let s = c.args.self.now in
-    has_cause s.backing s.bitmap.now s.length s.failed (g.E.Blocks.told s.start.value) (g.E.Blocks.told s.edits.now) (g.E.Blocks.counts s.edits.now) (g.E.Blocks.counts c.add_page.new.edits) c.in-Err-add_page.fault c.in-Ok.ensures.none c.in-Err-add_page.ensures.cause c.in-Err-add_page.ensures.faults
+    (has_cause s.backing s.bitmap.now s.length s.failed (g.E.Blocks.told s.start.value) (g.E.Blocks.told s.edits.now) (g.E.Blocks.counts s.edits.now) (g.E.Blocks.counts c.add_page.new.edits) c.in-Err-add_page.fault c.in-Ok.ensures.none c.in-Err-add_page.ensures.cause c.in-Err-add_page.ensures.faults, λ is. open_block s.fixed c.in-Err-add_page.fault c.in-Some.ensures.2 is)
 
 pub invariant_of-self-2-clause-tells : goal.invariant_of-self-2-clause-tells
 invariant_of-self-2-clause-tells g c =
@@ -89,6 +93,8 @@ returns-clause-goes_on g c =
             (λ m is h. (c.in-Ok-add_page.ensures.added m is h).comes));
         fault = none_failed s.backing s.bitmap.now s.length (known s.failed (g.E.Blocks.told s.start.value) (g.E.Blocks.told s.edits.now)) s.failed (g.E.Blocks.counts s.edits.now) (g.E.Blocks.counts c.add_page.new.edits) c.in-Ok.ensures.none;
         changed = c.add_page.ensures.changed;
+        stays = c.add_page.ensures.stays;
         later = c.add_page.ensures.later;
       },
+      refl,
     )

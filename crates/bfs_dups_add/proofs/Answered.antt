@@ -5,12 +5,12 @@ use Rattle.bfs_base.specs.declared.kind.KeyKind.{KeyKind}
 use Rattle.bfs_node.specs.Page.{Row, rows_of, row_in, value_of}
 use Rattle.bfs_pages.specs.Order.{Key}
 use Rattle.bfs_pages.specs.Shapes.{Shape, Shapes, leaf_shape, node_shape, last_shape, more_shapes, Body, leaf_body, tree_rows, trees_rows, leaves_of, leaves_all, Stands, StandAll}
-use Rattle.bfs_pages.specs.Trees.{page_in, state_of, IsTree}
+use Rattle.bfs_pages.specs.Trees.{page_in, neighbours_in, state_of, IsTree}
 use Rattle.bfs_values.specs.declared.link.Link.{Link}
 use Rattle.bfs_values.specs.declared.link.Link.TheVariants.{Number, Fragment, Chain}
 use Rattle.bfs_values.specs.Links.{link_in}
 use Rattle.bfs_values.specs.Values.{IsFragment, page_count, chain_of, numbers_of_pages, AreDuplicates, in_order, placed, HasNumbers, numbers_in, HasValues, values_in}
-use Rattle.bfs_values.specs.Chained.{Chained}
+use Rattle.bfs_values.specs.Chained.{Chained, IsLinked}
 use Rattle.bfs_dups_add.specs.Rooms.{IsRoom}
 use Rattle.bfs_dups_add.specs.declared.scan.Room.{Room}
 use Rattle.bfs_values.specs.Stored.{Stored, SameNumbers, IsRevalued, with_number}
@@ -102,6 +102,13 @@ eighth kind b m c t front key back value new p i q wide numbers s e new_is wb wm
     let f = vacated kind b m t front (key, value) back p i 0 s e wb v in
     let r = raised kind m c t (front ++ back) 0 q wide numbers f.0 wm put last in
     revalued kind b c t front key back new (Chain q) numbers numbers new_is r.0 (same-both b m c (front ++ back) f.1 r.1) r.2 refl
+
+-- and its first page has no neighbours
+pub eighth-linked : (kind : KeyKind) (b m c : List ℕ) (t : Shape) (front : List Row) (key : Key) (back : List Row) (value : ℤ) (p i q : ℕ) (wide numbers : List ℕ) → Stored kind b t (front ++ ((key, value) ∷ back)) → link_in value ≡ Fragment p i → length b % 1024 ≡ 0 → length m % 1024 ≡ 0
+    → IsVacated b m p i → IsPut kind m c q wide → IsLast wide numbers → (neighbours_in wide).0 ≡ 0 → IsLinked c (Chain q)
+eighth-linked kind b m c t front key back value p i q wide numbers s e wb wm v put last left =
+    let f = vacated kind b m t front (key, value) back p i 0 s e wb v in
+    (raised kind m c t (front ++ back) 0 q wide numbers f.0 wm put last).3 left
 
 vacated-size : (b m : List ℕ) (p i : ℕ) → IsVacated b m p i → length m ≡ length b
 vacated-size b m p i (inl f) = f.set.size

@@ -1,5 +1,5 @@
 -- What calls that add and remove numbers come to.
-use Rattle.std.proofs.Common.{◌≡◌, ◌⊎◌, ◌≤◌, ◌<◌, ◌/◌, ◌%◌, ◌^◌, ℕ, ℤ, List, ◌∷◌, ◌++◌, length, Option, Some, Bool, true, false, cond, ◌==◌, inl, inr, ap, sym, ◌∙◌, subst, arith}
+use Rattle.std.proofs.Common.{◌≡◌, ◌⊎◌, ◌≤◌, ◌<◌, ◌/◌, ◌%◌, ◌^◌, ℕ, ℤ, List, ◌∷◌, ◌++◌, length, Option, Some, None, IfSome, Bool, true, false, cond, ◌==◌, inl, inr, ap, sym, ◌∙◌, subst, arith}
 use Rattle.std.specs.Int.{w64, cast_unsigned}
 use Rattle.bfs_base.specs.Lists.{times}
 use Rattle.bfs_base.specs.declared.kind.KeyKind.{KeyKind}
@@ -14,6 +14,7 @@ use Rattle.bfs_values.specs.declared.link.Link.{Link}
 use Rattle.bfs_values.specs.declared.link.Link.TheVariants.{Number, Fragment, Chain, Nothing}
 use Rattle.bfs_values.specs.Links.{link_in, link_by, page_bits}
 use Rattle.bfs_dups_add.specs.Slots.{SameBut}
+use Rattle.bfs_values.specs.Chained.{IsLinked}
 use Rattle.bfs_values.specs.Stored.{Stored, SameNumbers}
 use Rattle.bfs_dups_add.specs.Written.{IsCleared, IsEmptied, IsVacated}
 use Rattle.bfs_dups_add.proofs.Gained.{emptied}
@@ -22,6 +23,17 @@ use Rattle.bfs_dups_add.proofs.Slotted.{cleared}
 
 pub told-whole : (told : Option (List ℕ)) (size : ℕ) (b : List ℕ) → HasLength told size → size % 1024 ≡ 0 → told ≡ Some b → length b % 1024 ≡ 0
 told-whole told size b h w e = ap (λ n. n % 1024) (if_some (λ (b : List ℕ). length b ≡ size) told b h e) ∙ w
+
+pub told-some : {A : Type 0} (P : A → Type 0) (told : Option A) (b : A) → told ≡ Some b → P b → IfSome told P
+told-some P told b e h = subst (λ o. IfSome o P) (sym e) h
+
+pub some-any : {A : Type 0} (P : A → Type 0) (told : Option A) → ((x : A) → P x) → IfSome told P
+some-any P None h = tt
+some-any P (Some b) h = h b
+
+pub some-both : {A B : Type 0} (P : B → A → Type 0) (o : Option B) (told : Option A) → ((x : A) → IfSome o (λ v. P v x)) → IfSome o (λ v. IfSome told (P v))
+some-both P None told h = tt
+some-both P (Some v) told h = some-any (P v) told h
 
 abbrev pub page-of : Link → ℕ
 page-of (Number n) = 0
@@ -48,6 +60,14 @@ link-small z l e = subst (λ l. page-of l < 4611686018427387904) (sym e) (small 
 
 pub fragment-small : (z : ℤ) (p i : ℕ) → Fragment p i ≡ link_in z → p < 4611686018427387904
 fragment-small z p i e = link-small z (Fragment p i) e
+
+-- a value keeps its links where they are those of the link that it names
+pub linked-row : (c : List ℕ) (new z : ℤ) (l : Link) → new ≡ z → link_in z ≡ l → IsLinked c l → IsLinked c (link_in new)
+linked-row c new z l e is k = subst (IsLinked c) (sym (ap link_in e ∙ is)) k
+
+-- the first page of a chain that a value names
+pub first-small : (z : ℤ) (p : ℕ) → link_in z ≡ Chain p → p < 2 ^ 63
+first-small z p e = let s = link-small z (Chain p) (sym e) in omega (arith, s)
 
 -- a leaf of a tree is a page
 pub leaf-child : (kind : KeyKind) (b reached : List ℕ) (t : Shape) (fs : List ℕ) (leaf : ℕ) → IsTree kind b reached t fs → 1 ≤ times leaf (leaves_of t) → IsChild (length b) leaf

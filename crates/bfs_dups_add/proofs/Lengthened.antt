@@ -1,19 +1,21 @@
 -- Chains that get a number more, in a page that is there or in a new one.
-use Rattle.std.proofs.Common.{◌≡◌, ◌≢◌, ◌⊎◌, ◌≤◌, ◌<◌, ◌+◌, ◌%◌, ℕ, List, [], ◌∷◌, ◌++◌, length, true, cond, ◌==◌, inl, inr, refl, ap, sym, ◌∙◌, subst, arith, append-nil}
+use Rattle.std.proofs.Common.{◌≡◌, ◌≢◌, ◌⊎◌, ◌≤◌, ◌<◌, ◌+◌, ◌%◌, ◌^◌, ℕ, List, [], ◌∷◌, ◌++◌, length, true, cond, ◌==◌, inl, inr, refl, ap, sym, ◌∙◌, subst, arith, append-nil}
 use Rattle.bfs_base.specs.Lists.{times, Has, IsOnce}
 use Rattle.bfs_base.specs.declared.kind.KeyKind.{KeyKind}
 use Rattle.bfs_node.specs.Page.{Row}
 use Rattle.bfs_pages.specs.Answers.{IsChild}
 use Rattle.bfs_pages.specs.Shapes.{Shape}
-use Rattle.bfs_pages.specs.Trees.{page_in, neighbours_in, IsTree}
+use Rattle.bfs_pages.specs.Trees.{page_in, neighbours_in, Linked, IsTree}
+use Rattle.bfs_pages.proofs.Laws.{same-links}
 use Rattle.bfs_pages.proofs.Splice.{self, times-append}
 use Rattle.bfs_values.specs.declared.link.Link.{Link}
 use Rattle.bfs_values.specs.declared.link.Link.TheVariants.{Number, Fragment, Chain}
 use Rattle.bfs_values.specs.Values.{IsFragment, fragment_count, fragment_numbers, IsDuplicates, page_count, page_numbers, next_of, EndsAfter, chain_of, numbers_of_pages, AreDuplicates, in_order, placed, is_ascending, HasNumbers, numbers_in}
 use Rattle.bfs_values.specs.Reached.{times_named}
-use Rattle.bfs_values.specs.Chained.{Chained}
+use Rattle.bfs_values.specs.Chained.{Chained, IsLinked}
 use Rattle.bfs_values.specs.Stored.{SameNumbers}
 use Rattle.bfs_dups_add.specs.Written.{IsPut, IsLast, IsWidened, IsExtended}
+use Rattle.bfs_values.proofs.Beside.{chain-small, both-sides, pair-of, links_in, linked-more}
 use Rattle.bfs_values.proofs.Chaining.{chain-is, chained-ends, numbers-kept, child-more}
 use Rattle.bfs_dups_add.proofs.Gained.{put-whole, put-pages, put-page}
 use Rattle.bfs_dups_add.proofs.Holding.{set, put, reached-child, reached-once}
@@ -62,7 +64,7 @@ relinked kind b c t rest l m o gs wb wc le same now mine bare bare_new =
 
 -- a plain number becomes a chain of one page
 pub raised : (kind : KeyKind) (b c : List ℕ) (t : Shape) (rest : List Row) (n q : ℕ) (page numbers : List ℕ) → Open kind b t rest (Number n) → length b % 1024 ≡ 0 → IsPut kind b c q page → IsLast page numbers
-    → Open kind c t rest (Chain q) × SameNumbers b c rest × (numbers_in c (Chain q) ≡ numbers)
+    → Open kind c t rest (Chain q) × SameNumbers b c rest × (numbers_in c (Chain q) ≡ numbers) × ((neighbours_in page).0 ≡ 0 → IsLinked c (Chain q))
 raised kind b c t rest n q page numbers o wb p last =
     let tree : IsTree kind b (o.fragments ++ pages_of b rest) t o.free = o.tree in
     let now = put kind b c (o.fragments ++ pages_of b rest) t o.free q page tree (some-bytes kind b (o.fragments ++ pages_of b rest) t o.free tree) p in
@@ -78,7 +80,7 @@ raised kind b c t rest n q page numbers o wb p last =
     let mine : HasNumbers c (Chain q) = (child, (0, end), subst (λ z. AreDuplicates c z) (sym chain) (good, tt), subst IsOnce (sym all) (λ k. up-once k numbers (up-of numbers asc))) in
     let off : (x : ℕ) → 1 ≤ times x (o.fragments ++ pages_of b rest) → x ≢ q = λ x h e. not_here (subst (λ z. 1 ≤ times z (o.fragments ++ pages_of b rest)) e h) now.2 in
     let s = relinked kind b c t rest (Number n) (Chain q) o now.0 wb whole.0 whole.1 (λ x h. put-pages kind b c q page p x (off x h)) (subst (λ z. IsTree kind c ((z ++ []) ++ (o.fragments ++ pages_of b rest)) t now.0) (sym chain) now.1) mine (λ at f. refl) (λ at f. refl) in
-    (s.0, s.1, ap in_order all ∙ order-up numbers (up-of numbers asc))
+    (s.0, s.1, ap in_order all ∙ order-up numbers (up-of numbers asc), λ left. subst (λ z. Linked (links_in c) 0 z 0) (sym chain) (pair-of (page_in c q) 0 0 (ap (λ z. (neighbours_in z).0) this ∙ left) end, tt))
   where
     not_here : 1 ≤ times q (o.fragments ++ pages_of b rest) → times q (o.fragments ++ pages_of b rest) ≡ 0 → ⊥
     not_here h z = omega (arith, h, z)
@@ -131,6 +133,7 @@ ends-there c p (y ∷ ys) some d = (length ys, subst (EndsAfter c (length ys)) (
 -- a page of the chain has a number more
 pub widened : (kind : KeyKind) (b c : List ℕ) (t : Shape) (rest : List Row) (p at number : ℕ) (xs : List ℕ) → Open kind b t rest (Chain p) → length b % 1024 ≡ 0 → chain_of b p ≡ xs → Chained b p xs → 1 ≤ times at xs
     → times number (numbers_of_pages b xs) ≡ 0 → IsWidened b c at number → Open kind c t rest (Chain p) × SameNumbers b c rest × (numbers_in c (Chain p) ≡ placed number (numbers_in b (Chain p)))
+    × (IsLinked b (Chain p) → IsLinked c (Chain p))
 widened kind b c t rest p at number xs o wb is ch here absent f =
     let tree : IsTree kind b (xs ++ (o.fragments ++ pages_of b rest)) t o.free = subst (λ z. IsTree kind b (z ++ (o.fragments ++ pages_of b rest)) t o.free) (append-nil (chain_of b p) ∙ is) o.tree in
     let wc : length c % 1024 ≡ 0 = ap (λ n. n % 1024) f.set.size ∙ wb in
@@ -153,8 +156,12 @@ widened kind b c t rest p at number xs o wb is ch here absent f =
     ) in
     let s = relinked kind b c t rest (Chain p) (Chain p) o o.free wb wc le (λ x h. others x (λ e. apart only here (subst (λ z. 1 ≤ times z (o.fragments ++ pages_of b rest)) e h)))
     (subst (λ z. IsTree kind c (z ++ (o.fragments ++ pages_of b rest)) t o.free) (sym (append-nil (chain_of c p) ∙ chain)) (set kind b c (xs ++ (o.fragments ++ pages_of b rest)) t o.free at f.page tree f.set (omega (arith, here, times-append at xs (o.fragments ++ pages_of b rest)))))
-    mine (λ at f. refl) (λ at f. refl) in
-    (s.0, s.1, ap in_order new ∙ with-order number (numbers_of_pages b xs) (numbers_of_pages c xs) w ∙ ap (λ z. placed number (in_order z)) (sym old))
+    mine (λ at f. refl) (λ at f. refl) in (
+      s.0,
+      s.1,
+      ap in_order new ∙ with-order number (numbers_of_pages b xs) (numbers_of_pages c xs) w ∙ ap (λ z. placed number (in_order z)) (sym old),
+      λ k. subst (λ z. Linked (links_in c) 0 z 0) (sym chain) (same-links (links_in b) (links_in c) 0 xs 0 (λ y i. by_both this others y (decide y at)) (subst (λ z. Linked (links_in b) 0 z 0) is k)),
+    )
   where
     apart : times at xs + times at (o.fragments ++ pages_of b rest) ≤ 1 → 1 ≤ times at xs → 1 ≤ times at (o.fragments ++ pages_of b rest) → ⊥
     apart a h i = omega (arith, a, h, i)
@@ -162,6 +169,10 @@ widened kind b c t rest p at number xs o wb is ch here absent f =
     by_link : page_in c at ≡ f.page → ((x : ℕ) → x ≢ at → page_in c x ≡ page_in b x) → (y : ℕ) → (y ≡ at) ⊎ (y ≢ at) → next_of c y ≡ next_of b y
     by_link this others y (inr n) = ap (λ z. (neighbours_in z).1) (others y n)
     by_link this others y (inl e) = ap (next_of c) e ∙ ap (λ z. (neighbours_in z).1) this ∙ f.next ∙ ap (next_of b) (sym e)
+
+    by_both : page_in c at ≡ f.page → ((x : ℕ) → x ≢ at → page_in c x ≡ page_in b x) → (y : ℕ) → (y ≡ at) ⊎ (y ≢ at) → links_in c y ≡ links_in b y
+    by_both this others y (inr n) = ap neighbours_in (others y n)
+    by_both this others y (inl e) = ap (links_in c) e ∙ ap neighbours_in this ∙ both-sides (page_in b at) f.page f.left f.next ∙ ap (links_in b) (sym e)
 
 -- a page is behind the last one of the chain
 chained-more : (b c : List ℕ) (x last q : ℕ) (xs : List ℕ) → length b ≤ length c → IsChild (length c) q → next_of c q ≡ 0 → next_of b last ≡ 0 → next_of c last ≡ q → ((y : ℕ) → 1 ≤ times y xs → y ≢ last → next_of c y ≡ next_of b y) → 1 ≤ times last xs → Chained b x xs
@@ -206,6 +217,7 @@ duplicates-more b c q (y ∷ ys) good h d = (h y (self y ys) d.0, duplicates-mor
 -- the chain has a new last page, with the number
 pub extended : (kind : KeyKind) (b c : List ℕ) (t : Shape) (rest : List Row) (p last q number : ℕ) (xs : List ℕ) → Open kind b t rest (Chain p) → length b % 1024 ≡ 0 → chain_of b p ≡ xs → Chained b p xs → 1 ≤ times last xs → next_of b last ≡ 0
     → times number (numbers_of_pages b xs) ≡ 0 → IsExtended kind b c last q number → Open kind c t rest (Chain p) × SameNumbers b c rest × (numbers_in c (Chain p) ≡ placed number (numbers_in b (Chain p)))
+    × (p < 2 ^ 63 → IsLinked b (Chain p) → IsLinked c (Chain p))
 extended kind b c t rest p last q number xs o wb is ch here old_end absent f =
     let tree : IsTree kind b (xs ++ (o.fragments ++ pages_of b rest)) t o.free = subst (λ z. IsTree kind b (z ++ (o.fragments ++ pages_of b rest)) t o.free) (append-nil (chain_of b p) ∙ is) o.tree in
     let now = put kind b f.middle (xs ++ (o.fragments ++ pages_of b rest)) t o.free q f.fresh tree (some-bytes kind b (xs ++ (o.fragments ++ pages_of b rest)) t o.free tree) f.put in
@@ -239,8 +251,16 @@ extended kind b c t rest p last q number xs o wb is ch here old_end absent f =
       subst IsOnce (sym new) (with-once number (numbers_of_pages b xs) (numbers_of_pages b xs ++ (number ∷ [])) w (subst IsOnce old o.mine.3) absent),
     ) in
     let s = relinked kind b c t rest (Chain p) (Chain p) o now.0 wb wc le (λ x h. others x (λ e. apart only here (subst (λ z. 1 ≤ times z (o.fragments ++ pages_of b rest)) e h)) (λ e. apart_new none (subst (λ z. 1 ≤ times z (o.fragments ++ pages_of b rest)) e h)))
-    (exchange kind c (q ∷ (xs ++ (o.fragments ++ pages_of b rest))) (own_pages c (Chain p) ++ (o.fragments ++ pages_of b rest)) t now.0 (counts chain) set_tree) mine (λ at f. refl) (λ at f. refl) in
-    (s.0, s.1, ap in_order new ∙ with-order number (numbers_of_pages b xs) (numbers_of_pages b xs ++ (number ∷ [])) w ∙ ap (λ z. placed number (in_order z)) (sym old))
+    (exchange kind c (q ∷ (xs ++ (o.fragments ++ pages_of b rest))) (own_pages c (Chain p) ++ (o.fragments ++ pages_of b rest)) t now.0 (counts chain) set_tree) mine (λ at f. refl) (λ at f. refl) in (
+      s.0,
+      s.1,
+      ap in_order new ∙ with-order number (numbers_of_pages b xs) (numbers_of_pages b xs ++ (number ∷ [])) w ∙ ap (λ z. placed number (in_order z)) (sym old),
+      λ small k.
+          subst (λ z. Linked (links_in c) 0 z 0) (sym chain)
+          (linked-more b c p 0 last q xs old_end (pair-of (page_in c last) (neighbours_in (page_in b last)).0 q (ap (λ z. (neighbours_in z).0) this ∙ f.left) new_end)
+          (pair-of (page_in c q) last 0 (ap (λ z. (neighbours_in z).0) fresh ∙ f.names (chain-small b p last xs small ch here)) end)
+          (λ y i n. ap neighbours_in (others y n (in_chain y i))) here ch (subst (λ z. Linked (links_in b) 0 z 0) is k)),
+    )
   where
     clash : 1 ≤ times q xs → times q xs + times q (o.fragments ++ pages_of b rest) ≡ 0 → ⊥
     clash h n = omega (arith, h, n)

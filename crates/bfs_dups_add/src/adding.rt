@@ -11,6 +11,7 @@ ghost use Rattle.bfs_values.specs.Kinds.{IsValueOf, IsCut};
 ghost use Rattle.bfs_values.specs.Links.{link_in};
 ghost use Rattle.bfs_values.specs.Values.{HasValues, values_in, placed};
 ghost use Rattle.bfs_values.specs.declared.link.Link.TheVariants.{Number, Fragment, Chain};
+ghost use Rattle.bfs_values.specs.Chained.{IsLinked};
 ghost use Rattle.bfs_values.specs.Formed.{IsFormed};
 ghost use Rattle.bfs_values.specs.Named.{IsNamedIn, IsCrowded};
 ghost use Rattle.bfs_values.specs.Stored.{Stored, IsRevalued, IsScant, with_number};
@@ -57,6 +58,7 @@ fn add_to_number<P: Pages, L: Ledger>(
     ensures kept { Kept (P.counts pages.old) (P.counts pages.new) (P.frame pages.old) (P.frame pages.new) (P.goes_on pages.old pages.new) }
     ensures formed { (b : List ℕ) → P.told pages.old ≡ Some b → IsFormed (link_in value) (values_in b value) → IfOk result (λ new. IsFormed (link_in new) (with_number number (values_in b value))) }
     ensures place { (b : List ℕ) → P.told pages.old ≡ Some b → number ≢ old → IfOk result (λ new. (page i : ℕ) × (link_in new ≡ Fragment page i) × (IsNamedIn b leaf page ⊎ IsCrowded b leaf)) }
+    ensures linked { (c : List ℕ) → IfOk result (λ new. IsLinked c (link_in new)) }
 {
     if number == old {
         return Ok(value);
@@ -102,6 +104,7 @@ fn add_to_fragment<P: Pages, L: Ledger>(
     ensures blamed { IfErr result (IsBlamed (P.told pages.new) (P.size pages.new) (P.last pages.new)) }
     ensures kept { Kept (P.counts pages.old) (P.counts pages.new) (P.frame pages.old) (P.frame pages.new) (P.goes_on pages.old pages.new) }
     ensures formed { (b : List ℕ) → P.told pages.old ≡ Some b → IsFormed (link_in value) (values_in b value) → IfOk result (λ new. IsFormed (link_in new) (with_number number (values_in b value))) }
+    ensures linked { (b : List ℕ) (t : Shape) (front back : List Row) (key : Key) → P.told pages.old ≡ Some b → Stored kind b t (front ++ ((key, value) ∷ back)) → IsLinked b (link_in value) → IfOk result (λ new. IfSome (P.told pages.new) (λ c. IsLinked c (link_in new))) }
 {
     let (at, index) = slot;
     let mut page = [0u8; PAGE];
@@ -154,6 +157,7 @@ fn add_to_chain<P: Pages, L: Ledger>(
     ensures blamed { IfErr result (IsBlamed (P.told pages.new) (P.size pages.new) (P.last pages.new)) }
     ensures kept { Kept (P.counts pages.old) (P.counts pages.new) (P.frame pages.old) (P.frame pages.new) (P.goes_on pages.old pages.new) }
     ensures formed { (b : List ℕ) → P.told pages.old ≡ Some b → IsFormed (link_in value) (values_in b value) → IfOk result (λ new. IsFormed (link_in new) (with_number number (values_in b value))) }
+    ensures linked { (b : List ℕ) (t : Shape) (front back : List Row) (key : Key) → P.told pages.old ≡ Some b → Stored kind b t (front ++ ((key, value) ∷ back)) → IsLinked b (link_in value) → IfOk result (λ new. IfSome (P.told pages.new) (λ c. IsLinked c (link_in new))) }
 {
     let mut roomy = [0u8; PAGE];
     let mut last = [0u8; PAGE];
@@ -198,6 +202,7 @@ pub fn dups_add<P: Pages, L: Ledger>(
     ensures kept { Kept (P.counts pages.old) (P.counts pages.new) (P.frame pages.old) (P.frame pages.new) (P.goes_on pages.old pages.new) }
     ensures formed { (b : List ℕ) → P.told pages.old ≡ Some b → IsFormed (link_in value) (values_in b value) → IfOk result (λ new. IsFormed (link_in new) (with_number number (values_in b value))) }
     ensures place { (b : List ℕ) (old : ℕ) → P.told pages.old ≡ Some b → link_in value ≡ Number old → number ≢ old → IfOk result (λ new. (page i : ℕ) × (link_in new ≡ Fragment page i) × (IsNamedIn b leaf page ⊎ IsCrowded b leaf)) }
+    ensures linked { (b : List ℕ) (t : Shape) (front back : List Row) (key : Key) → P.told pages.old ≡ Some b → Stored kind b t (front ++ ((key, value) ∷ back)) → IsLinked b (link_in value) → IfOk result (λ new. IfSome (P.told pages.new) (λ c. IsLinked c (link_in new))) }
 {
     match link_of(value) {
         Link::Number(old) => match add_to_number(pages, kind, leaf, value, old, number, steps) {

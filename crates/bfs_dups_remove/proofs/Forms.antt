@@ -1,5 +1,5 @@
 -- The form of a value that a number was taken out of.
-use Rattle.std.proofs.Common.{◌≡◌, ◌≢◌, ◌⊎◌, ◌≤◌, ◌<◌, ◌+◌, ◌-◌, ◌%◌, ◌^◌, ℕ, ℤ, List, [], ◌∷◌, ◌++◌, zero, suc, length, Option, Some, IfSome, cond, ◌==◌, true, inl, inr, refl, ap, sym, ◌∙◌, subst, arith, append-nil}
+use Rattle.std.proofs.Common.{◌≡◌, ◌≢◌, ◌⊎◌, ◌≤◌, ◌<◌, ◌+◌, ◌-◌, ◌%◌, ◌^◌, ℕ, ℤ, List, [], ◌∷◌, ◌++◌, zero, suc, length, cond, ◌==◌, true, inl, inr, refl, ap, sym, ◌∙◌, subst, arith, append-nil}
 use Rattle.bfs_base.specs.Lists.{times}
 use Rattle.bfs_base.specs.declared.kind.KeyKind.{KeyKind}
 use Rattle.bfs_bytes.specs.Fields.{unsigned_at}
@@ -79,9 +79,6 @@ pub absorbed-more : (page other both now : List ℕ) → page_numbers now ≡ pa
 absorbed-more page other both now e f some =
     let n : length (page_numbers now) ≡ length (page_numbers other ++ page_numbers page) = ap length (e ∙ f) ∙ length-order (page_numbers other ++ page_numbers page) in
     omega (arith, some, n, length-more (page_numbers other) (page_numbers page), count-length now, count-length other, count-length page)
-
-pub told-some : {A : Type 0} (P : A → Type 0) (told : Option A) (b : A) → told ≡ Some b → P b → IfSome told P
-told-some P told b e h = subst (λ o. IfSome o P) (sym e) h
 
 -- a list that is no plain number
 pub few-numbers : (page : List ℕ) (at n : ℕ) → 1 ≤ n → n ≤ 7 → (n ≡ 1 → 2 ^ 62 ≤ unsigned_at 8 page at) → AreFew (numbers_from page at n)

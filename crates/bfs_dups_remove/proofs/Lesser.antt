@@ -27,7 +27,7 @@ use Rattle.bfs_dups_add.proofs.Slotted.{decide, eq_no}
 use Rattle.bfs_dups_remove.specs.Lessened.{without_number, IsLessened}
 use Rattle.bfs_dups_remove.specs.Shortened.{IsBehind, IsLocated, IsRenumbered, IsPassed}
 use Rattle.bfs_dups_remove.proofs.Merged.{length-placed}
-use Rattle.bfs_dups_remove.proofs.Passed.{renumbered, passed, dropped, good-at, parts-numbers, parts-times}
+use Rattle.bfs_dups_remove.proofs.Passed.{IsPast, renumbered, passed, dropped, good-at, parts-numbers, parts-times}
 use Rattle.bfs_dups_remove.proofs.Without.{without-order, without-with, less-once, gone-once, with-gone}
 
 first : (x y : ℕ) (ys : List ℕ) → times x (y ∷ ys) ≡ times x (y ∷ []) + times x ys
@@ -250,8 +250,15 @@ passed-next kind b c t front key back value p at gone next us xs ns s link wb is
     let o = linked-open kind b t front key back value (Chain p) s link in
     let ch : Chained b p (us ++ (at ∷ (gone ∷ xs))) = subst (λ z. Chained b p z) is (chain-there b p wb o.mine) in
     let r = passed kind b c t (front ++ back) p at gone us xs ns o wb is ch f once in
-    let i = next-in kind b c t (front ++ back) p at gone next us xs r.0 (passed-whole b c at gone ns f wb) ch r.3 e n in
+    let i = next-in kind b c t (front ++ back) p at gone next us xs r.0 (passed-whole b c at gone ns f wb) ch r.3.chain e n in
     (i, good-in c p next r.0.mine i)
+
+-- the pages of a chain in which a page is passed by
+pub past-row : (kind : KeyKind) (b c : List ℕ) (t : Shape) (front : List Row) (key : Key) (back : List Row) (value : ℤ) (p at gone : ℕ) (us xs ns : List ℕ) → Stored kind b t (front ++ ((key, value) ∷ back)) → link_in value ≡ Chain p → length b % 1024 ≡ 0 → chain_of b p ≡ us ++ (at ∷ (gone ∷ xs)) → IsPassed b c at gone ns
+    → IsOnce (numbers_of_pages b us ++ (ns ++ numbers_of_pages b xs)) → IsPast b c p at gone us xs
+past-row kind b c t front key back value p at gone us xs ns s link wb is f once =
+    let o = linked-open kind b t front key back value (Chain p) s link in
+    (passed kind b c t (front ++ back) p at gone us xs ns o wb is (subst (λ z. Chained b p z) is (chain-there b p wb o.mine)) f once).3
 
 -- a left link of the chain is written
 pub mended-row : (kind : KeyKind) (b c : List ℕ) (t : Shape) (front : List Row) (key : Key) (back : List Row) (value : ℤ) (p q : ℕ) → Stored kind b t (front ++ ((key, value) ∷ back)) → link_in value ≡ Chain p → length b % 1024 ≡ 0 → 1 ≤ times q (chain_of b p)

@@ -6,6 +6,7 @@ mod Merged
 mod Passed
 mod Plucked
 mod PluckedChain
+mod Rejoined
 mod Righted
 mod Settled
 mod Walking

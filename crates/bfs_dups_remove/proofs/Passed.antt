@@ -102,7 +102,7 @@ chained-past b c x (u ∷ us) q s xs l us_same new same d = (
   subst (λ w. Chained c w (us ++ (q ∷ xs))) (sym (us_same u (self u us))) (chained-past b c (next_of b u) us q s xs l (λ z i. us_same z (omega (arith, i, first z u us))) new same d.2),
 )
 
-chained-same : (b c : List ℕ) (x : ℕ) (xs : List ℕ) → length b ≤ length c → ((y : ℕ) → 1 ≤ times y xs → next_of c y ≡ next_of b y) → Chained b x xs → Chained c x xs
+pub chained-same : (b c : List ℕ) (x : ℕ) (xs : List ℕ) → length b ≤ length c → ((y : ℕ) → 1 ≤ times y xs → next_of c y ≡ next_of b y) → Chained b x xs → Chained c x xs
 chained-same b c x [] l h d = d
 chained-same b c x (y ∷ ys) l h d = (
   d.0,
@@ -110,7 +110,7 @@ chained-same b c x (y ∷ ys) l h d = (
   subst (λ w. Chained c w ys) (sym (h y (self y ys))) (chained-same b c (next_of b y) ys l (λ z i. h z (omega (arith, i, first z y ys))) d.2),
 )
 
-not-equal : (x y : ℕ) (zs : List ℕ) → 1 ≤ times x zs → times y zs ≡ 0 → x ≢ y
+pub not-equal : (x y : ℕ) (zs : List ℕ) → 1 ≤ times x zs → times y zs ≡ 0 → x ≢ y
 not-equal x y zs i n = λ e. let m : 1 ≤ times y zs = subst (λ z. 1 ≤ times z zs) e i in omega (arith, m, n)
 
 -- a page of the chain has other numbers
@@ -145,10 +145,20 @@ renumbered kind b c t rest p q us xs ns o wb is ch f once =
     by_link this others y (inr n) = ap (λ z. (neighbours_in z).1) (others y n)
     by_link this others y (inl e) = ap (next_of c) e ∙ ap (λ z. (neighbours_in z).1) this ∙ f.next ∙ ap (next_of b) (sym e)
 
+-- the pages of a chain that lost one: those before it and behind it stay but for the one right before it, which goes on to the
+-- page behind it
+pub record IsPast (b c : List ℕ) (p q s : ℕ) (us xs : List ℕ) : Type 0 where
+  pub before : (x : ℕ) → 1 ≤ times x us → page_in c x ≡ page_in b x
+  pub behind : (x : ℕ) → 1 ≤ times x xs → page_in c x ≡ page_in b x
+  pub apart : q ≢ s
+  pub next : next_of c q ≡ next_of b s
+  pub chain : Chained c p (us ++ (q ∷ xs))
+  pub once : (x : ℕ) → times x us + times x (q ∷ []) + times x xs ≤ 1
+
 -- the chain loses a page, and the one before it has other numbers
 pub passed : (kind : KeyKind) (b c : List ℕ) (t : Shape) (rest : List Row) (p q s : ℕ) (us xs ns : List ℕ) → Open kind b t rest (Chain p) → length b % 1024 ≡ 0 → chain_of b p ≡ us ++ (q ∷ (s ∷ xs)) → Chained b p (us ++ (q ∷ (s ∷ xs))) → IsPassed b c q s ns
     → IsOnce (numbers_of_pages b us ++ (ns ++ numbers_of_pages b xs))
-    → Open kind c t rest (Chain p) × SameNumbers b c rest × (numbers_in c (Chain p) ≡ in_order (numbers_of_pages b us ++ (ns ++ numbers_of_pages b xs))) × Chained c p (us ++ (q ∷ xs))
+    → Open kind c t rest (Chain p) × SameNumbers b c rest × (numbers_in c (Chain p) ≡ in_order (numbers_of_pages b us ++ (ns ++ numbers_of_pages b xs))) × IsPast b c p q s us xs
 passed kind b c t rest p q s us xs ns o wb is ch f once =
     let all : List ℕ = us ++ (q ∷ (s ∷ xs)) in
     let less : List ℕ = us ++ (q ∷ xs) in
@@ -178,8 +188,12 @@ passed kind b c t rest p q s us xs ns o wb is ch f once =
       good = good-both c us (q ∷ xs) (good-kept b c us in_us good.0) (subst (λ z. IsDuplicates z) (sym this) f.good, good-kept b c xs in_xs good.1.1.1);
       once = subst IsOnce (sym numbers) once;
     } in
-    let w = rechained kind b c t rest p less o wb size in_gone r in
-    (w.0, w.1, w.2 ∙ ap in_order numbers, there)
+    let w = rechained kind b c t rest p less o wb size in_gone r in (
+      w.0,
+      w.1,
+      w.2 ∙ ap in_order numbers,
+      record { before = in_us; behind = in_xs; apart = apart; next = ap (λ z. (neighbours_in z).1) this ∙ f.next; chain = there; once = λ x. omega (arith, only x) },
+    )
 
 -- the only page of a chain is given back
 pub dropped : (kind : KeyKind) (b c : List ℕ) (t : Shape) (rest : List Row) (p n : ℕ) → (o : Open kind b t rest (Chain p)) → length b % 1024 ≡ 0 → chain_of b p ≡ p ∷ [] → IsGiven b c p (header_in b)

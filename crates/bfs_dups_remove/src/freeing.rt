@@ -1,5 +1,5 @@
 // Pages of a chain that are given back, and the pages beside them.
-ghost use Rattle.std.specs.Prelude.{◌≡◌, ◌≤◌, ◌<◌, ◌^◌, ℕ, List, Some, length, OnOk, IfOk, IfErr, IfSome};
+ghost use Rattle.std.specs.Prelude.{◌≡◌, ◌≤◌, ◌<◌, ◌^◌, ℕ, List, Some, length, OnOk, IfOk, IfErr, IfSome, ◌≢◌};
 ghost use Rattle.bfs_base.specs.Keys.{IsTreeKind};
 ghost use Rattle.bfs_base.specs.Lists.{times};
 ghost use Rattle.bfs_pages.specs.Answers.{IsChild, IsUnread, IsOfPages, IsJustRead};
@@ -66,6 +66,7 @@ pub fn pass_by<P: Pages, L: Ledger>(
     ensures just_read { IfErr result (IsJustRead (P.size pages.new) (P.last pages.new)) }
     ensures spared { (b reached : List ℕ) (t : Shape) (fs : List ℕ) → P.told pages.old ≡ Some b → IsTree kind b reached t fs → 1 ≤ times at reached → IfErr result IsOfPages }
     ensures kept { Kept (P.counts pages.old) (P.counts pages.new) (P.frame pages.old) (P.frame pages.new) (P.goes_on pages.old pages.new) }
+    ensures left { (b : List ℕ) → P.told pages.old ≡ Some b → at ≢ gone → OnOk result (IfSome (P.told pages.new) (λ c. (neighbours_in (page_in c at)).0 ≡ (neighbours_in page.old).0)) }
 {
     link_past(page, other);
     match write_page(pages, at, page) {

@@ -7,6 +7,7 @@ ghost use Rattle.bfs_pages.specs.Answers.{IsChild, IsOfPages, IsJustRead};
 ghost use Rattle.bfs_pages.specs.Order.{Key};
 ghost use Rattle.bfs_pages.specs.Shapes.{Shape, tree_rows, leaves_of};
 ghost use Rattle.bfs_pages.specs.Writes.{Kept};
+ghost use Rattle.bfs_values.specs.Chained.{IsLinked};
 ghost use Rattle.bfs_values.specs.Kinds.{IsValueOf, IsCut};
 ghost use Rattle.bfs_values.specs.Links.{link_in};
 ghost use Rattle.bfs_values.specs.Values.{HasValues, values_in};
@@ -47,6 +48,7 @@ fn remove_from_fragment<P: Pages, L: Ledger>(
     ensures just_read { IfErr result (IsJustRead (P.size pages.new) (P.last pages.new)) }
     ensures kept { Kept (P.counts pages.old) (P.counts pages.new) (P.frame pages.old) (P.frame pages.new) (P.goes_on pages.old pages.new) }
     ensures formed { (b : List ℕ) → P.told pages.old ≡ Some b → 1 ≤ times number (values_in b value) → IfOk result (λ o. IfSome o (λ new. IsFormed (link_in new) (without_number number (values_in b value)))) }
+    ensures linked { (c : List ℕ) → IfOk result (λ o. IfSome o (λ new. IsLinked c (link_in new))) }
 {
     let (at, index) = slot;
     let mut page = [0u8; PAGE];
@@ -107,6 +109,7 @@ fn remove_from_chain<P: Pages, L: Ledger>(
     ensures kept { Kept (P.counts pages.old) (P.counts pages.new) (P.frame pages.old) (P.frame pages.new) (P.goes_on pages.old pages.new) }
     ensures formed { (b : List ℕ) (t : Shape) (front back : List Row) (key : Key) → P.told pages.old ≡ Some b → Stored kind b t (front ++ ((key, value) ∷ back)) → 1 ≤ times number (values_in b value) → IfOk result (λ o. IfSome o (λ new. IsFormed (link_in new) (without_number number (values_in b value)))) }
     ensures place { (b : List ℕ) (t : Shape) (front back : List Row) (key : Key) (page i : ℕ) → P.told pages.old ≡ Some b → Stored kind b t (front ++ ((key, value) ∷ back)) → tree_rows t ≡ front ++ ((key, value) ∷ back) → 1 ≤ times leaf (leaves_of t) → IfOk result (λ o. IfSome o (λ new. link_in new ≡ Fragment page i → IsNamedIn b leaf page ⊎ ((page ≡ first) × IsCrowded b leaf))) }
+    ensures linked { (b : List ℕ) (t : Shape) (front back : List Row) (key : Key) → P.told pages.old ≡ Some b → Stored kind b t (front ++ ((key, value) ∷ back)) → IsLinked b (link_in value) → IfOk result (λ o. IfSome o (λ new. IfSome (P.told pages.new) (λ c. IsLinked c (link_in new)))) }
 {
     let mut page = [0u8; PAGE];
     let found = match locate(pages, kind, first, number, &mut page, steps) {
@@ -153,6 +156,7 @@ pub fn dups_remove<P: Pages, L: Ledger>(
     ensures kept { Kept (P.counts pages.old) (P.counts pages.new) (P.frame pages.old) (P.frame pages.new) (P.goes_on pages.old pages.new) }
     ensures formed { (b : List ℕ) (t : Shape) (front back : List Row) (key : Key) → P.told pages.old ≡ Some b → Stored kind b t (front ++ ((key, value) ∷ back)) → 1 ≤ times number (values_in b value) → IfOk result (λ o. IfSome o (λ new. IsFormed (link_in new) (without_number number (values_in b value)))) }
     ensures place { (b : List ℕ) (t : Shape) (front back : List Row) (key : Key) (first page i : ℕ) → P.told pages.old ≡ Some b → Stored kind b t (front ++ ((key, value) ∷ back)) → tree_rows t ≡ front ++ ((key, value) ∷ back) → 1 ≤ times leaf (leaves_of t) → link_in value ≡ Chain first → IfOk result (λ o. IfSome o (λ new. link_in new ≡ Fragment page i → IsNamedIn b leaf page ⊎ ((page ≡ first) × IsCrowded b leaf))) }
+    ensures linked { (b : List ℕ) (t : Shape) (front back : List Row) (key : Key) → P.told pages.old ≡ Some b → Stored kind b t (front ++ ((key, value) ∷ back)) → IsLinked b (link_in value) → IfOk result (λ o. IfSome o (λ new. IfSome (P.told pages.new) (λ c. IsLinked c (link_in new)))) }
 {
     match link_of(value) {
         Link::Number(old) => {

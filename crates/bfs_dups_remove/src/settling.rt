@@ -8,6 +8,7 @@ ghost use Rattle.bfs_pages.specs.Order.{Key};
 ghost use Rattle.bfs_pages.specs.Shapes.{Shape, tree_rows, leaves_of};
 ghost use Rattle.bfs_pages.specs.Trees.{page_in};
 ghost use Rattle.bfs_pages.specs.Writes.{Kept};
+ghost use Rattle.bfs_values.specs.Chained.{IsLinked};
 ghost use Rattle.bfs_values.specs.Kinds.{IsCut};
 ghost use Rattle.bfs_values.specs.Links.{link_in};
 ghost use Rattle.bfs_values.specs.Values.{IsDuplicates, fragment_count, page_count, page_numbers, chain_of, HasValues, values_in};
@@ -129,6 +130,7 @@ pub fn settle<P: Pages, L: Ledger>(
     ensures kept { Kept (P.counts pages.old) (P.counts pages.new) (P.frame pages.old) (P.frame pages.new) (P.goes_on pages.old pages.new) }
     ensures formed { (b : List ℕ) → P.told pages.old ≡ Some b → HasValues b value → IsFolded b first → IfOk result (λ new. IsFormed (link_in new) (values_in b value)) }
     ensures place { (b : List ℕ) (page i : ℕ) → P.told pages.old ≡ Some b → IfOk result (λ new. link_in new ≡ Fragment page i → IsNamedIn b leaf page ⊎ ((page ≡ first) × IsCrowded b leaf)) }
+    ensures linked { (b : List ℕ) → P.told pages.old ≡ Some b → IsLinked b (link_in value) → IfOk result (λ new. IfSome (P.told pages.new) (λ c. IsLinked c (link_in new))) }
 {
     let mut page = [0u8; PAGE];
     let seen = match look_at(pages, kind, first, number, &mut page, steps) {

@@ -7,6 +7,7 @@ ghost use Rattle.bfs_pages.specs.Order.{Key};
 ghost use Rattle.bfs_pages.specs.Shapes.{Shape};
 ghost use Rattle.bfs_pages.specs.Trees.{page_in};
 ghost use Rattle.bfs_pages.specs.Writes.{Kept};
+ghost use Rattle.bfs_values.specs.Chained.{IsLinked};
 ghost use Rattle.bfs_values.specs.Kinds.{IsCut};
 ghost use Rattle.bfs_values.specs.Links.{link_in};
 ghost use Rattle.bfs_values.specs.Values.{page_count, HasNumbers, values_in};
@@ -39,6 +40,7 @@ pub fn fold_next<P: Pages, L: Ledger>(
     ensures kept { Kept (P.counts pages.old) (P.counts pages.new) (P.frame pages.old) (P.frame pages.new) (P.goes_on pages.old pages.new) }
     ensures done { (b : List ℕ) → P.told pages.old ≡ Some b → HasNumbers b (Chain first) → IfOk result (λ more. more ≡ false → IfSome (P.told pages.new) (λ c. IsFolded c first)) }
     ensures grown { (b : List ℕ) (t : Shape) (front back : List Row) (key : Key) (value : ℤ) → P.told pages.old ≡ Some b → Stored kind b t (front ++ ((key, value) ∷ back)) → link_in value ≡ Chain first → IfOk result (λ more. more ≡ true → IfSome (P.told pages.new) (λ c. page_count (page_in b first) < page_count (page_in c first))) }
+    ensures linked { (b : List ℕ) (t : Shape) (front back : List Row) (key : Key) (value : ℤ) → P.told pages.old ≡ Some b → Stored kind b t (front ++ ((key, value) ∷ back)) → link_in value ≡ Chain first → IsLinked b (Chain first) → OnOk result (IfSome (P.told pages.new) (λ c. IsLinked c (Chain first))) }
 {
     let mut page = [0u8; PAGE];
     let seen = match look_at(pages, kind, first, number, &mut page, steps) {
@@ -83,6 +85,7 @@ pub fn fold_all<P: Pages, L: Ledger>(
     ensures just_read { IfErr result (IsJustRead (P.size pages.new) (P.last pages.new)) }
     ensures kept { Kept (P.counts pages.old) (P.counts pages.new) (P.frame pages.old) (P.frame pages.new) (P.goes_on pages.old pages.new) }
     ensures formed { (b : List ℕ) (t : Shape) (front back : List Row) (key : Key) (value : ℤ) → P.told pages.old ≡ Some b → Stored kind b t (front ++ ((key, value) ∷ back)) → link_in value ≡ Chain first → OnOk result (IfSome (P.told pages.new) (λ c. IsFolded c first)) }
+    ensures linked { (b : List ℕ) (t : Shape) (front back : List Row) (key : Key) (value : ℤ) → P.told pages.old ≡ Some b → Stored kind b t (front ++ ((key, value) ∷ back)) → link_in value ≡ Chain first → IsLinked b (Chain first) → OnOk result (IfSome (P.told pages.new) (λ c. IsLinked c (Chain first))) }
 {
     let mut left = 6u32;
     while left > 0 {

@@ -8,6 +8,7 @@ ghost use Rattle.bfs_pages.specs.Order.{Key};
 ghost use Rattle.bfs_pages.specs.Shapes.{Shape};
 ghost use Rattle.bfs_pages.specs.Trees.{page_in, neighbours_in};
 ghost use Rattle.bfs_pages.specs.Writes.{Kept};
+ghost use Rattle.bfs_values.specs.Chained.{IsLinked};
 ghost use Rattle.bfs_values.specs.Kinds.{IsCut};
 ghost use Rattle.bfs_values.specs.Links.{link_in};
 ghost use Rattle.bfs_values.specs.Values.{IsDuplicates, page_count, page_numbers, chain_of, numbers_of_pages, in_order, values_in};
@@ -58,6 +59,7 @@ pub fn pass_page<P: Pages, L: Ledger>(
     ensures just_read { IfErr result (IsJustRead (P.size pages.new) (P.last pages.new)) }
     ensures kept { Kept (P.counts pages.old) (P.counts pages.new) (P.frame pages.old) (P.frame pages.new) (P.goes_on pages.old pages.new) }
     ensures written { (b : List ℕ) (t : Shape) (front back : List Row) (key : Key) (value : ℤ) (first : ℕ) (us xs : List ℕ) → P.told pages.old ≡ Some b → Stored kind b t (front ++ ((key, value) ∷ back)) → link_in value ≡ Chain first → chain_of b first ≡ us ++ (at ∷ (gone.at ∷ xs)) → IsDuplicates page.old → other.now ≡ page_in b gone.at → IsOnce (numbers_of_pages b us ++ (page_numbers page.old ++ numbers_of_pages b xs)) → OnOk result (IfSome (P.told pages.new) (λ c. page_numbers (page_in c at) ≡ page_numbers page.old)) }
+    ensures linked { (b : List ℕ) (t : Shape) (front back : List Row) (key : Key) (value : ℤ) (first : ℕ) (us xs : List ℕ) → P.told pages.old ≡ Some b → Stored kind b t (front ++ ((key, value) ∷ back)) → link_in value ≡ Chain first → chain_of b first ≡ us ++ (at ∷ (gone.at ∷ xs)) → IsDuplicates page.old → other.now ≡ page_in b gone.at → IsOnce (numbers_of_pages b us ++ (page_numbers page.old ++ numbers_of_pages b xs)) → (neighbours_in page.old).0 ≡ (neighbours_in (page_in b at)).0 → IsLinked b (Chain first) → OnOk result (IfSome (P.told pages.new) (λ c. IsLinked c (Chain first))) }
 {
     match pass_by(pages, kind, at, page, gone.at, other, steps) {
         Ok(()) => {}
@@ -93,6 +95,7 @@ pub fn lessen_page<P: Pages>(
     ensures just_read { IfErr result (IsJustRead (P.size pages.new) (P.last pages.new)) }
     ensures kept { Kept (P.counts pages.old) (P.counts pages.new) (P.frame pages.old) (P.frame pages.new) (P.goes_on pages.old pages.new) }
     ensures same { IfOk result (λ o. IfSome o (λ v. v ≡ value)) }
+    ensures linked { (b : List ℕ) (t : Shape) (front back : List Row) (key : Key) (first : ℕ) → P.told pages.old ≡ Some b → Stored kind b t (front ++ ((key, value) ∷ back)) → link_in value ≡ Chain first → IsLocated (chain_of b first) found.at found.before → page.old ≡ page_in b found.at → IsLinked b (Chain first) → IfOk result (λ o. IfSome o (λ v. IfSome (P.told pages.new) (λ c. IsLinked c (Chain first)))) }
 {
     match find_number(page, 24, found.count, number) {
         Ok(i) => {
@@ -130,6 +133,7 @@ pub fn leave_page<P: Pages, L: Ledger>(
     ensures just_read { IfErr result (IsJustRead (P.size pages.new) (P.last pages.new)) }
     ensures kept { Kept (P.counts pages.old) (P.counts pages.new) (P.frame pages.old) (P.frame pages.new) (P.goes_on pages.old pages.new) }
     ensures same { IfOk result (λ o. IfSome o (λ v. v ≡ value)) }
+    ensures linked { (b : List ℕ) (t : Shape) (front back : List Row) (key : Key) (first : ℕ) → P.told pages.old ≡ Some b → Stored kind b t (front ++ ((key, value) ∷ back)) → link_in value ≡ Chain first → IsLocated (chain_of b first) found.at found.before → page.now ≡ page_in b found.at → IsLinked b (Chain first) → IfOk result (λ o. IfSome o (λ v. IfSome (P.told pages.new) (λ c. IsLinked c (Chain first)))) }
 {
     let mut prior = [0u8; PAGE];
     match read_page(pages, found.before, &mut prior, steps) {
@@ -171,6 +175,7 @@ pub fn leave_first<P: Pages, L: Ledger>(
     ensures just_read { IfErr result (IsJustRead (P.size pages.new) (P.last pages.new)) }
     ensures kept { Kept (P.counts pages.old) (P.counts pages.new) (P.frame pages.old) (P.frame pages.new) (P.goes_on pages.old pages.new) }
     ensures same { IfOk result (λ o. IfSome o (λ v. v ≡ value)) }
+    ensures linked { (b : List ℕ) (t : Shape) (front back : List Row) (key : Key) (first : ℕ) → P.told pages.old ≡ Some b → Stored kind b t (front ++ ((key, value) ∷ back)) → link_in value ≡ Chain first → IsLocated (chain_of b first) found.at found.before → page.old ≡ page_in b found.at → IsLinked b (Chain first) → IfOk result (λ o. IfSome o (λ v. IfSome (P.told pages.new) (λ c. IsLinked c (Chain first)))) }
 {
     if found.next == 0 {
         return match free_page(pages, kind, found.at, steps) {
@@ -220,6 +225,7 @@ pub fn lessen<P: Pages, L: Ledger>(
     ensures just_read { IfErr result (IsJustRead (P.size pages.new) (P.last pages.new)) }
     ensures kept { Kept (P.counts pages.old) (P.counts pages.new) (P.frame pages.old) (P.frame pages.new) (P.goes_on pages.old pages.new) }
     ensures same { IfOk result (λ o. IfSome o (λ v. v ≡ value)) }
+    ensures linked { (b : List ℕ) (t : Shape) (front back : List Row) (key : Key) (first : ℕ) → P.told pages.old ≡ Some b → Stored kind b t (front ++ ((key, value) ∷ back)) → link_in value ≡ Chain first → IsLocated (chain_of b first) found.at found.before → page.old ≡ page_in b found.at → IsLinked b (Chain first) → IfOk result (λ o. IfSome o (λ v. IfSome (P.told pages.new) (λ c. IsLinked c (Chain first)))) }
 {
     if found.count > 1 {
         return match lessen_page(pages, kind, value, found, page, number) {

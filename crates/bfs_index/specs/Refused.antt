@@ -38,8 +38,8 @@ IsUnpaired kind key told cause (Damaged page sort) = IfSome told (λ bytes. ¬ I
 IsUnpaired kind key told cause (Pages fault) = cause fault
 IsUnpaired kind key told cause NoMemory = Unit {0}
 
--- A pair wasn't added to an index, or taken out of one: a block could not be had, or a page added, for a reason; or there is no
--- room for a number. No page is damaged.
+-- A pair wasn't added to an index: a block could not be had, or a page added, for a reason; or there is no room for a number. No
+-- page is damaged.
 abbrev pub IsPairFault : Origin → Room → (ℕ → Option (List ℕ)) → TreeFault GrowFault → Type 0
 IsPairFault o v m Exists = ⊥
 IsPairFault o v m Absent = ⊥
@@ -47,7 +47,7 @@ IsPairFault o v m (Damaged page sort) = ⊥
 IsPairFault o v m (Pages fault) = HasFailed o v m fault
 IsPairFault o v m NoMemory = Unit {0}
 
--- the causes of a fault in what lies below: that a key is there, or that it isn't, is never answered
+-- the causes of a fault in what lies below, of a call that adds: that a key is there, or that it isn't, is never answered
 abbrev pub HasPairCause : Counts → Counts → TreeFault GrowFault → Type 0
 HasPairCause old new Exists = ⊥
 HasPairCause old new Absent = ⊥

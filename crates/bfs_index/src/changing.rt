@@ -5,12 +5,13 @@ ghost use Rattle.bfs_super.specs.Conditions.{IsValid, natural};
 ghost use Rattle.bfs_bitmap.specs.Fills.{IsBitmapBlock};
 ghost use Rattle.bfs_node.specs.Search.{IsSought};
 ghost use Rattle.bfs_txn.specs.Faults.{AreLater};
+ghost use Rattle.bfs_txn.specs.Told.{StaysChanged};
 ghost use Rattle.bfs_stream.specs.Grown.{IsOfVolume};
 ghost use Rattle.bfs_stream.specs.Sizes.{sizes_of};
 ghost use Rattle.bfs_stream_pages.specs.Held.{Held, stream_of};
 ghost use Rattle.bfs_values.specs.Reached.{IsWholeTree};
 ghost use Rattle.bfs_maps.specs.Mapped.{origin_of, HasHeld, StreamNow};
-ghost use Rattle.bfs_maps.specs.Refused.{IsChangeFault};
+ghost use Rattle.bfs_maps.specs.Refused.{IsChangeFault, IsTakingFault, IsUndone, HasReadCause};
 ghost use Rattle.bfs_index.specs.Indices.{IsIndex, HasWith, HasWithout};
 ghost use Rattle.bfs_index.specs.Refused.{IsPairPage, IsPairFault, HasPairCause};
 
@@ -43,6 +44,7 @@ fn add_over<E: Edits, L: Ledger>(
     ensures rest { pages.new.bitmap.now ≡ record pages.old.bitmap.now { tally = pages.new.bitmap.now.tally } }
     ensures backing { pages.new.backing ≡ pages.old.backing }
     ensures changed { (k : ℕ) → E.changed pages.new.edits.now k ≡ true → (E.changed pages.old.edits.now k ≡ true) ⊎ (IsBitmapBlock pages.old.bitmap.now k ⊎ (k < pages.old.backing.sizes.blocks)) }
+    ensures stays { StaysChanged (E.changed pages.old.edits.now) (E.changed pages.new.edits.now) }
     ensures edits_name { pages.new.edits.ghost_name ≡ pages.old.edits.ghost_name }
     ensures bitmap_name { pages.new.bitmap.ghost_name ≡ pages.old.bitmap.ghost_name }
     ensures frame { E.frame pages.new.edits.now ≡ E.frame pages.old.edits.now }
@@ -79,13 +81,16 @@ fn add_with<E: Edits, L: Ledger>(
     ensures blamed { (m : ℕ → Option (List ℕ)) → E.told edits.old ≡ Some m → Held (origin_of tree) bitmap.old length m → IfErr result (IsChangeFault (IsPairPage tree.kind key.now) (origin_of tree) bitmap.old m (E.told edits.new)) }
     ensures rest { bitmap.new ≡ record bitmap.old { tally = bitmap.new.tally } }
     ensures changed { (k : ℕ) → E.changed edits.new k ≡ true → (E.changed edits.old k ≡ true) ⊎ (IsBitmapBlock bitmap.old k ⊎ (k < natural tree.sup.num_blocks)) }
+    ensures stays { StaysChanged (E.changed edits.old) (E.changed edits.new) }
     ensures size { E.size edits.new ≡ E.size edits.old }
     ensures frame { E.frame edits.new ≡ E.frame edits.old }
     ensures later { AreLater (E.counts edits.old) (E.counts edits.new) }
     ensures cause { IfErr result (HasPairCause (E.counts edits.old) (E.counts edits.new)) }
 {
     let mut steps = Steps::<L>::begin(ledger);
-    let mut pages = StreamPages::over(tree.alloc, edits, bitmap, tree.inode, &tree.sup, length);
+    let mut pages = StreamPages::over(
+        tree.alloc, edits, bitmap, tree.inode, &tree.sup, length, false,
+    );
     add_over(&mut pages, tree.kind, key, id, &mut steps)
 }
 
@@ -110,6 +115,7 @@ pub(crate) fn add_pair<E: Edits>(
     ensures blamed { (m : ℕ → Option (List ℕ)) → E.told edits.old ≡ Some m → IfErr result (IsChangeFault (IsPairPage tree.kind key.now) (origin_of tree) bitmap.old m (E.told edits.new)) }
     ensures rest { bitmap.new ≡ record bitmap.old { tally = bitmap.new.tally } }
     ensures changed { (k : ℕ) → E.changed edits.new k ≡ true → (E.changed edits.old k ≡ true) ⊎ (IsBitmapBlock bitmap.old k ⊎ (k < natural tree.sup.num_blocks)) }
+    ensures stays { StaysChanged (E.changed edits.old) (E.changed edits.new) }
     ensures size { E.size edits.new ≡ E.size edits.old }
     ensures frame { E.frame edits.new ≡ E.frame edits.old }
     ensures later { AreLater (E.counts edits.old) (E.counts edits.new) }
@@ -131,20 +137,22 @@ fn take_over<E: Edits, L: Ledger>(
     steps: &mut Steps<L>,
 ) -> Result<(), MapFault>
     requires unfailed { pages.old.failed ≡ None }
+    requires fixed { pages.old.fixed ≡ true }
     requires begun { pages.old.start.value ≡ pages.old.edits.now }
     requires kind { IsTreeKind kind }
     requires key { IsSought kind key.now }
     ensures taken { (m : ℕ → Option (List ℕ)) → E.told pages.old.edits.now ≡ Some m → Held pages.old.backing pages.old.bitmap.now pages.old.length m → IsWholeTree kind (stream_of pages.old.backing m) → OnOk result (StreamNow pages.old.backing pages.old.bitmap.now pages.new.bitmap.now m (HasWithout kind (stream_of pages.old.backing m) key.now id) (E.told pages.new.edits.now) (E.changed pages.old.edits.now) (E.changed pages.new.edits.now)) }
-    ensures refused { (m : ℕ → Option (List ℕ)) → E.told pages.old.edits.now ≡ Some m → Held pages.old.backing pages.old.bitmap.now pages.old.length m → IsWholeTree kind (stream_of pages.old.backing m) → IfErr result (IsPairFault pages.old.backing pages.old.bitmap.now m) }
-    ensures blamed { (m : ℕ → Option (List ℕ)) → E.told pages.old.edits.now ≡ Some m → Held pages.old.backing pages.old.bitmap.now pages.old.length m → IfErr result (IsChangeFault (IsPairPage kind key.now) pages.old.backing pages.old.bitmap.now m (E.told pages.new.edits.now)) }
+    ensures refused { (m : ℕ → Option (List ℕ)) → E.told pages.old.edits.now ≡ Some m → Held pages.old.backing pages.old.bitmap.now pages.old.length m → IsWholeTree kind (stream_of pages.old.backing m) → IfErr result IsUndone }
+    ensures blamed { (m : ℕ → Option (List ℕ)) → E.told pages.old.edits.now ≡ Some m → Held pages.old.backing pages.old.bitmap.now pages.old.length m → IfErr result (IsTakingFault (IsPairPage kind key.now) pages.old.backing m (E.told pages.new.edits.now)) }
     ensures rest { pages.new.bitmap.now ≡ record pages.old.bitmap.now { tally = pages.new.bitmap.now.tally } }
     ensures backing { pages.new.backing ≡ pages.old.backing }
     ensures changed { (k : ℕ) → E.changed pages.new.edits.now k ≡ true → (E.changed pages.old.edits.now k ≡ true) ⊎ (IsBitmapBlock pages.old.bitmap.now k ⊎ (k < pages.old.backing.sizes.blocks)) }
+    ensures stays { StaysChanged (E.changed pages.old.edits.now) (E.changed pages.new.edits.now) }
     ensures edits_name { pages.new.edits.ghost_name ≡ pages.old.edits.ghost_name }
     ensures bitmap_name { pages.new.bitmap.ghost_name ≡ pages.old.bitmap.ghost_name }
     ensures frame { E.frame pages.new.edits.now ≡ E.frame pages.old.edits.now }
     ensures later { AreLater (E.counts pages.old.edits.now) (E.counts pages.new.edits.now) }
-    ensures cause { IfErr result (HasPairCause (E.counts pages.old.edits.now) (E.counts pages.new.edits.now)) }
+    ensures cause { IfErr result (HasReadCause (E.counts pages.old.edits.now) (E.counts pages.new.edits.now)) }
 {
     take_in(pages, kind, key, id, steps)
 }
@@ -171,17 +179,20 @@ fn take_with<E: Edits, L: Ledger>(
     requires whole { length % 1024 ≡ 0 }
     requires held { (m : ℕ → Option (List ℕ)) → E.told edits.old ≡ Some m → ∥ Held (origin_of tree) bitmap.old length m ∥₁ }
     ensures taken { (m : ℕ → Option (List ℕ)) → E.told edits.old ≡ Some m → Held (origin_of tree) bitmap.old length m → IsWholeTree tree.kind (stream_of (origin_of tree) m) → OnOk result (StreamNow (origin_of tree) bitmap.old bitmap.new m (HasWithout tree.kind (stream_of (origin_of tree) m) key.now id) (E.told edits.new) (E.changed edits.old) (E.changed edits.new)) }
-    ensures refused { (m : ℕ → Option (List ℕ)) → E.told edits.old ≡ Some m → Held (origin_of tree) bitmap.old length m → IsWholeTree tree.kind (stream_of (origin_of tree) m) → IfErr result (IsPairFault (origin_of tree) bitmap.old m) }
-    ensures blamed { (m : ℕ → Option (List ℕ)) → E.told edits.old ≡ Some m → Held (origin_of tree) bitmap.old length m → IfErr result (IsChangeFault (IsPairPage tree.kind key.now) (origin_of tree) bitmap.old m (E.told edits.new)) }
+    ensures refused { (m : ℕ → Option (List ℕ)) → E.told edits.old ≡ Some m → Held (origin_of tree) bitmap.old length m → IsWholeTree tree.kind (stream_of (origin_of tree) m) → IfErr result IsUndone }
+    ensures blamed { (m : ℕ → Option (List ℕ)) → E.told edits.old ≡ Some m → Held (origin_of tree) bitmap.old length m → IfErr result (IsTakingFault (IsPairPage tree.kind key.now) (origin_of tree) m (E.told edits.new)) }
     ensures rest { bitmap.new ≡ record bitmap.old { tally = bitmap.new.tally } }
     ensures changed { (k : ℕ) → E.changed edits.new k ≡ true → (E.changed edits.old k ≡ true) ⊎ (IsBitmapBlock bitmap.old k ⊎ (k < natural tree.sup.num_blocks)) }
+    ensures stays { StaysChanged (E.changed edits.old) (E.changed edits.new) }
     ensures size { E.size edits.new ≡ E.size edits.old }
     ensures frame { E.frame edits.new ≡ E.frame edits.old }
     ensures later { AreLater (E.counts edits.old) (E.counts edits.new) }
-    ensures cause { IfErr result (HasPairCause (E.counts edits.old) (E.counts edits.new)) }
+    ensures cause { IfErr result (HasReadCause (E.counts edits.old) (E.counts edits.new)) }
 {
     let mut steps = Steps::<L>::begin(ledger);
-    let mut pages = StreamPages::over(tree.alloc, edits, bitmap, tree.inode, &tree.sup, length);
+    let mut pages = StreamPages::over(
+        tree.alloc, edits, bitmap, tree.inode, &tree.sup, length, true,
+    );
     take_over(&mut pages, tree.kind, key, id, &mut steps)
 }
 
@@ -201,14 +212,15 @@ pub(crate) fn take_pair<E: Edits>(
     requires volume { IsOfVolume (sizes_of tree.sup) bitmap.old }
     requires stream { (m : ℕ → Option (List ℕ)) → E.told edits.old ≡ Some m → HasHeld (origin_of tree) bitmap.old m }
     ensures taken { (m : ℕ → Option (List ℕ)) → E.told edits.old ≡ Some m → IsIndex (record { origin = origin_of tree; kind = tree.kind }) bitmap.old m → OnOk result (StreamNow (origin_of tree) bitmap.old bitmap.new m (HasWithout tree.kind (stream_of (origin_of tree) m) key.now id) (E.told edits.new) (E.changed edits.old) (E.changed edits.new)) }
-    ensures refused { (m : ℕ → Option (List ℕ)) → E.told edits.old ≡ Some m → IsIndex (record { origin = origin_of tree; kind = tree.kind }) bitmap.old m → IfErr result (IsPairFault (origin_of tree) bitmap.old m) }
-    ensures blamed { (m : ℕ → Option (List ℕ)) → E.told edits.old ≡ Some m → IfErr result (IsChangeFault (IsPairPage tree.kind key.now) (origin_of tree) bitmap.old m (E.told edits.new)) }
+    ensures refused { (m : ℕ → Option (List ℕ)) → E.told edits.old ≡ Some m → IsIndex (record { origin = origin_of tree; kind = tree.kind }) bitmap.old m → IfErr result IsUndone }
+    ensures blamed { (m : ℕ → Option (List ℕ)) → E.told edits.old ≡ Some m → IfErr result (IsTakingFault (IsPairPage tree.kind key.now) (origin_of tree) m (E.told edits.new)) }
     ensures rest { bitmap.new ≡ record bitmap.old { tally = bitmap.new.tally } }
     ensures changed { (k : ℕ) → E.changed edits.new k ≡ true → (E.changed edits.old k ≡ true) ⊎ (IsBitmapBlock bitmap.old k ⊎ (k < natural tree.sup.num_blocks)) }
+    ensures stays { StaysChanged (E.changed edits.old) (E.changed edits.new) }
     ensures size { E.size edits.new ≡ E.size edits.old }
     ensures frame { E.frame edits.new ≡ E.frame edits.old }
     ensures later { AreLater (E.counts edits.old) (E.counts edits.new) }
-    ensures cause { IfErr result (HasPairCause (E.counts edits.old) (E.counts edits.new)) }
+    ensures cause { IfErr result (HasReadCause (E.counts edits.old) (E.counts edits.new)) }
 {
     let length = match stream_size(tree, edits) {
         Ok(length) => length,

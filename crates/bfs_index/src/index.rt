@@ -5,13 +5,14 @@ ghost use Rattle.bfs_super.specs.Conditions.{IsValid, natural};
 ghost use Rattle.bfs_bitmap.specs.Fills.{IsBitmapBlock};
 ghost use Rattle.bfs_node.specs.Search.{IsSought};
 ghost use Rattle.bfs_txn.specs.Faults.{AreLater};
+ghost use Rattle.bfs_txn.specs.Told.{StaysChanged};
 ghost use Rattle.bfs_stream.specs.Grown.{IsOfVolume};
 ghost use Rattle.bfs_stream.specs.Sizes.{sizes_of};
 ghost use Rattle.bfs_stream_pages.specs.Held.{stream_of};
 ghost use Rattle.bfs_values.specs.Kinds.{IsWanted};
 ghost use Rattle.bfs_values.specs.Reached.{IsWholeTree};
 ghost use Rattle.bfs_maps.specs.Mapped.{HasReadable, HasHeld};
-ghost use Rattle.bfs_maps.specs.Refused.{IsChangeFault, IsReadFault, IsUndone, HasReadCause};
+ghost use Rattle.bfs_maps.specs.Refused.{IsChangeFault, IsTakingFault, IsReadFault, IsUndone, HasReadCause};
 ghost use Rattle.bfs_index.specs.Indices.{IsIndex, HasAdded, HasTaken, pairs_at, found_between};
 ghost use Rattle.bfs_index.specs.Refused.{IsPairPage, IsPairFault, HasPairCause};
 
@@ -87,6 +88,7 @@ impl Index {
         ensures same { self.new ≡ self.old }
         ensures rest { bitmap.new ≡ record bitmap.old { tally = bitmap.new.tally } }
         ensures changed { (k : ℕ) → E.changed edits.new k ≡ true → (E.changed edits.old k ≡ true) ⊎ (IsBitmapBlock bitmap.old k ⊎ (k < self.old.origin.sizes.blocks)) }
+        ensures stays { StaysChanged (E.changed edits.old) (E.changed edits.new) }
         ensures size { E.size edits.new ≡ E.size edits.old }
         ensures frame { E.frame edits.new ≡ E.frame edits.old }
         ensures later { AreLater (E.counts edits.old) (E.counts edits.new) }
@@ -114,15 +116,16 @@ impl Index {
         requires stream { (m : ℕ → Option (List ℕ)) → E.told edits.old ≡ Some m → HasHeld self.old.origin bitmap.old m }
         requires key { IsSought self.old.kind key.now }
         ensures taken { (m : ℕ → Option (List ℕ)) → E.told edits.old ≡ Some m → IsIndex self.old bitmap.old m → OnOk result (HasTaken self.old bitmap.old bitmap.new m key.now id (E.told edits.new) (E.changed edits.old) (E.changed edits.new)) }
-        ensures refused { (m : ℕ → Option (List ℕ)) → E.told edits.old ≡ Some m → IsIndex self.old bitmap.old m → IfErr result (IsPairFault self.old.origin bitmap.old m) }
-        ensures blamed { (m : ℕ → Option (List ℕ)) → E.told edits.old ≡ Some m → IfErr result (IsChangeFault (IsPairPage self.old.kind key.now) self.old.origin bitmap.old m (E.told edits.new)) }
+        ensures refused { (m : ℕ → Option (List ℕ)) → E.told edits.old ≡ Some m → IsIndex self.old bitmap.old m → IfErr result IsUndone }
+        ensures blamed { (m : ℕ → Option (List ℕ)) → E.told edits.old ≡ Some m → IfErr result (IsTakingFault (IsPairPage self.old.kind key.now) self.old.origin m (E.told edits.new)) }
         ensures same { self.new ≡ self.old }
         ensures rest { bitmap.new ≡ record bitmap.old { tally = bitmap.new.tally } }
         ensures changed { (k : ℕ) → E.changed edits.new k ≡ true → (E.changed edits.old k ≡ true) ⊎ (IsBitmapBlock bitmap.old k ⊎ (k < self.old.origin.sizes.blocks)) }
+        ensures stays { StaysChanged (E.changed edits.old) (E.changed edits.new) }
         ensures size { E.size edits.new ≡ E.size edits.old }
         ensures frame { E.frame edits.new ≡ E.frame edits.old }
         ensures later { AreLater (E.counts edits.old) (E.counts edits.new) }
-        ensures cause { IfErr result (HasPairCause (E.counts edits.old) (E.counts edits.new)) }
+        ensures cause { IfErr result (HasReadCause (E.counts edits.old) (E.counts edits.new)) }
     {
         let tree = TreeAt {
             alloc: self.alloc,

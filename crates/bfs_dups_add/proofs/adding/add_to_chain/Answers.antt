@@ -1,4 +1,4 @@
-use Rattle.std.proofs.Common.{◌≡◌, ◌≢◌, ◌≤◌, ◌<◌, ◌++◌, ℕ, List, IfSome, ap, sym, ◌∙◌, arith, rules, w64, to_z, of_z}
+use Rattle.std.proofs.Common.{◌≡◌, ◌≢◌, ◌≤◌, ◌<◌, ◌++◌, ℕ, List, IfSome, ap, sym, ◌∙◌, arith, rules, w64, to_z, of_z, subst}
 use Rattle.bfs_base.specs.Lists.{times}
 use Rattle.bfs_pages.specs.Answers.{IsChild}
 use Rattle.bfs_pages.specs.Trees.{page_in}
@@ -11,9 +11,10 @@ use Rattle.bfs_values.specs.Stored.{with_number}
 use Rattle.bfs_dups_add.specs.declared.scan.Room.{Room}
 use Rattle.bfs_dups_add.proofs.Answered.{match-none, match-some, with-new, unchanged, revalued, linked-open, chain-facts, chain-times, linked-numbers, room-there}
 use Rattle.bfs_dups_add.proofs.Causes.{pages-scant}
-use Rattle.bfs_dups_add.proofs.Composed.{told-whole}
+use Rattle.bfs_dups_add.proofs.Composed.{told-whole, told-some, linked-row, first-small}
 use Rattle.bfs_dups_add.proofs.Lengthened.{widened, extended}
 use Rattle.bfs_dups_add.proofs.Forms.{formed-chain}
+use Rattle.bfs_values.specs.Chained.{IsLinked}
 use Rattle.bfs_dups_add.proofs.adding.add_to_chain.Goals as goal
 
 pub returns-in-Ok-None-clause-added : goal.returns-in-Ok-None-clause-added
@@ -99,3 +100,36 @@ pub returns-in-Ok-widen-clause-formed : goal.returns-in-Ok-widen-clause-formed
 returns-in-Ok-widen-clause-formed g c b e f =
     let signed : to_z w64 (of_z w64 c.args.value) ≡ c.args.value = search rules in
     formed-chain c.args.value (to_z w64 (of_z w64 c.args.value)) c.args.number c.args.first (values_in b c.args.value) c.requires.link signed f
+
+pub returns-in-Ok-None-clause-linked : goal.returns-in-Ok-None-clause-linked
+returns-in-Ok-None-clause-linked g c b t front back key e s k =
+    let signed : to_z w64 (of_z w64 c.args.value) ≡ c.args.value = search rules in
+    told-some (λ (d : List ℕ). IsLinked d (link_in (to_z w64 (of_z w64 c.args.value)))) (g.P.Pages.told c.scan_chain.new.pages) b (c.in-Ok-None.ensures.told ∙ e) (linked-row b (to_z w64 (of_z w64 c.args.value)) c.args.value (Chain c.args.first) signed c.requires.link (subst (IsLinked b) c.requires.link k))
+
+pub returns-in-Ok-clause-linked : goal.returns-in-Ok-clause-linked
+returns-in-Ok-clause-linked g c b t front back key e s k =
+    let w = told-whole (g.P.Pages.told c.args.pages.now) (g.P.Pages.size c.args.pages.now) b (g.met.P.Pages.sized c.args.pages.now) (g.met.P.Pages.whole c.args.pages.now) e in
+    let signed : to_z w64 (of_z w64 c.args.value) ≡ c.args.value = search rules in
+    let o = linked-open c.args.kind b t front key back c.args.value (Chain c.args.first) s c.requires.link in
+    let f = chain-facts b c.args.first w o.mine in
+    let m = match-some (1 ≤ times c.args.number (numbers_of_pages b f.pages)) (λ (room : Room). (times c.args.number (numbers_of_pages b f.pages) ≡ 0) × IsRoom b f.pages room) c.in-Ok-Some.field-0 c.in-Ok-Some.room (c.in-Ok-Some.ensures.found b f.pages e f.chain f.good) c.in-Ok-Some.field-0-is in
+    let r : c.scan_chain.new.last ≡ page_in b c.in-Ok-Some.room.last =
+    if_some (λ (b : List ℕ). c.scan_chain.new.last ≡ page_in b c.in-Ok-Some.room.last) (g.P.Pages.told c.args.pages.now) b
+    (if_some (λ (room : Room). IsChild (g.P.Pages.size c.args.pages.now) room.last × IsDuplicates c.scan_chain.new.last × IfSome (g.P.Pages.told c.args.pages.now) (λ b. c.scan_chain.new.last ≡ page_in b room.last)) c.in-Ok-Some.field-0 c.in-Ok-Some.room c.in-Ok-Some.ensures.last c.in-Ok-Some.field-0-is).2 e in
+    let x = c.in-Ok.ensures.extended b (c.in-Ok-Some.ensures.told ∙ e) r in
+    let done = extended c.args.kind b x.0 t (front ++ back) c.args.first c.in-Ok-Some.room.last x.2 c.args.number f.pages o w f.is f.chain m.1.last m.1.ends m.0 x.3 in
+    told-some (λ (d : List ℕ). IsLinked d (link_in (to_z w64 (of_z w64 c.args.value)))) (g.P.Pages.told c.extend.new.pages) x.0 x.1 (linked-row x.0 (to_z w64 (of_z w64 c.args.value)) c.args.value (Chain c.args.first) signed c.requires.link (done.3 (first-small c.args.value c.args.first c.requires.link) (subst (IsLinked b) c.requires.link k)))
+
+pub returns-in-Ok-widen-clause-linked : goal.returns-in-Ok-widen-clause-linked
+returns-in-Ok-widen-clause-linked g c b t front back key e s k =
+    let w = told-whole (g.P.Pages.told c.args.pages.now) (g.P.Pages.size c.args.pages.now) b (g.met.P.Pages.sized c.args.pages.now) (g.met.P.Pages.whole c.args.pages.now) e in
+    let signed : to_z w64 (of_z w64 c.args.value) ≡ c.args.value = search rules in
+    let o = linked-open c.args.kind b t front key back c.args.value (Chain c.args.first) s c.requires.link in
+    let f = chain-facts b c.args.first w o.mine in
+    let m = match-some (1 ≤ times c.args.number (numbers_of_pages b f.pages)) (λ (room : Room). (times c.args.number (numbers_of_pages b f.pages) ≡ 0) × IsRoom b f.pages room) c.in-Ok-Some.field-0 c.in-Ok-Some.room (c.in-Ok-Some.ensures.found b f.pages e f.chain f.good) c.in-Ok-Some.field-0-is in
+    let r : c.scan_chain.new.roomy ≡ page_in b c.in-Ok-Some.room.at =
+    if_some (λ (b : List ℕ). c.scan_chain.new.roomy ≡ page_in b c.in-Ok-Some.room.at) (g.P.Pages.told c.args.pages.now) b
+    (if_some (λ (room : Room). room.at ≢ 0 → IsChild (g.P.Pages.size c.args.pages.now) room.at × IsDuplicates c.scan_chain.new.roomy × (page_count c.scan_chain.new.roomy < 125) × (times c.args.number (page_numbers c.scan_chain.new.roomy) ≡ 0) × IfSome (g.P.Pages.told c.args.pages.now) (λ b. c.scan_chain.new.roomy ≡ page_in b room.at)) c.in-Ok-Some.field-0 c.in-Ok-Some.room c.in-Ok-Some.ensures.roomy c.in-Ok-Some.field-0-is c.if-room-eq0.false).4 e in
+    let x = c.in-Ok-widen.ensures.widened b (c.in-Ok-Some.ensures.told ∙ e) r in
+    let done = widened c.args.kind b x.0 t (front ++ back) c.args.first c.in-Ok-Some.room.at c.args.number f.pages o w f.is f.chain (room-there b f.pages c.in-Ok-Some.room m.1 c.if-room-eq0.false) m.0 x.2 in
+    told-some (λ (d : List ℕ). IsLinked d (link_in (to_z w64 (of_z w64 c.args.value)))) (g.P.Pages.told c.widen.new.pages) x.0 x.1 (linked-row x.0 (to_z w64 (of_z w64 c.args.value)) c.args.value (Chain c.args.first) signed c.requires.link (done.3 (subst (IsLinked b) c.requires.link k)))

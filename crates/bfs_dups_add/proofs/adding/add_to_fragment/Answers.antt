@@ -3,16 +3,17 @@ use Rattle.bfs_base.specs.Lists.{times}
 use Rattle.bfs_pages.specs.Trees.{page_in}
 use Rattle.bfs_pages.proofs.OfKind.{if_some}
 use Rattle.bfs_values.specs.Kinds.{IsValueOf}
-use Rattle.bfs_values.specs.declared.link.Link.TheVariants.{Fragment}
+use Rattle.bfs_values.specs.declared.link.Link.TheVariants.{Fragment, Chain}
 use Rattle.bfs_values.specs.Links.{link_in}
 use Rattle.bfs_values.specs.Values.{IsFragment, fragment_count, fragment_numbers, numbers_from, is_ascending, numbers_in, placed, values_in}
 use Rattle.bfs_dups_add.specs.Slots.{SameBut}
 use Rattle.bfs_values.specs.Stored.{with_number}
 use Rattle.bfs_dups_add.specs.Written.{IsFilled, IsLast}
-use Rattle.bfs_dups_add.proofs.Answered.{with-new, unchanged, revalued, linked-open, fragment-cut, eighth, vacated-whole}
-use Rattle.bfs_dups_add.proofs.Composed.{told-whole}
+use Rattle.bfs_dups_add.proofs.Answered.{with-new, unchanged, revalued, linked-open, fragment-cut, eighth, vacated-whole, eighth-linked}
+use Rattle.bfs_dups_add.proofs.Composed.{told-whole, told-some, some-any, linked-row}
 use Rattle.bfs_dups_add.proofs.Slotted.{refilled}
 use Rattle.bfs_dups_add.proofs.Forms.{formed-same, formed-more, formed-eighth}
+use Rattle.bfs_values.specs.Chained.{IsLinked}
 use Rattle.bfs_dups_add.proofs.adding.add_to_fragment.Goals as goal
 
 pub returns-in_default-clause-added : goal.returns-in_default-clause-added
@@ -120,3 +121,24 @@ returns-in-Ok-raise-clause-formed g c b e f =
     let none : times c.args.number (fragment_numbers (page_in b c.args.slot.0) c.args.slot.1) ≡ 0 = ap (λ (p : List ℕ). times c.args.number (fragment_numbers p c.args.slot.1)) (sym r) ∙ ap (times c.args.number) (sym count) ∙ absent in
     let many : c.in-Some.count ≡ fragment_count (page_in b c.args.slot.0) c.args.slot.1 = c.in-Some.ensures.1 ∙ ap (λ (p : List ℕ). fragment_count p c.args.slot.1) r in
     formed-eighth b c.args.value (to_z w64 (of_z w64 c.chain_value.result)) c.args.number c.args.slot.0 c.args.slot.1 c.in-Ok-raise.at c.requires.link (ap link_in signed ∙ c.chain_value.ensures) none (subst (λ (n : ℕ). 7 ≤ n) many c.if-count-lt7.false)
+
+pub returns-in-Ok-find_number-clause-linked : goal.returns-in-Ok-find_number-clause-linked
+returns-in-Ok-find_number-clause-linked g c b t front back key e s k =
+    let signed : to_z w64 (of_z w64 c.args.value) ≡ c.args.value = search rules in
+    some-any (λ (d : List ℕ). IsLinked d (link_in (to_z w64 (of_z w64 c.args.value)))) (g.P.Pages.told c.read_page.new.pages) (λ d. linked-row d (to_z w64 (of_z w64 c.args.value)) c.args.value (Fragment c.args.slot.0 c.args.slot.1) signed c.requires.link tt)
+
+pub returns-in-Ok-write_page-clause-linked : goal.returns-in-Ok-write_page-clause-linked
+returns-in-Ok-write_page-clause-linked g c b t front back key e s k =
+    let signed : to_z w64 (of_z w64 c.args.value) ≡ c.args.value = search rules in
+    some-any (λ (d : List ℕ). IsLinked d (link_in (to_z w64 (of_z w64 c.args.value)))) (g.P.Pages.told c.write_page.new.pages) (λ d. linked-row d (to_z w64 (of_z w64 c.args.value)) c.args.value (Fragment c.args.slot.0 c.args.slot.1) signed c.requires.link tt)
+
+pub returns-in-Ok-raise-clause-linked : goal.returns-in-Ok-raise-clause-linked
+returns-in-Ok-raise-clause-linked g c b t front back key e s k =
+    let w = told-whole (g.P.Pages.told c.args.pages.now) (g.P.Pages.size c.args.pages.now) b (g.met.P.Pages.sized c.args.pages.now) (g.met.P.Pages.whole c.args.pages.now) e in
+    let signed : to_z w64 (of_z w64 c.chain_value.result) ≡ c.chain_value.result = search rules in
+    let r : c.read_page.new.page ≡ page_in b c.args.slot.0 = if_some (λ (b : List ℕ). c.read_page.new.page ≡ page_in b c.args.slot.0) (g.P.Pages.told c.args.pages.now) b c.in-Ok.ensures.read e in
+    let x = c.in-Ok-raise.ensures.raised b t front back (key, c.args.value) (c.in-Ok.ensures.told ∙ e) r s c.requires.link in
+    told-some (λ (d : List ℕ). IsLinked d (link_in (to_z w64 (of_z w64 c.chain_value.result)))) (g.P.Pages.told c.raise.new.pages) x.1 x.2
+    (linked-row x.1 (to_z w64 (of_z w64 c.chain_value.result)) c.chain_value.result (Chain c.in-Ok-raise.at) signed c.chain_value.ensures
+    (eighth-linked c.args.kind b x.0 x.1 t front key back c.args.value c.args.slot.0 c.args.slot.1 c.in-Ok-raise.at c.page_of_fragment.new.page (placed c.args.number (fragment_numbers c.read_page.new.page c.args.slot.1)) s c.requires.link w
+    (vacated-whole b x.0 c.args.slot.0 c.args.slot.1 x.3 w) x.3 x.4 c.page_of_fragment.ensures.page c.page_of_fragment.ensures.left))

@@ -15,7 +15,7 @@ use Rattle.bfs_dups_add.specs.Written.{IsFilled}
 use Rattle.bfs_dups_add.specs.declared.vacant.Slot.{Slot}
 use Rattle.bfs_dups_add.proofs.Answered.{with-new, unchanged, revalued, linked-open, named-other, pair-new}
 use Rattle.bfs_dups_add.proofs.Causes.{pages-scant}
-use Rattle.bfs_dups_add.proofs.Composed.{told-whole}
+use Rattle.bfs_dups_add.proofs.Composed.{told-whole, linked-row}
 use Rattle.bfs_dups_add.proofs.Gained.{gained}
 use Rattle.bfs_dups_add.proofs.Slotted.{slot-taken}
 use Rattle.bfs_dups_add.proofs.Forms.{formed-pair}
@@ -100,3 +100,18 @@ returns-in-Ok-put_page-clause-place g c b e apart =
     let signed : to_z w64 (of_z w64 c.fragment_value-in-Ok-put_page.result) ≡ c.fragment_value-in-Ok-put_page.result = search rules in
     let crowded = if_some (λ (b : List ℕ). IsCrowded b c.args.leaf) (g.P.Pages.told c.args.pages.now) b (c.in-Ok-None.ensures.crowded c.in-Ok-None.field-0-is) e in
     (c.in-Ok-put_page.at, 0, ap link_in signed ∙ c.fragment_value-in-Ok-put_page.ensures, inr crowded)
+
+pub returns-then-number-old-clause-linked : goal.returns-then-number-old-clause-linked
+returns-then-number-old-clause-linked g c d =
+    let signed : to_z w64 (of_z w64 c.args.value) ≡ c.args.value = search rules in
+    linked-row d (to_z w64 (of_z w64 c.args.value)) c.args.value (Number c.args.old) signed c.requires.link tt
+
+pub returns-in-Ok-clause-linked : goal.returns-in-Ok-clause-linked
+returns-in-Ok-clause-linked g c d =
+    let signed : to_z w64 (of_z w64 c.fragment_value.result) ≡ c.fragment_value.result = search rules in
+    linked-row d (to_z w64 (of_z w64 c.fragment_value.result)) c.fragment_value.result (Fragment c.in-Ok-Some.slot.page c.in-Ok-Some.slot.index) signed c.fragment_value.ensures tt
+
+pub returns-in-Ok-put_page-clause-linked : goal.returns-in-Ok-put_page-clause-linked
+returns-in-Ok-put_page-clause-linked g c d =
+    let signed : to_z w64 (of_z w64 c.fragment_value-in-Ok-put_page.result) ≡ c.fragment_value-in-Ok-put_page.result = search rules in
+    linked-row d (to_z w64 (of_z w64 c.fragment_value-in-Ok-put_page.result)) c.fragment_value-in-Ok-put_page.result (Fragment c.in-Ok-put_page.at 0) signed c.fragment_value-in-Ok-put_page.ensures tt

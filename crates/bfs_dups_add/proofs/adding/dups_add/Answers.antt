@@ -1,4 +1,4 @@
-use Rattle.std.proofs.Common.{◌≡◌, ◌∷◌, ◌++◌, ℕ, ℤ, IfSome, length, ap, sym, ◌∙◌, subst, rules, w64, to_z, of_z}
+use Rattle.std.proofs.Common.{◌≡◌, ◌∷◌, ◌++◌, ℕ, ℤ, IfSome, length, ap, sym, ◌∙◌, subst, rules, w64, to_z, of_z, List}
 use Rattle.bfs_pages.specs.Answers.{IsChild}
 use Rattle.bfs_pages.specs.Shapes.{tree_rows}
 use Rattle.bfs_pages.proofs.Reading.{not_true}
@@ -10,6 +10,8 @@ use Rattle.bfs_values.specs.Values.{values_in}
 use Rattle.bfs_values.specs.Stored.{Stored, IsRevalued, with_number}
 use Rattle.bfs_dups_add.proofs.Answered.{linked-open, leaf-cut}
 use Rattle.bfs_dups_add.proofs.Crowding.{same-number}
+use Rattle.bfs_dups_add.proofs.Composed.{some-any}
+use Rattle.bfs_values.specs.Chained.{IsLinked}
 use Rattle.bfs_dups_add.proofs.adding.dups_add.Goals as goal
 
 pub returns-in-Ok-clause-added : goal.returns-in-Ok-clause-added
@@ -100,3 +102,22 @@ returns-in-Ok-clause-place g c b old e link apart =
     let same : c.in-Number.old ≡ old = same-number c.in-Number.old old (c.in-Number.ensures ∙ ap link_in signed ∙ link) in
     let x = c.in-Ok.ensures.place b e (λ i. apart (i ∙ same)) in
     (x.0, x.1, ap link_in new ∙ x.2, x.3)
+
+pub returns-in-Ok-clause-linked : goal.returns-in-Ok-clause-linked
+returns-in-Ok-clause-linked g c b t front back key e s k =
+    let new : to_z w64 (of_z w64 c.in-Ok.new) ≡ c.in-Ok.new = search rules in
+    some-any (λ (d : List ℕ). IsLinked d (link_in (to_z w64 (of_z w64 c.in-Ok.new)))) (g.P.Pages.told c.add_to_number.new.pages) (λ d. subst (λ (v : ℤ). IsLinked d (link_in v)) (sym new) (c.in-Ok.ensures.linked d))
+
+pub returns-in-Ok-add_to_fragment-clause-linked : goal.returns-in-Ok-add_to_fragment-clause-linked
+returns-in-Ok-add_to_fragment-clause-linked g c b t front back key e s k =
+    let signed : to_z w64 (of_z w64 c.args.value) ≡ c.args.value = search rules in
+    let new : to_z w64 (of_z w64 c.in-Ok-add_to_fragment.new) ≡ c.in-Ok-add_to_fragment.new = search rules in
+    subst (λ (v : ℤ). IfSome (g.P.Pages.told c.add_to_fragment.new.pages) (λ d. IsLinked d (link_in v))) (sym new)
+    (c.in-Ok-add_to_fragment.ensures.linked b t front back key e (subst (λ (v : ℤ). Stored c.args.kind b t (front ++ ((key, v) ∷ back))) (sym signed) s) (subst (λ (v : ℤ). IsLinked b (link_in v)) (sym signed) k))
+
+pub returns-in-Ok-add_to_chain-clause-linked : goal.returns-in-Ok-add_to_chain-clause-linked
+returns-in-Ok-add_to_chain-clause-linked g c b t front back key e s k =
+    let signed : to_z w64 (of_z w64 c.args.value) ≡ c.args.value = search rules in
+    let new : to_z w64 (of_z w64 c.in-Ok-add_to_chain.new) ≡ c.in-Ok-add_to_chain.new = search rules in
+    subst (λ (v : ℤ). IfSome (g.P.Pages.told c.add_to_chain.new.pages) (λ d. IsLinked d (link_in v))) (sym new)
+    (c.in-Ok-add_to_chain.ensures.linked b t front back key e (subst (λ (v : ℤ). Stored c.args.kind b t (front ++ ((key, v) ∷ back))) (sym signed) s) (subst (λ (v : ℤ). IsLinked b (link_in v)) (sym signed) k))

@@ -1,4 +1,4 @@
-use Rattle.std.proofs.Common.{◌≡◌, ◌⊎◌, ◌≤◌, ◌∷◌, ◌++◌, ℕ, ℤ, Some, IfSome, length, ap, sym, ◌∙◌, subst, rules, w64, to_z, of_z}
+use Rattle.std.proofs.Common.{◌≡◌, ◌⊎◌, ◌≤◌, ◌∷◌, ◌++◌, ℕ, ℤ, Some, IfSome, length, ap, sym, ◌∙◌, subst, rules, w64, to_z, of_z, List}
 use Rattle.bfs_base.specs.Lists.{times}
 use Rattle.bfs_pages.specs.Answers.{IsChild}
 use Rattle.bfs_pages.specs.Shapes.{tree_rows}
@@ -12,10 +12,11 @@ use Rattle.bfs_values.specs.Formed.{IsFormed}
 use Rattle.bfs_values.specs.Named.{IsNamedIn, IsCrowded}
 use Rattle.bfs_values.specs.Stored.{Stored}
 use Rattle.bfs_dups_add.proofs.Answered.{linked-open, leaf-cut, pair-new}
-use Rattle.bfs_dups_add.proofs.Composed.{told-whole, link-small, page-of}
+use Rattle.bfs_dups_add.proofs.Composed.{told-whole, link-small, page-of, told-some, some-both}
 use Rattle.bfs_dups_remove.specs.Lessened.{without_number, IsLessened}
 use Rattle.bfs_dups_remove.proofs.Forms.{never-there}
 use Rattle.bfs_dups_remove.proofs.Plucked.{untouched, plain-gone}
+use Rattle.bfs_values.specs.Chained.{IsLinked}
 use Rattle.bfs_dups_remove.proofs.removing.dups_remove.Goals as goal
 
 pub returns-then-old-number-clause-removed : goal.returns-then-old-number-clause-removed
@@ -123,3 +124,17 @@ returns-in-Ok-remove_from_chain-clause-place g c b t front back key first page i
     let same : c.in-Chain.page ≡ first = ap page-of (c.in-Chain.ensures ∙ ap link_in signed ∙ link) in
     let place = c.in-Ok-remove_from_chain.ensures.place b t front back key page i e (subst (λ (v : ℤ). Stored c.args.kind b t (front ++ ((key, v) ∷ back))) (sym signed) s) (subst (λ (v : ℤ). tree_rows t ≡ front ++ ((key, v) ∷ back)) (sym signed) rows) leaf in
     subst (λ (p : ℕ). IfSome c.in-Ok-remove_from_chain.new (λ new. link_in new ≡ Fragment page i → IsNamedIn b c.args.leaf page ⊎ ((page ≡ p) × IsCrowded b c.args.leaf))) same place
+
+pub returns-else-old-number-clause-linked : goal.returns-else-old-number-clause-linked
+returns-else-old-number-clause-linked g c b t front back key e s k =
+    let signed : to_z w64 (of_z w64 c.args.value) ≡ c.args.value = search rules in
+    told-some (λ (d : List ℕ). IsLinked d (link_in (to_z w64 (of_z w64 c.args.value)))) (g.P.Pages.told c.args.pages.now) b e (subst (λ (v : ℤ). IsLinked b (link_in v)) (sym signed) k)
+
+pub returns-in-Ok-clause-linked : goal.returns-in-Ok-clause-linked
+returns-in-Ok-clause-linked g c b t front back key e s k =
+    some-both (λ (v : ℤ) (d : List ℕ). IsLinked d (link_in v)) c.in-Ok.new (g.P.Pages.told c.remove_from_fragment.new.pages) c.in-Ok.ensures.linked
+
+pub returns-in-Ok-remove_from_chain-clause-linked : goal.returns-in-Ok-remove_from_chain-clause-linked
+returns-in-Ok-remove_from_chain-clause-linked g c b t front back key e s k =
+    let signed : to_z w64 (of_z w64 c.args.value) ≡ c.args.value = search rules in
+    c.in-Ok-remove_from_chain.ensures.linked b t front back key e (subst (λ (v : ℤ). Stored c.args.kind b t (front ++ ((key, v) ∷ back))) (sym signed) s) (subst (λ (v : ℤ). IsLinked b (link_in v)) (sym signed) k)

@@ -3,14 +3,14 @@ use Rattle.bfs_base.specs.Lists.{times}
 use Rattle.bfs_pages.specs.Trees.{page_in}
 use Rattle.bfs_pages.proofs.OfKind.{if_some}
 use Rattle.bfs_values.specs.Kinds.{IsValueOf}
-use Rattle.bfs_values.specs.declared.link.Link.TheVariants.{Fragment}
+use Rattle.bfs_values.specs.declared.link.Link.TheVariants.{Fragment, Number}
 use Rattle.bfs_values.specs.Links.{link_in}
 use Rattle.bfs_values.specs.Values.{IsFragment, fragment_count, fragment_numbers, numbers_from, is_ascending, numbers_in, values_in}
 use Rattle.bfs_values.specs.Formed.{AreFew}
 use Rattle.bfs_dups_add.specs.Slots.{SameBut}
 use Rattle.bfs_dups_add.specs.Written.{IsFilled}
 use Rattle.bfs_dups_add.proofs.Answered.{linked-open, fragment-cut, vacated-whole}
-use Rattle.bfs_dups_add.proofs.Composed.{told-whole}
+use Rattle.bfs_dups_add.proofs.Composed.{told-whole, linked-row}
 use Rattle.bfs_dups_add.proofs.Moved.{length-numbers}
 use Rattle.bfs_dups_remove.specs.Lessened.{without_number, IsLessened}
 use Rattle.bfs_dups_remove.proofs.Forms.{never-there, few-numbers, formed-number, formed-fragment}
@@ -115,3 +115,18 @@ returns-in-Ok-write_page-clause-formed g c b e i =
     let few = few-numbers c.narrow_fragment.new.page (64 * c.args.slot.1 + 8) (fragment_count c.narrow_fragment.new.page c.args.slot.1) c.narrow_fragment.ensures.good.some c.narrow_fragment.ensures.good.fits (c.in-None.ensures.none refl) in
     formed-fragment (to_z w64 (of_z w64 c.args.value)) c.args.slot.0 c.args.slot.1 (without_number c.args.number (values_in b c.args.value)) (ap link_in signed ∙ c.requires.link)
     (subst AreFew (less ∙ ap (λ l. without_number c.args.number (numbers_in b l)) (sym c.requires.link)) few)
+
+pub returns-in-Err-find_number-clause-linked : goal.returns-in-Err-find_number-clause-linked
+returns-in-Err-find_number-clause-linked g c d =
+    let signed : to_z w64 (of_z w64 c.args.value) ≡ c.args.value = search rules in
+    linked-row d (to_z w64 (of_z w64 c.args.value)) c.args.value (Fragment c.args.slot.0 c.args.slot.1) signed c.requires.link tt
+
+pub returns-in-Ok-vacate-2-clause-linked : goal.returns-in-Ok-vacate-2-clause-linked
+returns-in-Ok-vacate-2-clause-linked g c d =
+    let signed : to_z w64 (of_z w64 c.number_value.result) ≡ c.number_value.result = search rules in
+    linked-row d (to_z w64 (of_z w64 c.number_value.result)) c.number_value.result (Number c.in-Some-lone_number.plain) signed c.number_value.ensures tt
+
+pub returns-in-Ok-write_page-clause-linked : goal.returns-in-Ok-write_page-clause-linked
+returns-in-Ok-write_page-clause-linked g c d =
+    let signed : to_z w64 (of_z w64 c.args.value) ≡ c.args.value = search rules in
+    linked-row d (to_z w64 (of_z w64 c.args.value)) c.args.value (Fragment c.args.slot.0 c.args.slot.1) signed c.requires.link tt

@@ -1,18 +1,19 @@
 use Rattle.std.proofs.Common.{◌≡◌, ◌⊎◌, ◌≤◌, ℕ, ℤ, List, refl, ap, sym, ◌∙◌, subst, rules, w64, to_z, of_z}
 use Rattle.bfs_pages.specs.Trees.{page_in, neighbours_in}
 use Rattle.bfs_pages.proofs.OfKind.{if_some}
-use Rattle.bfs_values.specs.declared.link.Link.TheVariants.{Chain}
+use Rattle.bfs_values.specs.declared.link.Link.TheVariants.{Chain, Number, Fragment}
 use Rattle.bfs_values.specs.Links.{link_in}
 use Rattle.bfs_values.specs.Values.{page_count, page_numbers, next_of, values_in}
 use Rattle.bfs_values.specs.Formed.{IsFormed}
 use Rattle.bfs_values.specs.Named.{IsNamedIn, IsCrowded}
 use Rattle.bfs_values.specs.Stored.{IsRevalued}
 use Rattle.bfs_dups_add.proofs.Answered.{linked-numbers}
-use Rattle.bfs_dups_add.proofs.Composed.{told-whole, page-of}
+use Rattle.bfs_dups_add.proofs.Composed.{told-whole, page-of, told-some, some-any, linked-row}
 use Rattle.bfs_dups_remove.proofs.Folded.{the-first, unchanged-row}
 use Rattle.bfs_dups_remove.proofs.Forms.{formed-pages, formed-full, formed-number, few-numbers, few-count}
 use Rattle.bfs_dups_remove.proofs.Lesser.{stored-row, second, only-page}
 use Rattle.bfs_dups_remove.proofs.Settled.{lone-means, plain-row}
+use Rattle.bfs_values.specs.Chained.{IsLinked}
 use Rattle.bfs_dups_remove.proofs.settling.settle.Goals as goal
 
 pub returns-in-Err-clause-settled : goal.returns-in-Err-clause-settled
@@ -113,3 +114,24 @@ returns-in-Ok-settle_few-clause-place g c b page i e link =
     let x = c.in-Ok-settle_few.ensures.place b (c.in-Ok.ensures.told ∙ e) in
     let same : x.0 ≡ page = ap page-of (sym x.2 ∙ ap link_in (sym new) ∙ link) in
     subst (λ (p : ℕ). IsNamedIn b c.args.leaf p ⊎ ((p ≡ c.args.first) × IsCrowded b c.args.leaf)) same x.3
+
+pub returns-then-seen-ne0-clause-linked : goal.returns-then-seen-ne0-clause-linked
+returns-then-seen-ne0-clause-linked g c b e k =
+    let signed : to_z w64 (of_z w64 c.args.value) ≡ c.args.value = search rules in
+    told-some (λ (d : List ℕ). IsLinked d (link_in (to_z w64 (of_z w64 c.args.value)))) (g.P.Pages.told c.look_at.new.pages) b (c.in-Ok.ensures.told ∙ e) (subst (λ (v : ℤ). IsLinked b (link_in v)) (sym signed) k)
+
+pub returns-then-seen-gt7-clause-linked : goal.returns-then-seen-gt7-clause-linked
+returns-then-seen-gt7-clause-linked g c b e k =
+    let signed : to_z w64 (of_z w64 c.args.value) ≡ c.args.value = search rules in
+    told-some (λ (d : List ℕ). IsLinked d (link_in (to_z w64 (of_z w64 c.args.value)))) (g.P.Pages.told c.look_at.new.pages) b (c.in-Ok.ensures.told ∙ e) (subst (λ (v : ℤ). IsLinked b (link_in v)) (sym signed) k)
+
+pub returns-in-Ok-free_page-clause-linked : goal.returns-in-Ok-free_page-clause-linked
+returns-in-Ok-free_page-clause-linked g c b e k =
+    let signed : to_z w64 (of_z w64 c.number_value.result) ≡ c.number_value.result = search rules in
+    some-any (λ (d : List ℕ). IsLinked d (link_in (to_z w64 (of_z w64 c.number_value.result)))) (g.P.Pages.told c.free_page.new.pages) (λ d. linked-row d (to_z w64 (of_z w64 c.number_value.result)) c.number_value.result (Number c.in-Some.plain) signed c.number_value.ensures tt)
+
+pub returns-in-Ok-settle_few-clause-linked : goal.returns-in-Ok-settle_few-clause-linked
+returns-in-Ok-settle_few-clause-linked g c b e k =
+    let new : to_z w64 (of_z w64 c.in-Ok-settle_few.new) ≡ c.in-Ok-settle_few.new = search rules in
+    let x = c.in-Ok-settle_few.ensures.place b (c.in-Ok.ensures.told ∙ e) in
+    some-any (λ (d : List ℕ). IsLinked d (link_in (to_z w64 (of_z w64 c.in-Ok-settle_few.new)))) (g.P.Pages.told c.settle_few.new.pages) (λ d. linked-row d (to_z w64 (of_z w64 c.in-Ok-settle_few.new)) c.in-Ok-settle_few.new (Fragment x.0 x.1) new x.2 tt)

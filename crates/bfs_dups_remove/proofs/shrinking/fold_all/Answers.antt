@@ -5,11 +5,12 @@ use Rattle.bfs_pages.proofs.OfKind.{if_some}
 use Rattle.bfs_values.specs.declared.link.Link.TheVariants.{Chain}
 use Rattle.bfs_values.specs.Values.{page_count, values_in}
 use Rattle.bfs_dups_add.proofs.Answered.{linked-numbers}
-use Rattle.bfs_dups_add.proofs.Composed.{told-whole}
+use Rattle.bfs_dups_add.proofs.Composed.{told-whole, told-some}
 use Rattle.bfs_dups_remove.specs.Shortened.{IsFolded}
 use Rattle.bfs_dups_remove.proofs.Folded.{the-first, unchanged-row}
-use Rattle.bfs_dups_remove.proofs.Forms.{told-some, folded-full, six-more, one-less, none-left}
+use Rattle.bfs_dups_remove.proofs.Forms.{folded-full, six-more, one-less, none-left}
 use Rattle.bfs_dups_remove.proofs.Lesser.{stored-row, revalued-twice}
+use Rattle.bfs_values.specs.Chained.{IsLinked}
 use Rattle.bfs_dups_remove.proofs.shrinking.fold_all.Goals as goal
 
 pub loop-left-init : goal.loop-left-init
@@ -21,6 +22,7 @@ loop-left-init g c = record {
       let w = told-whole (g.P.Pages.told c.args.pages.now) (g.P.Pages.size c.args.pages.now) b (g.met.P.Pages.sized c.args.pages.now) (g.met.P.Pages.whole c.args.pages.now) e in
       let f = the-first b c.args.first w (linked-numbers b value (Chain c.args.first) link (stored-row c.args.kind b t front key back value s)) in
       told-some (λ (d : List ℕ). 7 ≤ 6 + page_count (page_in d c.args.first)) (g.P.Pages.told c.args.pages.now) b e (six-more (page_count (page_in b c.args.first)) f.good.some);
+  linked = λ b t front back key value e s link k. told-some (λ (d : List ℕ). IsLinked d (Chain c.args.first)) (g.P.Pages.told c.args.pages.now) b e k;
 }
 
 pub returns-in-Err-clause-folded : goal.returns-in-Err-clause-folded
@@ -52,6 +54,9 @@ loop-left-preserved g c = record {
       let before : 7 ≤ c.loop-left.left + page_count (page_in x.0 c.args.first) = if_some (λ (d : List ℕ). 7 ≤ c.loop-left.left + page_count (page_in d c.args.first)) (g.P.Pages.told c.loop-left.pages) x.0 (c.loop-left.invariant.full b t front back key value e s link) x.1 in
       let more : page_count (page_in x.0 c.args.first) < page_count (page_in y.0 c.args.first) = if_some (λ (d : List ℕ). page_count (page_in x.0 c.args.first) < page_count (page_in d c.args.first)) (g.P.Pages.told c.fold_next.new.pages) y.0 (c.in-Ok.ensures.grown x.0 t front back key value x.1 x.2.stored link c.if-not-more.false) y.1 in
       told-some (λ (d : List ℕ). 7 ≤ (c.loop-left.left - 1) + page_count (page_in d c.args.first)) (g.P.Pages.told c.fold_next.new.pages) y.0 y.1 (one-less c.loop-left.left (page_count (page_in x.0 c.args.first)) (page_count (page_in y.0 c.args.first)) before more);
+  linked = λ b t front back key value e s link k.
+      let x = c.loop-left.invariant.folded b t front back key value e s link in
+      c.in-Ok.ensures.linked x.0 t front back key value x.1 x.2.stored link (if_some (λ (d : List ℕ). IsLinked d (Chain c.args.first)) (g.P.Pages.told c.loop-left.pages) x.0 (c.loop-left.invariant.linked b t front back key value e s link k) x.1);
 }
 
 pub returns-clause-folded : goal.returns-clause-folded
@@ -69,3 +74,11 @@ returns-clause-formed g c b t front back key value e s link =
     let full : 7 ≤ c.loop-left.left + page_count (page_in x.0 c.args.first) = if_some (λ (d : List ℕ). 7 ≤ c.loop-left.left + page_count (page_in d c.args.first)) (g.P.Pages.told c.loop-left.pages) x.0 (c.loop-left.invariant.full b t front back key value e s link) x.1 in
     told-some (λ (d : List ℕ). IsFolded d c.args.first) (g.P.Pages.told c.loop-left.pages) x.0 x.1
     (folded-full x.0 c.args.first w (linked-numbers x.0 value (Chain c.args.first) link (stored-row c.args.kind x.0 t front key back value x.2.stored)) (none-left c.loop-left.left (page_count (page_in x.0 c.args.first)) full c.loop-left-test.false))
+
+pub returns-then-not-more-clause-linked : goal.returns-then-not-more-clause-linked
+returns-then-not-more-clause-linked g c b t front back key value e s link k =
+    let x = c.loop-left.invariant.folded b t front back key value e s link in
+    c.in-Ok.ensures.linked x.0 t front back key value x.1 x.2.stored link (if_some (λ (d : List ℕ). IsLinked d (Chain c.args.first)) (g.P.Pages.told c.loop-left.pages) x.0 (c.loop-left.invariant.linked b t front back key value e s link k) x.1)
+
+pub returns-clause-linked : goal.returns-clause-linked
+returns-clause-linked g c b t front back key value e s link k = c.loop-left.invariant.linked b t front back key value e s link k

@@ -56,3 +56,15 @@ returns-in-Err-pass_page-clause-lessened g c b t front back key first e s link l
     let is : page_numbers c.take_numbers.new.page ≡ page_numbers (page_in b c.args.found.next) = c.take_numbers.ensures.numbers ∙ ap page_numbers q in
     let m = without-first b first c.args.found.at c.args.found.next c.args.number c.args.value n.back n.parts link h only in
     c.in-Err-pass_page.ensures.passed b t front back key c.args.value first [] n.back (c.in-Ok-look_at.ensures.told ∙ e) s link n.parts c.take_numbers.ensures.good q (subst (λ (ns : List ℕ). IsOnce (ns ++ numbers_of_pages b n.back)) (sym is) m.0)
+
+pub returns-in-Ok-pass_page-clause-linked : goal.returns-in-Ok-pass_page-clause-linked
+returns-in-Ok-pass_page-clause-linked g c b t front back key first e s link l r k =
+    let w = told-whole (g.P.Pages.told c.args.pages.now) (g.P.Pages.size c.args.pages.now) b (g.met.P.Pages.sized c.args.pages.now) (g.met.P.Pages.whole c.args.pages.now) e in
+    let h = linked-numbers b c.args.value (Chain first) link (stored-row c.args.kind b t front key back c.args.value s) in
+    let only = lone (page_in b c.args.found.at) c.args.number (subst (λ (p : List ℕ). page_count p ≡ 1) r c.requires.count) (subst (λ (p : List ℕ). 1 ≤ times c.args.number (page_numbers p)) r c.requires.there) in
+    let n = second b first c.args.found.at c.args.found.next l.back w h (alone-front _ c.args.found.at c.args.found.before l c.requires.before) (c.requires.behind ∙ ap (λ (p : List ℕ). (neighbours_in p).1) r) c.if-found-eq0.false in
+    let q : c.look_at.new.page ≡ page_in b c.args.found.next = if_some (λ (b : List ℕ). c.look_at.new.page ≡ page_in b c.args.found.next) (g.P.Pages.told c.args.pages.now) b c.in-Ok-look_at.ensures.read e in
+    let is : page_numbers c.take_numbers.new.page ≡ page_numbers (page_in b c.args.found.next) = c.take_numbers.ensures.numbers ∙ ap page_numbers q in
+    let m = without-first b first c.args.found.at c.args.found.next c.args.number c.args.value n.back n.parts link h only in
+    c.in-Ok-pass_page.ensures.linked b t front back key c.args.value first [] n.back (c.in-Ok-look_at.ensures.told ∙ e) s link n.parts c.take_numbers.ensures.good q (subst (λ (ns : List ℕ). IsOnce (ns ++ numbers_of_pages b n.back)) (sym is) m.0)
+    (ap (λ (l : ℕ × ℕ). l.0) c.take_numbers.ensures.links ∙ ap (λ (p : List ℕ). (neighbours_in p).0) r) k

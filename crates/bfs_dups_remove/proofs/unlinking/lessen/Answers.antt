@@ -37,3 +37,18 @@ pub returns-in-Err-leave_first-clause-lessened : goal.returns-in-Err-leave_first
 returns-in-Err-leave_first-clause-lessened g c b t front back key first e s link l r =
     let signed : to_z w64 (of_z w64 c.args.value) ≡ c.args.value = search rules in
     c.in-Err-leave_first.ensures.lessened b t front back key first e (subst (λ (v : ℤ). Stored c.args.kind b t (front ++ ((key, v) ∷ back))) (sym signed) s) (ap link_in signed ∙ link) l r
+
+pub returns-in-Ok-clause-linked : goal.returns-in-Ok-clause-linked
+returns-in-Ok-clause-linked g c b t front back key first e s link l r k =
+    let signed : to_z w64 (of_z w64 c.args.value) ≡ c.args.value = search rules in
+    c.in-Ok.ensures.linked b t front back key first e (subst (λ (v : ℤ). Stored c.args.kind b t (front ++ ((key, v) ∷ back))) (sym signed) s) (ap link_in signed ∙ link) l r k
+
+pub returns-in-Ok-leave_page-clause-linked : goal.returns-in-Ok-leave_page-clause-linked
+returns-in-Ok-leave_page-clause-linked g c b t front back key first e s link l r k =
+    let signed : to_z w64 (of_z w64 c.args.value) ≡ c.args.value = search rules in
+    c.in-Ok-leave_page.ensures.linked b t front back key first e (subst (λ (v : ℤ). Stored c.args.kind b t (front ++ ((key, v) ∷ back))) (sym signed) s) (ap link_in signed ∙ link) l r k
+
+pub returns-in-Ok-leave_first-clause-linked : goal.returns-in-Ok-leave_first-clause-linked
+returns-in-Ok-leave_first-clause-linked g c b t front back key first e s link l r k =
+    let signed : to_z w64 (of_z w64 c.args.value) ≡ c.args.value = search rules in
+    c.in-Ok-leave_first.ensures.linked b t front back key first e (subst (λ (v : ℤ). Stored c.args.kind b t (front ++ ((key, v) ∷ back))) (sym signed) s) (ap link_in signed ∙ link) l r k

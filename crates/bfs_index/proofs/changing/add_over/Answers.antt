@@ -25,14 +25,14 @@ returns-clause-refused g c m told held tree =
     let same = ap g.E.Blocks.told c.requires.begun in
     let is = told_start s.backing s.failed (g.E.Blocks.told s.start.value) (g.E.Blocks.told s.edits.now) m c.requires.unfailed same told in
     if_err _ _ _ _ c.add_in.result (c.add_in.ensures.added (stream_of s.backing m) is tree) c.add_in.ensures.refused (λ fault why also.
-    pair_fault c.args.kind c.args.key.now s.backing s.bitmap.now m _ _ fault why also (λ f why. cause_from s.backing s.bitmap.now s.length m s.failed (g.E.Blocks.told s.start.value) (g.E.Blocks.told s.edits.now) (g.E.Blocks.counts s.edits.now) (g.E.Blocks.counts q.edits.now) f c.requires.unfailed same told held why))
+    pair_fault c.args.kind c.args.key.now s.backing s.bitmap.now m _ _ fault why also (λ f why. cause_from s.backing s.bitmap.now s.length m s.failed (g.E.Blocks.told s.start.value) (g.E.Blocks.told s.edits.now) (g.E.Blocks.counts s.edits.now) (g.E.Blocks.counts q.edits.now) f c.requires.unfailed same told held why.0))
 
 pub returns-clause-cause : goal.returns-clause-cause
 returns-clause-cause g c =
     let s = c.args.pages.now in
     let q = c.add_in.new.pages in
     on_err _ _ c.add_in.result c.add_in.ensures.refused (λ fault also.
-    pair_cause c.args.kind c.args.key.now _ _ (g.E.Blocks.counts s.edits.now) (g.E.Blocks.counts q.edits.now) fault also (λ f why. below_from s.backing s.bitmap.now s.length (known s.failed (g.E.Blocks.told s.start.value) (g.E.Blocks.told s.edits.now)) s.failed (g.E.Blocks.counts s.edits.now) (g.E.Blocks.counts q.edits.now) f c.requires.unfailed why))
+    pair_cause c.args.kind c.args.key.now _ _ (g.E.Blocks.counts s.edits.now) (g.E.Blocks.counts q.edits.now) fault also (λ f why. below_from s.backing s.bitmap.now s.length (known s.failed (g.E.Blocks.told s.start.value) (g.E.Blocks.told s.edits.now)) s.failed (g.E.Blocks.counts s.edits.now) (g.E.Blocks.counts q.edits.now) f c.requires.unfailed why.0))
 
 pub returns-clause-blamed : goal.returns-clause-blamed
 returns-clause-blamed g c m told held =
@@ -42,5 +42,5 @@ returns-clause-blamed g c m told held =
     let goes = c.add_in.ensures.kept.goes_on in
     let on = goes_on_from s.backing s.bitmap.now q.bitmap.now s.length q.length m s.failed (g.E.Blocks.told s.start.value) (g.E.Blocks.told s.edits.now) (known q.failed (g.E.Blocks.told q.start.value) (g.E.Blocks.told q.edits.now)) q.failed (g.E.Blocks.changed s.edits.now) (g.E.Blocks.changed q.edits.now) (g.E.Blocks.counts s.edits.now) (g.E.Blocks.counts q.edits.now) c.requires.unfailed same told goes.2 in
     on_err _ _ c.add_in.result c.add_in.ensures.refused (λ fault also.
-    pair_change c.args.kind c.args.key.now s.backing s.bitmap.now m _ (g.E.Blocks.told q.edits.now) _ fault also (λ f why. cause_from s.backing s.bitmap.now s.length m s.failed (g.E.Blocks.told s.start.value) (g.E.Blocks.told s.edits.now) (g.E.Blocks.counts s.edits.now) (g.E.Blocks.counts q.edits.now) f c.requires.unfailed same told held why)
+    pair_change c.args.kind c.args.key.now s.backing s.bitmap.now m _ (g.E.Blocks.told q.edits.now) _ fault also (λ f why. cause_from s.backing s.bitmap.now s.length m s.failed (g.E.Blocks.told s.start.value) (g.E.Blocks.told s.edits.now) (g.E.Blocks.counts s.edits.now) (g.E.Blocks.counts q.edits.now) f c.requires.unfailed same told held why.0)
     (λ page sort bad. page_blamed (IsPairPage c.args.kind c.args.key.now) s.backing q.backing s.bitmap.now q.bitmap.now s.length q.length m q.failed (g.E.Blocks.told q.start.value) (g.E.Blocks.told q.edits.now) (g.E.Blocks.changed s.edits.now) (g.E.Blocks.changed q.edits.now) (g.E.Blocks.counts s.edits.now) (g.E.Blocks.counts q.edits.now) page sort goes.0 held on bad))

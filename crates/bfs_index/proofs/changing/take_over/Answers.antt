@@ -1,10 +1,10 @@
-use Rattle.std.proofs.Common.{ap}
+use Rattle.std.proofs.Common.{◌∙◌, ap}
 use Rattle.bfs_stream_pages.specs.Held.{known, stream_of}
 use Rattle.bfs_values.proofs.Lasting.{pages-lacking}
-use Rattle.bfs_maps.proofs.Went.{told_start, goes_on_from, went, stream_now, match_ok, if_err, on_err, cause_from, below_from, page_blamed}
+use Rattle.bfs_maps.proofs.Went.{never_failed, undamaged_from, fixed_blamed, told_start, goes_on_from, went, stream_now, match_ok, if_err, on_err, cause_from, below_from}
 use Rattle.bfs_index.specs.Indices.{HasWithout}
 use Rattle.bfs_index.specs.Refused.{IsPairPage}
-use Rattle.bfs_index.proofs.Blaming.{pair_fault, pair_cause, pair_change}
+use Rattle.bfs_index.proofs.Blaming.{pair_undone, pair_untaken, pair_taking}
 use Rattle.bfs_index.proofs.changing.take_over.Goals as goal
 
 pub returns-clause-taken : goal.returns-clause-taken
@@ -26,14 +26,14 @@ returns-clause-refused g c m told held tree =
     let same = ap g.E.Blocks.told c.requires.begun in
     let is = told_start s.backing s.failed (g.E.Blocks.told s.start.value) (g.E.Blocks.told s.edits.now) m c.requires.unfailed same told in
     if_err _ _ _ _ c.take_in.result (c.take_in.ensures.taken (stream_of s.backing m) is tree) c.take_in.ensures.refused (λ fault why also.
-    pair_fault c.args.kind c.args.key.now s.backing s.bitmap.now m _ _ fault (pages-lacking fault why) also (λ f why. cause_from s.backing s.bitmap.now s.length m s.failed (g.E.Blocks.told s.start.value) (g.E.Blocks.told s.edits.now) (g.E.Blocks.counts s.edits.now) (g.E.Blocks.counts q.edits.now) f c.requires.unfailed same told held why))
+    pair_undone c.args.kind c.args.key.now _ _ fault (pages-lacking fault why) also (λ f why. undamaged_from s.backing s.bitmap.now m f (cause_from s.backing s.bitmap.now s.length m s.failed (g.E.Blocks.told s.start.value) (g.E.Blocks.told s.edits.now) (g.E.Blocks.counts s.edits.now) (g.E.Blocks.counts q.edits.now) f c.requires.unfailed same told held why.0) (why.1 c.requires.fixed)))
 
 pub returns-clause-cause : goal.returns-clause-cause
 returns-clause-cause g c =
     let s = c.args.pages.now in
     let q = c.take_in.new.pages in
     on_err _ _ c.take_in.result c.take_in.ensures.refused (λ fault also.
-    pair_cause c.args.kind c.args.key.now _ _ (g.E.Blocks.counts s.edits.now) (g.E.Blocks.counts q.edits.now) fault also (λ f why. below_from s.backing s.bitmap.now s.length (known s.failed (g.E.Blocks.told s.start.value) (g.E.Blocks.told s.edits.now)) s.failed (g.E.Blocks.counts s.edits.now) (g.E.Blocks.counts q.edits.now) f c.requires.unfailed why))
+    pair_untaken c.args.kind c.args.key.now _ _ (g.E.Blocks.counts s.edits.now) (g.E.Blocks.counts q.edits.now) fault also (λ f why. (why.1 c.requires.fixed, below_from s.backing s.bitmap.now s.length (known s.failed (g.E.Blocks.told s.start.value) (g.E.Blocks.told s.edits.now)) s.failed (g.E.Blocks.counts s.edits.now) (g.E.Blocks.counts q.edits.now) f c.requires.unfailed why.0)))
 
 pub returns-clause-blamed : goal.returns-clause-blamed
 returns-clause-blamed g c m told held =
@@ -43,5 +43,5 @@ returns-clause-blamed g c m told held =
     let goes = c.take_in.ensures.kept.goes_on in
     let on = goes_on_from s.backing s.bitmap.now q.bitmap.now s.length q.length m s.failed (g.E.Blocks.told s.start.value) (g.E.Blocks.told s.edits.now) (known q.failed (g.E.Blocks.told q.start.value) (g.E.Blocks.told q.edits.now)) q.failed (g.E.Blocks.changed s.edits.now) (g.E.Blocks.changed q.edits.now) (g.E.Blocks.counts s.edits.now) (g.E.Blocks.counts q.edits.now) c.requires.unfailed same told goes.2 in
     on_err _ _ c.take_in.result c.take_in.ensures.refused (λ fault also.
-    pair_change c.args.kind c.args.key.now s.backing s.bitmap.now m _ (g.E.Blocks.told q.edits.now) _ fault also (λ f why. cause_from s.backing s.bitmap.now s.length m s.failed (g.E.Blocks.told s.start.value) (g.E.Blocks.told s.edits.now) (g.E.Blocks.counts s.edits.now) (g.E.Blocks.counts q.edits.now) f c.requires.unfailed same told held why)
-    (λ page sort bad. page_blamed (IsPairPage c.args.kind c.args.key.now) s.backing q.backing s.bitmap.now q.bitmap.now s.length q.length m q.failed (g.E.Blocks.told q.start.value) (g.E.Blocks.told q.edits.now) (g.E.Blocks.changed s.edits.now) (g.E.Blocks.changed q.edits.now) (g.E.Blocks.counts s.edits.now) (g.E.Blocks.counts q.edits.now) page sort goes.0 held on bad))
+    pair_taking c.args.kind c.args.key.now s.backing m _ (g.E.Blocks.told q.edits.now) _ fault also (λ f why. undamaged_from s.backing s.bitmap.now m f (cause_from s.backing s.bitmap.now s.length m s.failed (g.E.Blocks.told s.start.value) (g.E.Blocks.told s.edits.now) (g.E.Blocks.counts s.edits.now) (g.E.Blocks.counts q.edits.now) f c.requires.unfailed same told held why.0) (why.1 c.requires.fixed))
+    (λ page sort bad. fixed_blamed (IsPairPage c.args.kind c.args.key.now) s.backing q.backing s.bitmap.now q.bitmap.now s.length q.length m q.failed (g.E.Blocks.told q.start.value) (g.E.Blocks.told q.edits.now) (g.E.Blocks.changed s.edits.now) (g.E.Blocks.changed q.edits.now) (g.E.Blocks.counts s.edits.now) (g.E.Blocks.counts q.edits.now) page sort (never_failed q.fixed q.failed q.unfailed (goes.3 ∙ c.requires.fixed)) goes.0 on bad))

@@ -1,9 +1,9 @@
-use Rattle.std.proofs.Common.{inl, ◌≡◌, ◌∙◌, ℕ, refl, sym, subst}
+use Rattle.std.proofs.Common.{◌≡◌, ◌∙◌, ℕ, refl, sym, subst}
 use Rattle.bfs_stream.specs.Sizes.{Origin}
 use Rattle.bfs_stream_pages.specs.Held.{Held, stream_of}
 use Rattle.bfs_stream_pages.specs.GoesLaws.{sized_of, readable}
 use Rattle.bfs_maps.specs.Mapped.{origin_of}
-use Rattle.bfs_maps.proofs.Sized.{held_here, same_size, unsized_whole, unmoved}
+use Rattle.bfs_maps.proofs.Sized.{held_here, same_size, unsized_whole}
 use Rattle.bfs_maps.proofs.Over.{now_named, on_ok}
 use Rattle.bfs_index.specs.Indices.{HasWithout}
 use Rattle.bfs_index.proofs.changing.take_pair.Goals as goal
@@ -14,9 +14,8 @@ returns-in-Err-clause-refused g c m told d =
     let v = c.args.bitmap.now in
     let h = d.held in
     let r = readable o v h.0 m h.1 in
-    unmoved o v h.0 m c.in-Err.fault h.1
-    (unsized_whole o h.0 m c.in-Err.fault r (sized_of o.sizes.block_size (g.E.Blocks.size c.args.edits.now) (g.E.Blocks.told c.args.edits.now) m c.requires.size told (g.met.E.Blocks.sized c.args.edits.now)) d.tree.whole
-    (c.in-Err.ensures.refused m told (held_here o v h.0 m h.1)))
+    unsized_whole o h.0 m c.in-Err.fault r (sized_of o.sizes.block_size (g.E.Blocks.size c.args.edits.now) (g.E.Blocks.told c.args.edits.now) m c.requires.size told (g.met.E.Blocks.sized c.args.edits.now)) d.tree.whole
+    (c.in-Err.ensures.refused m told (held_here o v h.0 m h.1))
 
 pub take_with-requires-clause-held : goal.take_with-requires-clause-held
 take_with-requires-clause-held g c m told =
@@ -53,7 +52,7 @@ pub returns-in-Err-clause-blamed : goal.returns-in-Err-clause-blamed
 returns-in-Err-clause-blamed g c m told =
     let o : Origin = origin_of c.args.tree in
     let h = c.requires.stream m told in
-    inl (c.in-Err.ensures.refused m told (held_here o c.args.bitmap.now h.0 m h.1))
+    c.in-Err.ensures.refused m told (held_here o c.args.bitmap.now h.0 m h.1)
 
 pub returns-clause-blamed : goal.returns-clause-blamed
 returns-clause-blamed g c m told =

@@ -1,12 +1,10 @@
-use Rattle.std.proofs.Common.{rules, ◌∙◌, ap, subst}
-use Rattle.std.specs.Prelude.{IfErr}
-use Rattle.bfs_bitmap.specs.Runs.{Room}
+use Rattle.std.proofs.Common.{rules, ◌∙◌, ap}
 use Rattle.bfs_stream.specs.Sizes.{Origin}
 use Rattle.bfs_stream_pages.specs.Held.{stream_of}
 use Rattle.bfs_maps.specs.Mapped.{origin_of}
-use Rattle.bfs_maps.proofs.Over.{held_named, now_named, on_ok, change_named}
+use Rattle.bfs_maps.proofs.Over.{held_named, now_named, on_ok, taking_named}
 use Rattle.bfs_index.specs.Indices.{HasWithout}
-use Rattle.bfs_index.specs.Refused.{IsPairPage, IsPairFault}
+use Rattle.bfs_index.specs.Refused.{IsPairPage}
 use Rattle.bfs_index.proofs.Over.{whole_named}
 use Rattle.bfs_index.proofs.changing.take_with.Goals as goal
 
@@ -30,7 +28,7 @@ returns-clause-refused g c m told held tree =
     let here = ap g.E.Blocks.told c.over-pages.ensures.edits_now ∙ told in
     let held_p = held_named o p.backing v p.bitmap.now c.args.length p.length m c.over-pages.ensures.backing c.over-pages.ensures.bitmap_now c.over-pages.ensures.length held in
     let tree_p = whole_named c.args.tree.kind o p.backing m c.over-pages.ensures.backing tree in
-    subst (λ (x : Origin × Room). IfErr c.take_over.result (IsPairFault x.0 x.1 m)) (λ i. (c.over-pages.ensures.backing i, c.over-pages.ensures.bitmap_now i)) (c.take_over.ensures.refused m here held_p tree_p)
+    c.take_over.ensures.refused m here held_p tree_p
 
 pub returns-clause-blamed : goal.returns-clause-blamed
 returns-clause-blamed g c m told held =
@@ -39,4 +37,4 @@ returns-clause-blamed g c m told held =
     let v = c.args.bitmap.now in
     let here = ap g.E.Blocks.told c.over-pages.ensures.edits_now ∙ told in
     let held_p = held_named o p.backing v p.bitmap.now c.args.length p.length m c.over-pages.ensures.backing c.over-pages.ensures.bitmap_now c.over-pages.ensures.length held in
-    change_named (IsPairPage c.args.tree.kind c.args.key.now) m o p.backing v p.bitmap.now _ (g.E.Blocks.told c.take_over.new.pages.edits.now) c.take_over.result c.over-pages.ensures.backing c.over-pages.ensures.bitmap_now (search rules) (c.take_over.ensures.blamed m here held_p)
+    taking_named (IsPairPage c.args.tree.kind c.args.key.now) m o p.backing _ (g.E.Blocks.told c.take_over.new.pages.edits.now) c.take_over.result c.over-pages.ensures.backing (search rules) (c.take_over.ensures.blamed m here held_p)

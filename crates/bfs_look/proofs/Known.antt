@@ -26,10 +26,10 @@ use Rattle.bfs_sound.specs.Nodes.{HasNode}
 use Rattle.bfs_shift.specs.Lists.{Lists}
 use Rattle.bfs_shift.specs.Shifts.{volume_in}
 use Rattle.bfs_shift.proofs.Held.{rows_are_numbers}
-use Rattle.bfs_moves.specs.Written.{HasDirectoryAt}
-use Rattle.bfs_moves.proofs.Files.{node_unfiled}
-use Rattle.bfs_moves.proofs.Named.{directory_held, directory_map}
-use Rattle.bfs_moves.proofs.Restamped.{inode_told}
+use Rattle.bfs_shift.specs.Work.{HasDirectoryAt}
+use Rattle.bfs_shift.proofs.Files.{node_unfiled}
+use Rattle.bfs_shift.proofs.AtWork.{directory_held, directory_map}
+use Rattle.bfs_shift.proofs.AtWork.{inode_told}
 use Rattle.bfs_look.specs.Claims.{kind_in}
 use Rattle.bfs_look.specs.Ready.{IsReady, HasNodeAt}
 use Rattle.bfs_look.proofs.Claiming.{says_kind}

@@ -32,9 +32,9 @@ use Rattle.bfs_shift.specs.Shifts.{volume_in}
 use Rattle.bfs_shift.proofs.Held.{owner_held}
 use Rattle.bfs_shift.proofs.Owners.{owners_are}
 use Rattle.bfs_shift.proofs.Owning.{owner_owns}
-use Rattle.bfs_moves.proofs.Bits.{some_bytes}
-use Rattle.bfs_moves.proofs.Files.{all_split, metadata_in}
-use Rattle.bfs_moves.proofs.Restamped.{own_few}
+use Rattle.bfs_shift.proofs.Basics.{some_bytes}
+use Rattle.bfs_shift.proofs.Files.{all_split, metadata_in}
+use Rattle.bfs_shift.proofs.AtWork.{own_few}
 use Rattle.bfs_look.specs.Infos.{is_short_in, short_target, content_size, info_in}
 use Rattle.bfs_look.specs.Ready.{IsReady}
 use Rattle.bfs_look.proofs.Known.{node_has}

@@ -66,7 +66,7 @@ dots_improper = refl
 
 module _ (s : Super) (v : Room) (m : ℕ → Option (List ℕ)) (tree : Tree) (lists : Lists) (ready : IsReady (geometry_of s) v m tree lists) (d : ℕ) (n : Node) (is : IsNode tree d n) (dir : n.kind ≡ Dir) where
   -- a row of a proper name is a child's
-  proper_child : (name : List ℕ) (value : ℤ) → is_proper name ≡ true → IsRow tree d n name value → (id : ℕ) × (value ≡ pos id) × IsChild tree d name id
+  pub proper_child : (name : List ℕ) (value : ℤ) → is_proper name ≡ true → IsRow tree d n name value → (id : ℕ) × (value ≡ pos id) × IsChild tree d name id
   proper_child name value proper (inl dot) = absurd (let bad : true ≡ false = sym proper ∙ ap is_proper dot.0 ∙ dot_improper in cc)
   proper_child name value proper (inr (inl dots)) = absurd (let bad : true ≡ false = sym proper ∙ ap is_proper dots.0 ∙ dots_improper in cc)
   proper_child name value proper (inr (inr c)) = c

@@ -11,7 +11,7 @@ ghost use Rattle.bfs_tree.specs.Trees.{Tree, Node, IsNode, is_dir};
 ghost use Rattle.bfs_maps.specs.Refused.{IsUndone, HasReadCause};
 ghost use Rattle.bfs_sound.specs.Inodes.{is_proper};
 ghost use Rattle.bfs_shift.specs.Lists.{Lists};
-ghost use Rattle.bfs_moves.specs.Written.{HasDirectoryAt};
+ghost use Rattle.bfs_shift.specs.Work.{HasDirectoryAt};
 ghost use Rattle.bfs_look.specs.Names.{proper_name};
 ghost use Rattle.bfs_look.specs.Ready.{IsReady, HasReady};
 

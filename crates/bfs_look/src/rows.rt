@@ -10,7 +10,7 @@ ghost use Rattle.bfs_maps.specs.NumberTrees.{IsNumberAt};
 ghost use Rattle.bfs_maps.specs.Refused.{IsUndone, HasReadCause};
 ghost use Rattle.bfs_dir.specs.Directories.{listed};
 ghost use Rattle.bfs_shift.specs.Lists.{Lists};
-ghost use Rattle.bfs_moves.specs.Written.{HasDirectoryAt};
+ghost use Rattle.bfs_shift.specs.Work.{HasDirectoryAt};
 ghost use Rattle.bfs_look.specs.Ready.{IsReady};
 
 use crate::block::Site;

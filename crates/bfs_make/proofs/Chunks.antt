@@ -207,6 +207,8 @@ module _ (o : Origin) (m : ℕ → Option (List ℕ)) (once : IsOnce (whole_at o
       same = so_far.blocks.same;
       kept = so_far.blocks.kept;
       written = λ k e. so_far.blocks.written k (sym (ap (λ (f : ℕ → Bool). f k) same) ∙ e);
+      stays = λ k e. ap (λ (f : ℕ → Bool). f k) same ∙ so_far.blocks.stays k e;
+      set = λ k has none. ap (λ (f : ℕ → Bool). f k) same ∙ so_far.blocks.set k (subst (λ (l : List ℕ). Has l k) (take_all (length all) all (omega arith) ∙ sym every) has) none;
     };
     are =
         ap (λ (l : List ℕ). take (length bytes) (flat_map (contents so_far.blocks.map) l)) (sym every) ∙ so_far.are
@@ -219,7 +221,7 @@ module _ (o : Origin) (m : ℕ → Option (List ℕ)) (once : IsOnce (whole_at o
       grow : length all ≤ at → size * length all ≤ size * at
       grow h = grind (arith, h)
 
-first_none : (xs : List ℕ) → take 0 xs ≡ []
+pub first_none : (xs : List ℕ) → take 0 xs ≡ []
 first_none [] = refl
 first_none (x ∷ xs) = refl
 
@@ -232,7 +234,7 @@ nothing xs k has =
 -- nothing was written yet
 pub filled_none : (o : Origin) (m : ℕ → Option (List ℕ)) (bytes : List ℕ) (told : Option (ℕ → Option (List ℕ))) (old : ℕ → Bool) → told ≡ Some m → IsFilledTo o m bytes 0 told old old
 filled_none o m bytes told old is = record {
-  blocks = record { map = m; is = is; are = λ k has. absurd (nothing (places_at o.sizes (contents m) o.id) k has); same = λ k none. refl; kept = λ k some. some; written = λ k e. inl e };
+  blocks = record { map = m; is = is; are = λ k has. absurd (nothing (places_at o.sizes (contents m) o.id) k has); same = λ k none. refl; kept = λ k some. some; written = λ k e. inl e; stays = λ k e. e; set = λ k has none. absurd (nothing (places_at o.sizes (contents m) o.id) k has) };
   long = λ k has. absurd (nothing (places_at o.sizes (contents m) o.id) k has);
   are =
       ap (λ (l : List ℕ). take (length bytes) (flat_map (contents m) l)) (first_none (places_at o.sizes (contents m) o.id))

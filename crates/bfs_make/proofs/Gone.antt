@@ -152,5 +152,5 @@ module _ (o : Origin) (v mid now : Room) (m : ℕ → Option (List ℕ)) (told1 
     free = λ k. free_last k ∙ s.free k ∙ emptied_free o v m told1 old new1 owns e k;
     others = λ k out none. gave.others k (outside_mid k out) ∙ s.others k out none ∙ e.others k none;
     first = λ none. gave.first ∙ s.first none ∙ e.others 0 none;
-    written = wrote_twice v old new2 new3 (o.id ∷ []) (wrote_twice v old new1 new2 (o.id ∷ []) e.written s.written) wrote_bits;
+    written = wrote_twice (IsBitmapBlock v) old new2 new3 (o.id ∷ []) (wrote_twice (IsBitmapBlock v) old new1 new2 (o.id ∷ []) e.written s.written) wrote_bits;
   }

@@ -2,6 +2,7 @@
 use Rattle.std.proofs.Common.{◌≡◌, ◌<◌, ◌∙◌, ℕ, zero, suc, List, [], ◌∷◌, Bool, true, false, cond, not, ◌&&◌, Option, refl, sym, ap, ap₂, subst, arith}
 use Rattle.std.specs.Prelude.{◌==◌}
 use Rattle.bfs_base.specs.Lists.{times, Has}
+use Rattle.bfs_bitmap.specs.Fills.{IsBitmapBlock}
 use Rattle.bfs_bitmap.specs.Runs.{Room, is_free, per_block, marked}
 use Rattle.bfs_inode.specs.Inode.{Inode, inode_at}
 use Rattle.bfs_stream.specs.Sizes.{Origin, Sizes, first_block}
@@ -101,8 +102,8 @@ has_stored_inode s v now later m n bytes told told2 old mid new has made stream 
       held = stream.held;
       content = stream.bytes;
       inode = stream.moved.kept.0 ∙ ap (λ (x : Inode). let r : Inode = record x { stream_bytes = (inode_at (contents stream.map (first_block s n.address))).stream_bytes } in r) made.inode.fields;
-      written = wrote_twice v old mid new (whole_at s (contents stream.map) (first_block s n.address))
-          (wrote_more v old mid (first_block s n.address ∷ []) (whole_at s (contents stream.map) (first_block s n.address))
+      written = wrote_twice (IsBitmapBlock v) old mid new (whole_at s (contents stream.map) (first_block s n.address))
+          (wrote_more (IsBitmapBlock v) old mid (first_block s n.address ∷ []) (whole_at s (contents stream.map) (first_block s n.address))
           (λ k is. subst (λ (j : ℕ). Has (whole_at s (contents stream.map) (first_block s n.address)) j) (sym (is_only k (first_block s n.address) is))
           (has_left (frame_at s (contents stream.map) (first_block s n.address)) (places_at s (contents stream.map) (first_block s n.address)) (first_block s n.address) (has_first (first_block s n.address) (arrays_at s (contents stream.map) (first_block s n.address)))))
           made.written)

@@ -1,5 +1,5 @@
 -- A stream without blocks has grown, its blocks were filled, and its size was put.
-use Rattle.std.proofs.Common.{◌≡◌, ◌≤◌, ◌<◌, ◌+◌, ◌-◌, ◌*◌, ◌/◌, ◌%◌, ◌^◌, ◌∙◌, ◌≤ℤ◌, pos, ℕ, ℤ, zero, suc, List, [], length, take, drop, Bool, Option, unwrap_or, refl, sym, ap, subst, arith, length-append}
+use Rattle.std.proofs.Common.{◌≡◌, ◌≤◌, ◌<◌, ◌+◌, ◌-◌, ◌*◌, ◌/◌, ◌%◌, ◌^◌, ◌∙◌, ◌≤ℤ◌, pos, ℕ, ℤ, zero, suc, List, [], length, take, drop, Bool, true, Option, unwrap_or, refl, sym, ap, subst, arith, length-append}
 use Rattle.std.specs.Prelude.{IsSome}
 use Rattle.std.specs.List.{flat_map}
 use Rattle.std.proofs.Math.Seq.{take-length}
@@ -7,6 +7,7 @@ use Rattle.std.proofs.Math.Nat.{mul-div-le, div-add-mod, mod-lt}
 use Rattle.std.proofs.lemmas.Int.{ints}
 use Rattle.bfs_base.specs.Lists.{times, Has, Agree}
 use Rattle.bfs_super.specs.Conditions.{natural, ceil}
+use Rattle.bfs_bitmap.specs.Fills.{IsBitmapBlock}
 use Rattle.bfs_bitmap.specs.Runs.{Room}
 use Rattle.bfs_stream.specs.Faults.{IsGrowFault}
 use Rattle.bfs_stream.specs.Sizes.{Origin, HasSizes}
@@ -18,13 +19,14 @@ use Rattle.bfs_stream.specs.declared.fault.GrowFault.TheVariants as grow
 use Rattle.bfs_stream.proofs.Doubles.{times-append}
 use Rattle.bfs_stream.proofs.Frames.{has_first, has_right, levels_same}
 use Rattle.bfs_stream.proofs.Writes.{wrote_left, wrote_more, wrote_these, wrote_twice}
-use Rattle.bfs_stream_pages.specs.Moves.{KeepsInode}
+use Rattle.bfs_stream_pages.specs.Moves.{ChangesFresh, KeepsInode}
 use Rattle.bfs_stream_pages.specs.MovesLaws.{with_size, keeps_inode_none, moved_grown, moved_rewritten, moved_twice, owns_now, places_same, whole_same, whole_moves}
 use Rattle.bfs_stream_pages.specs.Steps.{Comes, HasSize, IsUndamaged, all_of}
 use Rattle.bfs_stream_pages.proofs.Filled.{array_short}
 use Rattle.bfs_stream_pages.proofs.Rooms.{dropped_less}
 use Rattle.bfs_maps.specs.Mapped.{StreamNow}
 use Rattle.bfs_make.specs.Filled.{IsFilled}
+use Rattle.bfs_make.proofs.Chunks.{first_none}
 
 -- the stream has grown, and its blocks begin with these bytes
 pub record HasStored (o : Origin) (v now : Room) (m : ℕ → Option (List ℕ)) (bytes : List ℕ) (told : Option (ℕ → Option (List ℕ))) (old new : ℕ → Bool) : Type 0 where
@@ -119,10 +121,24 @@ module _ (o : Origin) (v now : Room) (m : ℕ → Option (List ℕ)) (rest : now
     whole_is = whole_same o now first second grown.grown.2.owns same are (pos 0) levels low_size high_size kept
 
     written_first : AreWritten v old mid (whole_at o.sizes (contents first) o.id)
-    written_first = wrote_left v old mid frame all grown.grown.2.written
+    written_first = wrote_left (IsBitmapBlock v) old mid frame all grown.grown.2.written
 
     written_then : AreWritten v mid new (whole_at o.sizes (contents first) o.id)
-    written_then = wrote_more v mid new all (whole_at o.sizes (contents first) o.id) whole_has (wrote_these v mid new all filled.blocks.written)
+    written_then = wrote_more (IsBitmapBlock v) mid new all (whole_at o.sizes (contents first) o.id) whole_has (wrote_these (IsBitmapBlock v) mid new all filled.blocks.written)
+
+    fresh_now : ChangesFresh o m second new
+    fresh_now k h none = by_frame (times k frame) refl
+      where
+        has : Has (whole_at o.sizes (contents first) o.id) k
+        has = subst (λ (l : List ℕ). Has l k) whole_is h
+
+        by_frame : (j : ℕ) → times k frame ≡ j → new k ≡ true
+        by_frame (suc j) e = filled.blocks.stays k (grown.grown.2.entered k (let p : 0 < times k frame = omega (arith, e) in p) none)
+        by_frame zero e =
+            let some : 0 < times k (whole_at o.sizes (contents first) o.id) = has in
+            let parts = times-append k frame all in
+            let p : 0 < times k all = omega (arith, some, parts, e) in
+            filled.blocks.set k (subst (λ (l : List ℕ). Has l k) (sym (take-length all)) p) (ap (times k) (first_none all))
 
     pub has_stored : HasStored o v now m bytes told2 old new
     has_stored = record {
@@ -135,7 +151,9 @@ module _ (o : Origin) (v now : Room) (m : ℕ → Option (List ℕ)) (rest : now
           size = ap (λ (l : Levels). l.stream.size) levels;
         };
         moved = moved_twice o v now now m first second (moved_grown o v now m grown.grown.0 told old mid grown.grown.2 rest) (moved_rewritten o now first second grown.grown.2.owns same are (pos 0) levels low_size high_size kept);
-        written = subst (AreWritten v old new) (sym whole_is) (wrote_twice v old mid new (whole_at o.sizes (contents first) o.id) written_first written_then);
+        written = subst (AreWritten v old new) (sym whole_is) (wrote_twice (IsBitmapBlock v) old mid new (whole_at o.sizes (contents first) o.id) written_first written_then);
+        stays = λ k e. filled.blocks.stays k (grown.grown.2.stays k e);
+        fresh = fresh_now;
       };
       bytes_are = ap (λ (l : List ℕ). take (length bytes) (flat_map (contents second) l)) places_are ∙ filled.are;
       enough = subst (λ (l : List ℕ). length bytes ≤ o.sizes.block_size * length l) (sym places_are) fits;
@@ -151,10 +169,16 @@ stream_now o v now m bytes told told2 old mid new stored sized = record {
   held = (length bytes, sized.comes.held);
   bytes = ap (λ (z : ℤ). take (natural z) (all_of o sized.comes.map)) sized.comes.held.size ∙ ap (take (length bytes)) sized.bytes ∙ stored.bytes_are;
   moved = moved_twice o v now now m stored.comes.map sized.comes.map stored.comes.moved sized.comes.moved;
-  written = wrote_twice v old mid new (whole_at o.sizes (contents sized.comes.map) o.id)
-      (wrote_more v old mid (whole_at o.sizes (contents stored.comes.map) o.id) (whole_at o.sizes (contents sized.comes.map) o.id) (λ k has. whole_moves o now now stored.comes.map sized.comes.map sized.comes.moved k has) stored.comes.written)
+  written = wrote_twice (IsBitmapBlock v) old mid new (whole_at o.sizes (contents sized.comes.map) o.id)
+      (wrote_more (IsBitmapBlock v) old mid (whole_at o.sizes (contents stored.comes.map) o.id) (whole_at o.sizes (contents sized.comes.map) o.id) (λ k has. whole_moves o now now stored.comes.map sized.comes.map sized.comes.moved k has) stored.comes.written)
       (subst (λ (x : Room). AreWritten x mid new (whole_at o.sizes (contents sized.comes.map) o.id)) stored.comes.moved.rest sized.comes.written);
+  stays = λ k e. sized.comes.stays k (stored.comes.stays k e);
+  fresh = λ k has none. by_before k has none (times k (whole_at o.sizes (contents stored.comes.map) o.id)) refl;
 }
+  where
+    by_before : (k : ℕ) → Has (whole_at o.sizes (contents sized.comes.map) o.id) k → times k (whole_at o.sizes (contents m) o.id) ≡ 0 → (j : ℕ) → times k (whole_at o.sizes (contents stored.comes.map) o.id) ≡ j → new k ≡ true
+    by_before k has none zero e = sized.comes.fresh k has e
+    by_before k has none (suc j) e = sized.comes.stays k (stored.comes.fresh k (let p : 0 < times k (whole_at o.sizes (contents stored.comes.map) o.id) = omega (arith, e) in p) none)
 
 -- a fault without damage is a reason not to have grown
 pub undamaged_grow : (o : Origin) (v : Room) (m : ℕ → Option (List ℕ)) (n : ℕ) (fault : GrowFault) → IsUndamaged fault → IsGrowFault o v m n fault

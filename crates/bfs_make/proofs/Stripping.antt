@@ -4,6 +4,7 @@ use Rattle.std.specs.Prelude.{◌==◌, Result, Ok, Err, OnOk}
 use Rattle.std.proofs.lemmas.List.{append-nil}
 use Rattle.bfs_base.specs.Lists.{times, Has, counted_from}
 use Rattle.bfs_bytes.specs.declared.Run.{Run}
+use Rattle.bfs_bitmap.specs.Fills.{IsBitmapBlock}
 use Rattle.bfs_bitmap.specs.Runs.{Room, per_block, marked, is_reserved}
 use Rattle.bfs_stream.specs.Sizes.{Origin, Sizes, IsInVolume, IsWhole, first_block}
 use Rattle.bfs_stream.specs.Places.{Levels, used_runs, level_blocks, run_blocks, blocks_of, arrays_of, fields, levels_at, second_arrays, places_at, frame_at, whole_at, HasLevels}
@@ -130,7 +131,7 @@ stripped_some o v now m told old new some to =
       free = t.free;
       others = λ k out none. t.others k out (apart k none);
       first = λ none. t.first (apart 0 none);
-      written = wrote_more v old new t.touched (o.id ∷ []) still t.written;
+      written = wrote_more (IsBitmapBlock v) old new t.touched (o.id ∷ []) still t.written;
     }
   where
     joined : (a b : List ℕ) → a ≡ o.id ∷ [] → length b ≡ 0 → a ++ b ≡ o.id ∷ []

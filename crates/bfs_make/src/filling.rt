@@ -3,6 +3,7 @@ ghost use Rattle.std.specs.Prelude.{◌≡◌, ◌≤◌, ◌<◌, ◌+◌, ◌*
 ghost use Rattle.bfs_base.specs.Lists.{IsOnce};
 ghost use Rattle.bfs_super.specs.Conditions.{IsValid, natural};
 ghost use Rattle.bfs_txn.specs.Faults.{AreLater};
+ghost use Rattle.bfs_txn.specs.Told.{StaysChanged};
 ghost use Rattle.bfs_stream.specs.Sizes.{sizes_of};
 ghost use Rattle.bfs_stream.specs.Places.{places_at, whole_at};
 ghost use Rattle.bfs_stream.specs.Told.{contents, Stands};
@@ -62,6 +63,7 @@ fn fill_block<E: Edits>(
     ensures filled { (m : ℕ → Option (List ℕ)) → E.told edits.old ≡ Some m → Stands (stream_in site id) m → IfOk result (HasFilled (stream_in site id) m at (padded site.sup.block_size (chunk site.sup.block_size bytes.now at)) (E.told edits.new) (E.changed edits.old) (E.changed edits.new)) }
     ensures sound { (m : ℕ → Option (List ℕ)) → E.told edits.old ≡ Some m → Stands (stream_in site id) m → IfErr result IsUndamaged }
     ensures changed { (k : ℕ) → E.changed edits.new k ≡ true → (E.changed edits.old k ≡ true) ⊎ (k < natural site.sup.num_blocks) }
+    ensures stays { StaysChanged (E.changed edits.old) (E.changed edits.new) }
     ensures size { E.size edits.new ≡ E.size edits.old }
     ensures frame { E.frame edits.new ≡ E.frame edits.old }
     ensures later { AreLater (E.counts edits.old) (E.counts edits.new) }
@@ -102,6 +104,7 @@ pub(crate) fn fill<E: Edits>(
     ensures filled { (m : ℕ → Option (List ℕ)) → E.told edits.old ≡ Some m → Stands (stream_in site id) m → IsOnce (whole_at (sizes_of site.sup) (contents m) id) → length (places_at (sizes_of site.sup) (contents m) id) ≤ blocks + 4 → length bytes.now ≤ site.sup.block_size * length (places_at (sizes_of site.sup) (contents m) id) → OnOk result (IsFilled (stream_in site id) m bytes.now (E.told edits.new) (E.changed edits.old) (E.changed edits.new)) }
     ensures sound { (m : ℕ → Option (List ℕ)) → E.told edits.old ≡ Some m → Stands (stream_in site id) m → IsOnce (whole_at (sizes_of site.sup) (contents m) id) → IfErr result IsUndamaged }
     ensures changed { (k : ℕ) → E.changed edits.new k ≡ true → (E.changed edits.old k ≡ true) ⊎ (k < natural site.sup.num_blocks) }
+    ensures stays { StaysChanged (E.changed edits.old) (E.changed edits.new) }
     ensures size { E.size edits.new ≡ E.size edits.old }
     ensures frame { E.frame edits.new ≡ E.frame edits.old }
     ensures later { AreLater (E.counts edits.old) (E.counts edits.new) }

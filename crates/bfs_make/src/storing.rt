@@ -4,6 +4,7 @@ ghost use Rattle.bfs_bitmap.specs.Fills.{IsBitmapBlock};
 ghost use Rattle.bfs_bitmap.specs.Runs.{Room};
 ghost use Rattle.bfs_super.specs.Conditions.{IsValid, natural, ceil};
 ghost use Rattle.bfs_txn.specs.Faults.{AreLater};
+ghost use Rattle.bfs_txn.specs.Told.{StaysChanged};
 ghost use Rattle.bfs_stream.specs.Faults.{IsGrowCause, IsGrowFault};
 ghost use Rattle.bfs_stream.specs.Grown.{IsOfVolume, Owns};
 ghost use Rattle.bfs_stream.specs.Places.{places_at, fields};
@@ -46,6 +47,7 @@ fn put_length<E: Edits>(site: Site, edits: &mut E, id: u64, len: u64) -> Result<
     requires few { len < 2 ^ 63 }
     ensures written { (v : Room) (long : ℕ) (m : ℕ → Option (List ℕ)) → E.told edits.old ≡ Some m → Held (stream_in site id) v long m → len ≤ site.sup.block_size * length (places_at (sizes_of site.sup) (contents m) id) → OnOk result (HasSize (stream_in site id) v len m (E.told edits.new) (E.changed edits.old) (E.changed edits.new)) }
     ensures sound { (v : Room) (long : ℕ) (m : ℕ → Option (List ℕ)) → E.told edits.old ≡ Some m → Held (stream_in site id) v long m → IfErr result IsUndamaged }
+    ensures stays { StaysChanged (E.changed edits.old) (E.changed edits.new) }
     ensures size { E.size edits.new ≡ E.size edits.old }
     ensures frame { E.frame edits.new ≡ E.frame edits.old }
     ensures later { AreLater (E.counts edits.old) (E.counts edits.new) }
@@ -77,6 +79,7 @@ pub fn write_stream<E: Edits>(
     ensures written { (m : ℕ → Option (List ℕ)) → E.told edits.old ≡ Some m → Owns (stream_in site id) bitmap.old [] m → places_at (sizes_of site.sup) (contents m) id ≡ [] → (fields (sizes_of site.sup) (contents m) id).size ≡ pos 0 → OnOk result (StreamNow (stream_in site id) bitmap.old bitmap.new m (λ all. all ≡ bytes.now) (E.told edits.new) (E.changed edits.old) (E.changed edits.new)) }
     ensures faults { (m : ℕ → Option (List ℕ)) → E.told edits.old ≡ Some m → Owns (stream_in site id) bitmap.old [] m → places_at (sizes_of site.sup) (contents m) id ≡ [] → (fields (sizes_of site.sup) (contents m) id).size ≡ pos 0 → IfErr result (IsGrowFault (stream_in site id) bitmap.old m (ceil (length bytes.now) site.sup.block_size)) }
     ensures rest { bitmap.new ≡ record bitmap.old { tally = bitmap.new.tally } }
+    ensures stays { StaysChanged (E.changed edits.old) (E.changed edits.new) }
     ensures size { E.size edits.new ≡ E.size edits.old }
     ensures frame { E.frame edits.new ≡ E.frame edits.old }
     ensures later { AreLater (E.counts edits.old) (E.counts edits.new) }

@@ -23,10 +23,11 @@ use Rattle.bfs_shift.proofs.Bridge.{outside_bitmap}
 use Rattle.bfs_shift.proofs.Following.{same_or_not}
 use Rattle.bfs_shift.proofs.Moving.{all_parts}
 use Rattle.bfs_shift.proofs.Renewed.{same_test, other_test}
-use Rattle.bfs_moves.specs.Work.{IsAtWork, GoesOn}
-use Rattle.bfs_moves.proofs.Bits.{some_bytes}
+use Rattle.bfs_txn.specs.Told.{StaysChanged}
+use Rattle.bfs_shift.specs.Work.{IsAtWork, GoesOn}
+use Rattle.bfs_shift.proofs.Basics.{some_bytes}
 use Rattle.bfs_moves.proofs.Loosened.{loose_work, loose_goes}
-use Rattle.bfs_moves.proofs.Restamped.{not_one, just_one, not_there, zero_fixed}
+use Rattle.bfs_shift.proofs.AtWork.{not_one, just_one, not_there, zero_fixed}
 
 once_one : (k b : ℕ) → times k (b ∷ []) ≤ 1
 once_one k b = by_id (same_or_not k b)
@@ -100,7 +101,7 @@ module _ (s : Super) (v : Room) (m : ℕ → Option (List ℕ)) (tree : Tree) (l
   same_bits : (k : ℕ) → k < v.blocks → marked (per_block v) map k ≡ marked (per_block v) m k
   same_bits k low = marked_same v m map stays k low
 
-  module _ (old new : ℕ → Bool) (changed : (k : ℕ) → new k ≡ true → (old k ≡ true) ⊎ (k ≡ b)) where
+  module _ (old new : ℕ → Bool) (changed : (k : ℕ) → new k ≡ true → (old k ≡ true) ⊎ (k ≡ b)) (kept_changed : StaysChanged old new) where
     by_cause : (k : ℕ) → (old k ≡ true) ⊎ (k ≡ b) → (old k ≡ true) ⊎ (IsBitmapBlock v k ⊎ Has (b ∷ []) k)
     by_cause k (inl e) = inl e
     by_cause k (inr e) = inr (inr (subst (λ (j : ℕ). Has (b ∷ []) j) (sym e) (let one = just_one b in let h : 0 < times b (b ∷ []) = omega (arith, one) in h)))
@@ -108,9 +109,9 @@ module _ (s : Super) (v : Room) (m : ℕ → Option (List ℕ)) (tree : Tree) (l
     pub written_work : IsAtWork g v map tree lists (b ∷ rest)
     written_work =
         loose_work g v v m map tree lists (b ∷ []) (b ∷ []) rest old new some work shift refl (fits_same v m map stays work.fits) (counted_same v m map same_bits work.counted)
-        (λ k none. inl (elsewhere k (not_there k b none))) (λ k h. h) (λ k h. by_cause k (changed k h))
+        (λ k none. inl (elsewhere k (not_there k b none))) (λ k h. h) (λ k h. by_cause k (changed k h)) kept_changed (λ k h none. let has : 0 < times k (b ∷ []) = h in absurd (omega (arith, has, none)))
 
     pub written_goes : GoesOn g v v m map tree tree old new
     written_goes =
         loose_goes g v v m map tree lists (b ∷ []) (b ∷ []) rest old new some work shift refl (fits_same v m map stays work.fits) (counted_same v m map same_bits work.counted)
-        (λ k none. inl (elsewhere k (not_there k b none))) (λ k h. h) (λ k h. by_cause k (changed k h))
+        (λ k none. inl (elsewhere k (not_there k b none))) (λ k h. h) (λ k h. by_cause k (changed k h)) kept_changed (λ k h none. let has : 0 < times k (b ∷ []) = h in absurd (omega (arith, has, none)))

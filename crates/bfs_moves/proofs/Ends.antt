@@ -1,10 +1,10 @@
 -- Steps that are put together, and the begin and the end of a call.
-use Rattle.std.proofs.Common.{◌≡◌, ◌<◌, ◌↔◌, ◌⊎◌, inl, inr, ℕ, List, [], ◌++◌, length, refl, ap, ◌∙◌, arith, append-nil, Bool, true, Option}
+use Rattle.std.proofs.Common.{◌≡◌, ◌<◌, ◌↔◌, ◌⊎◌, inl, inr, ℕ, List, [], ◌++◌, length, refl, ap, ◌∙◌, arith, append-nil, Bool, true, Option, subst, sym}
 use Rattle.std.specs.Prelude.{IsSome}
 use Rattle.std.specs.FinMap.{empty}
 use Rattle.bfs_base.specs.Lists.{times, Has}
 use Rattle.bfs_super.specs.declared.geometry.Geometry.{Geometry}
-use Rattle.bfs_bitmap.specs.Runs.{Room, Fits, IsCounted}
+use Rattle.bfs_bitmap.specs.Runs.{Room, Fits, IsCounted, is_reserved}
 use Rattle.bfs_stream.specs.Told.{contents}
 use Rattle.bfs_stream.specs.Grown.{IsOfVolume}
 use Rattle.bfs_stream.proofs.Doubles.{times-append}
@@ -19,8 +19,8 @@ use Rattle.bfs_shift.specs.Stocked.{Stocked}
 use Rattle.bfs_shift.specs.Shifts.{volume_in}
 use Rattle.bfs_shift.proofs.Closed.{sound_stocked, sound_agrees}
 use Rattle.bfs_shift.proofs.Counted.{count_is_reach, counted_sound}
-use Rattle.bfs_moves.specs.Work.{IsAtWork, GoesOn}
-use Rattle.bfs_moves.specs.Laws.{IsCallKept}
+use Rattle.bfs_shift.specs.Work.{IsAtWork, GoesOn, MayBeWritten}
+use Rattle.bfs_moves.specs.Laws.{IsApart, IsCallKept}
 
 pub goes_on_same : (g : Geometry) (v : Room) (m : ℕ → Option (List ℕ)) (tree : Tree) (old : ℕ → Bool) → GoesOn g v v m m tree tree old old
 goes_on_same g v m tree old = record {
@@ -30,6 +30,9 @@ goes_on_same g v m tree old = record {
   same_data = λ k. refl;
   bytes = λ k h. refl;
   written = λ k h. inl h;
+  kept = λ k h. h;
+  entered = λ k h. inl h;
+  reserved = λ k r none. none;
 }
 
 module _ (g : Geometry) (v now later : Room) (m mid map : ℕ → Option (List ℕ)) (tree between after : Tree) (old new last : ℕ → Bool) (one : GoesOn g v now m mid tree between old new) (two : GoesOn g now later mid map between after new last) where
@@ -41,13 +44,24 @@ module _ (g : Geometry) (v now later : Room) (m mid map : ℕ → Option (List �
     same_data = λ k. one.same_data k ∙ two.same_data k;
     bytes = λ k h. two.bytes k (let some : 0 < times k (file_data (volume_in g m) tree) = h in let e = one.same_data k in let r : 0 < times k (file_data (volume_in g mid) between) = omega (arith, some, e) in r) ∙ one.bytes k h;
     written = λ k h. by_last k (two.written k h);
+    kept = λ k h. two.kept k (one.kept k h);
+    entered = λ k h. by_since k (two.entered k h);
+    reserved = λ k r none. two.reserved k (subst (λ (x : Room). is_reserved x.given k ≡ true) (sym one.rest) r) (one.reserved k r none);
   }
     where
-      by_first : (k : ℕ) → (old k ≡ true) ⊎ (IsMarked (volume_in g mid) k × (times k (file_data (volume_in g mid) between) ≡ 0)) → (old k ≡ true) ⊎ (IsMarked (volume_in g map) k × (times k (file_data (volume_in g map) after) ≡ 0))
-      by_first k (inl e) = inl e
-      by_first k (inr h) = inr (two.marked k h.0, (let e = two.same_data k in let z = h.1 in omega (arith, e, z)))
+      by_mid : (k : ℕ) → IsMetadata (volume_in g m) tree k ⊎ (new k ≡ true) → IsMetadata (volume_in g m) tree k ⊎ (last k ≡ true)
+      by_mid k (inl h) = inl h
+      by_mid k (inr e) = inr (two.kept k e)
 
-      by_last : (k : ℕ) → (new k ≡ true) ⊎ (IsMarked (volume_in g map) k × (times k (file_data (volume_in g map) after) ≡ 0)) → (old k ≡ true) ⊎ (IsMarked (volume_in g map) k × (times k (file_data (volume_in g map) after) ≡ 0))
+      by_since : (k : ℕ) → IsMetadata (volume_in g mid) between k ⊎ (last k ≡ true) → IsMetadata (volume_in g m) tree k ⊎ (last k ≡ true)
+      by_since k (inl h) = by_mid k (one.entered k h)
+      by_since k (inr e) = inr e
+
+      by_first : (k : ℕ) → (old k ≡ true) ⊎ (MayBeWritten (volume_in g mid) between k) → (old k ≡ true) ⊎ (MayBeWritten (volume_in g map) after k)
+      by_first k (inl e) = inl e
+      by_first k (inr h) = inr (two.marked k h.0, ((let e = two.same_data k in let z = h.1.0 in omega (arith, e, z)), h.1.1))
+
+      by_last : (k : ℕ) → (new k ≡ true) ⊎ (MayBeWritten (volume_in g map) after k) → (old k ≡ true) ⊎ (MayBeWritten (volume_in g map) after k)
       by_last k (inl e) = by_first k (one.written k e)
       by_last k (inr h) = inr h
 
@@ -77,9 +91,9 @@ call_is_kept g v now m map tree after before lists old new began ended goes = re
   changed = λ k h. by_cause k (goes.written k h);
 }
   where
-    by_cause : (k : ℕ) → (old k ≡ true) ⊎ (IsMarked (volume_in g map) k × (times k (file_data (volume_in g map) after) ≡ 0)) → (old k ≡ true) ⊎ IsMetadata (volume_in g map) after k
+    by_cause : (k : ℕ) → (old k ≡ true) ⊎ (MayBeWritten (volume_in g map) after k) → (old k ≡ true) ⊎ (IsMetadata (volume_in g map) after k × IsApart g k)
     by_cause k (inl e) = inl e
-    by_cause k (inr h) = inr ((reached (volume_in g map) after lists ended.stocked k).0 h.0, h.1)
+    by_cause k (inr h) = inr (((reached (volume_in g map) after lists ended.stocked k).0 h.0, h.1.0), (h.0.0, h.1.1))
 
 pub used_is_reach : (g : Geometry) (v : Room) (m : ℕ → Option (List ℕ)) (tree : Tree) (lists : Lists) (loose : List ℕ) → IsAtWork g v m tree lists loose
     → v.tally.used ≡ length (reach (volume_in g m) tree ++ loose)

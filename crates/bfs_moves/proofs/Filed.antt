@@ -26,7 +26,8 @@ use Rattle.bfs_shift.specs.Shifts.{volume_in}
 use Rattle.bfs_fresh.specs.Fresh.{IsFresh, no_stream}
 use Rattle.bfs_fresh.specs.declared.fields.NewNode.{NewNode}
 use Rattle.bfs_moves.specs.Born.{IsBornEmpty, IsBornLink}
-use Rattle.bfs_moves.specs.Work.{IsAtWork, IsStepped}
+use Rattle.bfs_txn.specs.Told.{StaysChanged}
+use Rattle.bfs_shift.specs.Work.{IsAtWork, IsStepped}
 use Rattle.bfs_moves.proofs.Births.{only_one, set_here, bytes_here, written_work, written_goes}
 use Rattle.bfs_moves.proofs.Empty.{places_empty}
 use Rattle.bfs_moves.proofs.Ends.{goes_on_twice}
@@ -34,7 +35,7 @@ use Rattle.bfs_moves.proofs.Joined.{joined_work, joined_goes}
 use Rattle.bfs_moves.proofs.Newborn.{flags_are, has_node, own_alone, file_content, file_blocks, link_content, link_blocks}
 
 module _ (s : Super) (v : Room) (m : ℕ → Option (List ℕ)) (tree : Tree) (lists : Lists) (rest : List ℕ) (id : ℕ) (bytes : List ℕ) (node : Node) (old new : ℕ → Bool)
-    (valid : IsValid s) (work : IsAtWork (geometry_of s) v m tree lists (id ∷ rest)) (absent : get tree.nodes id ≡ None) (changed : (k : ℕ) → new k ≡ true → (old k ≡ true) ⊎ (k ≡ id)) where
+    (valid : IsValid s) (work : IsAtWork (geometry_of s) v m tree lists (id ∷ rest)) (absent : get tree.nodes id ≡ None) (changed : (k : ℕ) → new k ≡ true → (old k ≡ true) ⊎ (k ≡ id)) (kept_changed : StaysChanged old new) (own_changed : new id ≡ true) where
   abbrev g : Geometry
   g = geometry_of s
 
@@ -47,19 +48,22 @@ module _ (s : Super) (v : Room) (m : ℕ → Option (List ℕ)) (tree : Tree) (l
   told_own : (k : ℕ) → Has (id ∷ []) k → IsSome (map k)
   told_own k h = subst (λ (j : ℕ). IsSome (map j)) (sym (only_one k id h)) (subst (λ (o : Option (List ℕ)). IsSome o) (sym (set_here s v m tree lists rest id bytes valid work)) refl)
 
+  entered_own : (k : ℕ) → Has (id ∷ []) k → new k ≡ true
+  entered_own k h = subst (λ (j : ℕ). new j ≡ true) (sym (only_one k id h)) own_changed
+
   -- a node that is this block alone, and no directory
   pub alone_step : (told : Option (ℕ → Option (List ℕ))) → told ≡ Some map → HasNode is_now id node → node_blocks is_now (id, node) ≡ id ∷ [] → (node.kind ≡ Dir → ⊥) → data_blocks is_now (id, node) ≡ []
       → IsStepped g v v m tree (record tree { nodes = insert tree.nodes id node }) lists rest told old new
   alone_step told is has blocks no_dir no_data =
-      let one : IsAtWork g v map tree lists (id ∷ rest) = written_work s v m tree lists rest id bytes valid work old new changed in
+      let one : IsAtWork g v map tree lists (id ∷ rest) = written_work s v m tree lists rest id bytes valid work old new changed kept_changed in
       let same : AreSame (id ∷ []) (node_blocks is_now (id, node)) = λ k. ap (times k) (sym blocks) in
       let rows : node.kind ≡ Dir → rows_in Text (content is_now id) ≡ lists.rows id = λ dir. absurd (no_dir dir) in
       record {
         map = map;
         is = is;
-        work = joined_work g v map tree lists (id ∷ []) rest id node one absent has same rows no_data told_own new;
+        work = joined_work g v map tree lists (id ∷ []) rest id node one absent has same rows no_data told_own new entered_own;
         goes_on = goes_on_twice g v v v m map map tree tree (record tree { nodes = insert tree.nodes id node }) old new new
-            (written_goes s v m tree lists rest id bytes valid work old new changed) (joined_goes g v map tree lists (id ∷ []) rest id node one absent has same rows no_data told_own new);
+            (written_goes s v m tree lists rest id bytes valid work old new changed kept_changed) (joined_goes g v map tree lists (id ∷ []) rest id node one absent has same rows no_data told_own new entered_own);
       }
 
 no_dir_file : File ≡ Dir → ⊥
@@ -71,7 +75,7 @@ no_dir_link e = cc
 module _ (s : Super) (v : Room) (m : ℕ → Option (List ℕ)) (tree : Tree) (lists : Lists) (rest : List ℕ) (id parent : ℕ) (born : NewNode) (name : List ℕ) (mode : ℕ) (told : Option (ℕ → Option (List ℕ))) (old new : ℕ → Bool)
     (valid : IsValid s) (work : IsAtWork (geometry_of s) v m tree lists (id ∷ rest)) (absent : get tree.nodes id ≡ None) (other : id ≢ (geometry_of s).root)
     (number : Names born.address id (geometry_of s).shift) (up : Names born.parent parent (geometry_of s).shift) (low : mode ≤ 4095) (flags : born.flags ≡ pos 1)
-    (changed : (k : ℕ) → new k ≡ true → (old k ≡ true) ⊎ (k ≡ id)) where
+    (changed : (k : ℕ) → new k ≡ true → (old k ≡ true) ⊎ (k ≡ id)) (kept_changed : StaysChanged old new) (own_changed : new id ≡ true) where
   abbrev geometry : Geometry
   geometry = geometry_of s
 
@@ -87,7 +91,7 @@ module _ (s : Super) (v : Room) (m : ℕ → Option (List ℕ)) (tree : Tree) (l
       let holds : HasContent (volume_in geometry map) id n File = file_content geometry map id stream name parent mode born.stamp in
       let has : HasNode (volume_in geometry map) id n = has_node geometry map id born name fresh number parent up File mode mode_is low other 1 flags refl 0 [] holds in
       let blocks : node_blocks (volume_in geometry map) (id, n) ≡ id ∷ [] = own_alone geometry map id born name fresh number parent up File mode mode_is low other 1 flags refl 0 [] holds ∙ file_blocks geometry map id stream n refl in
-      alone_step s v m tree lists rest id bytes n old new valid work absent changed told written.is has blocks no_dir_file (places_empty (sizes geometry) (contents map) id stream)
+      alone_step s v m tree lists rest id bytes n old new valid work absent changed kept_changed own_changed told written.is has blocks no_dir_file (places_empty (sizes geometry) (contents map) id stream)
 
   pub link_step : born.mode ≡ pos (4096 * kind_bits Link + mode) → (target : List ℕ) → length target < 144 → has_byte 0 target ≡ false → IsBornLink s.block_size id born name target m told
       → IsStepped geometry v v m tree (record tree { nodes = insert tree.nodes id (new_node Link name parent mode (length target) target born.stamp) }) lists rest told old new
@@ -103,4 +107,4 @@ module _ (s : Super) (v : Room) (m : ℕ → Option (List ℕ)) (tree : Tree) (l
       let has : HasNode (volume_in geometry map) id n = has_node geometry map id born name fresh number parent up Link mode mode_is low other 1 flags refl (length target) target holds in
       let blocks : node_blocks (volume_in geometry map) (id, n) ≡ id ∷ [] =
       own_alone geometry map id born name fresh number parent up Link mode mode_is low other 1 flags refl (length target) target holds ∙ link_blocks geometry map id target one short no_zero read name parent mode born.stamp in
-      alone_step s v m tree lists rest id bytes n old new valid work absent changed told written.is has blocks no_dir_link refl
+      alone_step s v m tree lists rest id bytes n old new valid work absent changed kept_changed own_changed told written.is has blocks no_dir_link refl

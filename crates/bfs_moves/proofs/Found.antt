@@ -1,5 +1,5 @@
 -- The index directory is read.
-use Rattle.std.proofs.Common.{◌≡◌, ◌≢◌, ◌≤◌, ◌<◌, inl, ℕ, List, ◌++◌, refl, sym, ap, ◌∙◌, subst, arith, Bool, true, cond, Option, Some, None}
+use Rattle.std.proofs.Common.{◌≡◌, ◌≢◌, ◌≤◌, ◌<◌, inl, ℕ, ℤ, List, ◌++◌, refl, sym, ap, ◌∙◌, subst, arith, Bool, true, cond, Option, Some, None}
 use Rattle.std.specs.Prelude.{◌==◌}
 use Rattle.bfs_base.specs.Lists.{times}
 use Rattle.bfs_base.specs.declared.kind.KeyKind.TheVariants.{Text}
@@ -19,7 +19,7 @@ use Rattle.bfs_stream_pages.specs.Held.{stream_of}
 use Rattle.bfs_tree.specs.Trees.{Tree}
 use Rattle.bfs_values.specs.Rows.{rows_in}
 use Rattle.bfs_maps.specs.Mapped.{HasHeld, HasReadable}
-use Rattle.bfs_maps.specs.NumberTrees.{AreNumbers, IsNumberTree, IsNumberAt}
+use Rattle.bfs_maps.specs.NumberTrees.{IsNumber, HoldsNumber, IsNumberAt}
 use Rattle.bfs_sound.specs.Volumes.{Volume}
 use Rattle.bfs_sound.specs.Inodes.{content, inode_blocks, inodes_of, index_directory, rows_of, is_proper}
 use Rattle.bfs_sound.specs.Listings.{IsIndex, HasIndexDirectory}
@@ -31,9 +31,9 @@ use Rattle.bfs_shift.proofs.Held.{owner_held}
 use Rattle.bfs_shift.proofs.Names.{is_there, names_before}
 use Rattle.bfs_shift.proofs.Owners.{names_own}
 use Rattle.bfs_shift.proofs.Puts.{kept_finds}
-use Rattle.bfs_moves.specs.Work.{IsAtWork}
-use Rattle.bfs_moves.proofs.Bits.{some_bytes}
-use Rattle.bfs_moves.proofs.Files.{all_split}
+use Rattle.bfs_shift.specs.Work.{IsAtWork}
+use Rattle.bfs_shift.proofs.Basics.{some_bytes}
+use Rattle.bfs_shift.proofs.Files.{all_split}
 
 -- the index directory's blocks are among those of all indices
 directory_few : (v : Volume) → v.geometry.indices ≢ 0 → (k : ℕ) → times k (inode_blocks v v.geometry.indices) ≤ times k (index_blocks v)
@@ -67,13 +67,13 @@ module _ (s : Super) (v : Room) (m : ℕ → Option (List ℕ)) (tree : Tree) (l
     pub names_readable : HasReadable o m
     names_readable = (held.0, readable o v held.0 m held.1)
 
-    pub names_tree : AreNumbers (rows_in Text (content was g.indices)) → IsNumberTree Text (stream_of o m)
-    names_tree numbers =
-        let i : IsIndex was g.indices Text = subst (HasIndexDirectory was) (is_there was there) work.stocked.directory in
-        record { tree = i.tree; numbers = numbers }
-
     finds : (name : Key) → is_proper name ≡ true → assoc Text lists.names name ≡ assoc Text (rows_in Text (content was g.indices)) name
     finds name proper = ap (λ (rows : List Row). assoc Text rows name) (sym (names_before was tree lists loose work.stocked there)) ∙ kept_finds is_proper (rows_in Text (content was g.indices)) name proper
+
+    pub names_hold : (name : Key) → is_proper name ≡ true → ((value : ℤ) → assoc Text lists.names name ≡ Some value → IsNumber value) → HoldsNumber Text name (stream_of o m)
+    names_hold name proper numbers =
+        let i : IsIndex was g.indices Text = subst (HasIndexDirectory was) (is_there was there) work.stocked.directory in
+        record { tree = i.tree; number = λ value e. numbers value (finds name proper ∙ e) }
 
     pub number_found : (name : Key) → is_proper name ≡ true → (found : Option ℕ) → IsNumberAt Text (rows_in Text (content was g.indices)) name found → IsNumberAt Text lists.names name found
     number_found name proper None e = finds name proper ∙ e

@@ -1,5 +1,5 @@
 -- Loose blocks became a node.
-use Rattle.std.proofs.Common.{◌≡◌, ◌≢◌, ◌<◌, ◌+◌, inl, ℕ, zero, suc, List, [], ◌++◌, refl, sym, ap, ◌∙◌, arith, Bool, Option, Some, None}
+use Rattle.std.proofs.Common.{◌≡◌, ◌≢◌, ◌<◌, ◌+◌, inl, ℕ, zero, suc, List, [], ◌++◌, refl, sym, ap, ◌∙◌, arith, Bool, Option, Some, None, true, ◌⊎◌, inr}
 use Rattle.std.specs.Prelude.{IsSome}
 use Rattle.std.specs.Cmp.{nat_cmp_total}
 use Rattle.std.specs.List.{flat_map}
@@ -20,11 +20,11 @@ use Rattle.bfs_shift.specs.Lists.{Lists}
 use Rattle.bfs_shift.specs.Shifts.{volume_in}
 use Rattle.bfs_shift.proofs.Joins.{put_count, node_joined}
 use Rattle.bfs_shift.proofs.Made.{put_other}
-use Rattle.bfs_moves.specs.Work.{IsAtWork, GoesOn}
+use Rattle.bfs_shift.specs.Work.{IsAtWork, GoesOn}
 
 module _ (g : Geometry) (v : Room) (m : ℕ → Option (List ℕ)) (tree : Tree) (lists : Lists) (own rest : List ℕ) (id : ℕ) (n : Node) (work : IsAtWork g v m tree lists (own ++ rest)) (absent : get tree.nodes id ≡ None)
     (has : HasNode (volume_in g m) id n) (same : AreSame own (node_blocks (volume_in g m) (id, n))) (rows : n.kind ≡ Dir → rows_in Text (content (volume_in g m) id) ≡ lists.rows id)
-    (no_data : data_blocks (volume_in g m) (id, n) ≡ []) (told_own : (k : ℕ) → Has own k → IsSome (m k)) (old : ℕ → Bool) where
+    (no_data : data_blocks (volume_in g m) (id, n) ≡ []) (told_own : (k : ℕ) → Has own k → IsSome (m k)) (old : ℕ → Bool) (own_changed : (k : ℕ) → Has own k → old k ≡ true) where
   abbrev was : Volume
   was = volume_in g m
 
@@ -79,4 +79,16 @@ module _ (g : Geometry) (v : Room) (m : ℕ → Option (List ℕ)) (tree : Tree)
     same_data = same_data;
     bytes = λ k h. refl;
     written = λ k h. inl h;
+    kept = λ k h. h;
+    entered = λ k h. by_own k h (times k own) refl;
+    reserved = λ k r none. none;
   }
+    where
+      by_own : (k : ℕ) → IsMetadata was after k → (c : ℕ) → times k own ≡ c → IsMetadata was tree k ⊎ (old k ≡ true)
+      by_own k h (suc c) e = inr (own_changed k (let some : 0 < times k own = omega (arith, e) in some))
+      by_own k h zero e =
+          let there : 0 < times k (reach was after) = h.0 in
+          let r = reached k in
+          let d : times k (file_data was tree) ≡ times k (file_data was after) = same_data k in
+          let z = h.1 in
+          inl ((let some : 0 < times k (reach was tree) = omega (arith, there, r, e) in some), omega (arith, d, z))

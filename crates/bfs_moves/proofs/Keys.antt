@@ -20,7 +20,7 @@ use Rattle.bfs_shift.proofs.Following.{same_or_not}
 use Rattle.bfs_shift.proofs.Made.{put_here, put_other, none_listed}
 use Rattle.bfs_shift.proofs.Parts.{lists_at}
 use Rattle.bfs_moves.specs.Laws.{IsListedMore}
-use Rattle.bfs_moves.specs.Work.{IsAtWork}
+use Rattle.bfs_shift.specs.Work.{IsAtWork}
 
 module _ (tree : Tree) (id : ℕ) (node : Node) (index : List ℕ) (kind : KeyKind) (pairs : List (List ℕ × ℕ)) (absent : get tree.nodes id ≡ None) (are : pairs ≡ listed tree index kind) where
   abbrev after : Tree

@@ -1,5 +1,3 @@
-pub mod Files
-pub mod Bits
 pub mod Taken
 pub mod Restamped
 pub mod Streamed
@@ -10,6 +8,10 @@ pub mod Ends
 pub mod Loosened
 pub mod Joined
 pub mod Births
+pub mod Enlarged
+pub mod FirstTrees
+pub mod Housed
+pub mod Rooms
 pub mod Empty
 pub mod Newborn
 pub mod Filed

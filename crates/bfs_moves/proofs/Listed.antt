@@ -44,10 +44,10 @@ use Rattle.bfs_shift.proofs.Maps.{index_has_pairs}
 use Rattle.bfs_shift.proofs.Moving.{all_parts}
 use Rattle.bfs_shift.proofs.OneIndex.{found_row}
 use Rattle.bfs_shift.proofs.Owners.{index_owns, index_marked}
-use Rattle.bfs_moves.specs.Work.{IsAtWork, IsStepped}
+use Rattle.bfs_shift.specs.Work.{IsAtWork, IsStepped, MayBeWritten}
 use Rattle.bfs_moves.specs.Written.{HasBlockWords, HasStreamSince}
-use Rattle.bfs_moves.proofs.Bits.{some_bytes}
-use Rattle.bfs_moves.proofs.Files.{all_split, unfiled}
+use Rattle.bfs_shift.proofs.Basics.{some_bytes}
+use Rattle.bfs_shift.proofs.Files.{all_split, unfiled}
 use Rattle.bfs_moves.proofs.Named.{failed_of}
 use Rattle.bfs_moves.proofs.Streamed.{streamed_step}
 
@@ -125,7 +125,7 @@ module _ (s : Super) (v : Room) (m : ℕ → Option (List ℕ)) (tree : Tree) (l
     stocked : Stocked is_now tree (with_pairs lists name pairs) loose
     stocked = index_has_pairs g v now m written.since.map name (pos inode) pairs tree lists loose work.volume some work.stocked row written.since.moved bytes whole are
 
-    own : (k : ℕ) → Has (inode_blocks is_now inode) k → IsMarked is_now k × (times k (file_data is_now tree) ≡ 0)
+    own : (k : ℕ) → Has (inode_blocks is_now inode) k → MayBeWritten is_now tree k
     own k h = unfiled is_now tree (with_pairs lists name pairs) loose stocked k (
         let has : 0 < times k (inode_blocks is_now inode) = h in
         let f = index_few is_now tree (with_pairs lists name pairs) loose stocked name (pos inode) row k in
@@ -133,7 +133,7 @@ module _ (s : Super) (v : Room) (m : ℕ → Option (List ℕ)) (tree : Tree) (l
 
     paired_step : IsStepped g v now m tree tree (with_pairs lists name pairs) loose told old new
     paired_step = streamed_step s v now m tree lists (with_pairs lists name pairs) loose inode told old new valid work (index_marked g v m tree lists loose work.stocked name (pos inode) row) apart
-        written.since.map written.since.is written.since.held written.since.moved written.since.written stocked own
+        written.since.map written.since.is written.since.held written.since.moved written.since.written written.since.stays written.since.fresh stocked own
 
   was_written : AreWritten (content was inode) (rows_in kind (content was inode)) (lists.pairs name)
   was_written = (work.stocked.indices name (pos inode) row).written

@@ -39,12 +39,13 @@ use Rattle.bfs_shift.specs.Inodes.{HasBytes}
 use Rattle.bfs_shift.proofs.Held.{owner_held, directory_is_map}
 use Rattle.bfs_shift.proofs.Maps.{directory_has_rows}
 use Rattle.bfs_shift.proofs.Owners.{directory_owns}
-use Rattle.bfs_moves.specs.Work.{IsAtWork, IsStepped}
+use Rattle.bfs_shift.specs.Work.{IsAtWork, IsStepped, MayBeWritten}
 use Rattle.bfs_moves.specs.Written.{HasBlockWords, HasRowsSince, HasStreamSince}
-use Rattle.bfs_moves.proofs.Bits.{some_bytes}
-use Rattle.bfs_moves.proofs.Files.{metadata_in, all_split, unfiled, apart_of}
-use Rattle.bfs_moves.proofs.Restamped.{own_few}
+use Rattle.bfs_shift.proofs.Basics.{some_bytes}
+use Rattle.bfs_shift.proofs.Files.{metadata_in, all_split, unfiled, apart_of}
+use Rattle.bfs_shift.proofs.AtWork.{own_few}
 use Rattle.bfs_moves.proofs.Streamed.{streamed_step}
+use Rattle.bfs_shift.proofs.AtWork.{stream_metadata, stream_marked}
 
 pub failed_of : (o : Origin) (v now : Room) (m map : ℕ → Option (List ℕ)) → Moved o v now m map → (f : GrowFault) → IsUndamaged f → HasFailed o v m f
 failed_of o v now m map moved (grow.NoRun wanted free) bad = absurd bad
@@ -58,14 +59,6 @@ undone_put o v now m map rows name moved fault.Absent bad = absurd bad
 undone_put o v now m map rows name moved (fault.Damaged page sort) bad = absurd bad
 undone_put o v now m map rows name moved (fault.Pages f) fine = failed_of o v now m map moved f fine
 undone_put o v now m map rows name moved fault.NoMemory fine = tt
-
--- a directory's stream is metadata
-pub stream_metadata : (v : Volume) (d : ℕ) (n : Node) → n.kind ≡ Dir → (k : ℕ) → times k (inode_blocks v d) ≤ times k (node_metadata v (d, n))
-unfolding node_metadata
-stream_metadata v d n dir k =
-    let own : times k (own_metadata v d n.kind (is_short v d)) ≡ times k (inode_blocks v d) = ap (λ (x : Kind). times k (own_metadata v d x (is_short v d))) dir in
-    let p : times k (own_metadata v d n.kind (is_short v d) ++ other_blocks v d) ≡ times k (own_metadata v d n.kind (is_short v d)) + times k (other_blocks v d) = times-append k (own_metadata v d n.kind (is_short v d)) (other_blocks v d) in
-    omega (arith, own, p)
 
 -- the inode of a stream that was changed is told
 pub still_there : (s : Super) (m : ℕ → Option (List ℕ)) (d : ℕ) (v now : Room) (P : List ℕ → Type 0) (told : Option (ℕ → Option (List ℕ))) (old new : ℕ → Bool) (written : HasStreamSince (record { id = d; sizes = sizes_of s }) v now m P told old new) → IsSome (written.since.map d)
@@ -84,31 +77,6 @@ module _ (s : Super) (v : Room) (m : ℕ → Option (List ℕ)) (tree : Tree) (l
   some : 0 < s.block_size
   some = some_bytes s valid
 
-  pub stream_told : AreTold m (inode_blocks was d)
-  stream_told k h =
-      let has : 0 < times k (inode_blocks was d) = h in
-      let i = stream_metadata was d n dir k in
-      let f = own_few s v m tree lists loose d n work is k in
-      let most : times k (reach was tree ++ loose) ≤ 1 = work.stocked.once k in
-      let p = all_split was tree lists loose work.stocked k in
-      let a = times-append k (reach was tree) loose in
-      let in_it = metadata_in was tree lists loose work.stocked d n is k in
-      let reached : 0 < times k (reach was tree) = omega (arith, has, i, p, a, in_it) in
-      work.told k (reached, omega (arith, has, i, f, most)) (omega (arith, has, i, f, most))
-
-  pub directory_held : HasHeld o v m
-  directory_held = owner_held g v m d (directory_owns g v m tree lists loose work.stocked work.volume some work.fits d n is dir stream_told) stream_told
-
-  pub directory_map : AreNumbers (lists.rows d) → IsMap Text o v m
-  directory_map numbers = directory_is_map g v m tree lists loose d n work.volume some work.fits work.stocked is dir stream_told numbers
-
-  pub stream_marked : (k : ℕ) → Has (inode_blocks was d) k → IsMarked was k
-  stream_marked k h = (work.stocked.marks k).1 (
-      let has : 0 < times k (inode_blocks was d) = h in
-      let i = stream_metadata was d n dir k in
-      let f = own_few s v m tree lists loose d n work is k in
-      let r : 0 < times k (reach was tree ++ loose) = omega (arith, has, i, f) in r)
-
   module _ (now : Room) (rows : List Row) (told : Option (ℕ → Option (List ℕ))) (old new : ℕ → Bool) (written : HasRowsSince o v now m rows told old new) (words : HasBlockWords (contents written.since.map d)) where
     abbrev is_now : Volume
     is_now = volume_in g written.since.map
@@ -122,7 +90,7 @@ module _ (s : Super) (v : Room) (m : ℕ → Option (List ℕ)) (tree : Tree) (l
     few : (k : ℕ) → times k (inode_blocks was d) ≤ times k (node_blocks was (d, n))
     few k = let i = stream_metadata was d n dir k in let p = node_split was k (d, n) in omega (arith, i, p)
 
-    own : (k : ℕ) → Has (inode_blocks is_now d) k → IsMarked is_now k × (times k (file_data is_now tree) ≡ 0)
+    own : (k : ℕ) → Has (inode_blocks is_now d) k → MayBeWritten is_now tree k
     own k h = unfiled is_now tree (with_rows lists d rows) loose stocked k (
         let has : 0 < times k (inode_blocks is_now d) = h in
         let i = stream_metadata is_now d n dir k in
@@ -130,5 +98,5 @@ module _ (s : Super) (v : Room) (m : ℕ → Option (List ℕ)) (tree : Tree) (l
         omega (arith, has, i, in_it))
 
     pub named_step : IsStepped g v now m tree tree (with_rows lists d rows) loose told old new
-    named_step = streamed_step s v now m tree lists (with_rows lists d rows) loose d told old new valid work stream_marked (apart_of was tree lists loose work.stocked d n is dir (inode_blocks was d) few)
-        written.since.map written.since.is written.since.held written.since.moved written.since.written stocked own
+    named_step = streamed_step s v now m tree lists (with_rows lists d rows) loose d told old new valid work (stream_marked s v m tree lists loose d n valid work is dir) (apart_of was tree lists loose work.stocked d n is dir (inode_blocks was d) few)
+        written.since.map written.since.is written.since.held written.since.moved written.since.written written.since.stays written.since.fresh stocked own

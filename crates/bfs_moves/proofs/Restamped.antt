@@ -33,58 +33,15 @@ use Rattle.bfs_shift.proofs.Renewed.{same_test, other_test}
 use Rattle.bfs_shift.proofs.Replaced.{put_swapped}
 use Rattle.bfs_shift.proofs.Rewritten.{words_same}
 use Rattle.bfs_shift.proofs.Stamped.{status_changed, one_shift, only_d}
-use Rattle.bfs_moves.specs.Work.{IsAtWork, GoesOn, IsStepped}
+use Rattle.bfs_txn.specs.Told.{StaysChanged}
+use Rattle.bfs_shift.specs.Work.{IsAtWork, GoesOn, IsStepped, MayBeWritten}
 use Rattle.bfs_moves.specs.Written.{IsRestamped}
-use Rattle.bfs_moves.proofs.Bits.{some_bytes}
-use Rattle.bfs_moves.proofs.Files.{has_own, metadata_in, all_split, node_unfiled, not_loose, apart_of, stream_same, data_stays, bytes_same, marks_stay, told_since}
-
-pub not_one : (k d : ℕ) → k ≢ d → times k (d ∷ []) ≡ 0
-not_one k d apart = grind (arith, apart)
-
-pub just_one : (d : ℕ) → times d (d ∷ []) ≡ 1
-just_one d = grind arith
-
-pub not_there : (k d : ℕ) → times k (d ∷ []) ≡ 0 → k ≢ d
-not_there k d none e = let p : times d (d ∷ []) ≡ 0 = subst (λ (j : ℕ). times j (d ∷ []) ≡ 0) e none in let one = just_one d in omega (arith, p, one)
-
-pub zero_fixed : (l : List ℕ) → 0 < times 0 (0 ∷ l)
-zero_fixed l = let e : times 0 (0 ∷ l) ≡ 1 + times 0 l = grind arith in omega (arith, e)
-
-module _ (s : Super) (v : Room) (m : ℕ → Option (List ℕ)) (tree : Tree) (lists : Lists) (loose : List ℕ) (d : ℕ) (n : Node) (work : IsAtWork (geometry_of s) v m tree lists loose) (is : IsNode tree d n) where
-  abbrev g : Geometry
-  g = geometry_of s
-
-  abbrev was : Volume
-  was = volume_in g m
-
-  pub own_few : (k : ℕ) → times k (node_metadata was (d, n)) + (times k (fixed_blocks was) + times k (bitmap_blocks g)) + times k (file_data was tree) ≤ times k (reach was tree ++ loose)
-  own_few k = let p = all_split was tree lists loose work.stocked k in let i = metadata_in was tree lists loose work.stocked d n is k in omega (arith, p, i)
-
-  apart_own : (times d (fixed_blocks was) ≡ 0) × (times d (bitmap_blocks g) ≡ 0) × (times d (file_data was tree) ≡ 0) × (0 < times d (reach was tree))
-  apart_own =
-      let f = own_few d in
-      let o = has_own was d n in
-      let m1 : times d (reach was tree ++ loose) ≤ 1 = work.stocked.once d in
-      let l = not_loose was tree lists loose work.stocked d n is in
-      let a = times-append d (reach was tree) loose in
-      (omega (arith, f, o, m1), omega (arith, f, o, m1), omega (arith, f, o, m1), (let r : 0 < times d (reach was tree) = omega (arith, f, o, l, a) in r))
-
-  -- the inode of a node is told
-  pub inode_told : IsSome (m d)
-  inode_told = work.told d (apart_own.3, apart_own.2) apart_own.0
-
-  pub no_bits : times d (bitmap_blocks g) ≡ 0
-  no_bits = apart_own.1
-
-  pub not_zero : 1 ≤ d
-  not_zero = by_place d apart_own.0
-    where
-      by_place : (x : ℕ) → times x (fixed_blocks was) ≡ 0 → 1 ≤ x
-      by_place (suc x) none = omega arith
-      by_place zero none = absurd (let z : 0 < times 0 (fixed_blocks was) = zero_fixed _ in omega (arith, z, none))
+use Rattle.bfs_shift.proofs.Basics.{some_bytes}
+use Rattle.bfs_shift.proofs.Files.{has_own, metadata_in, all_split, node_unfiled, not_loose, apart_of, stream_same, data_stays, bytes_same, marks_stay, told_since, entered_since, reserved_stays}
+use Rattle.bfs_shift.proofs.AtWork.{not_one, just_one, not_there, zero_fixed, own_few, apart_own, inode_told, no_bits, not_zero}
 
 module _ (s : Super) (v : Room) (m : ℕ → Option (List ℕ)) (tree : Tree) (lists : Lists) (loose : List ℕ) (d : ℕ) (n : Node) (stamp : ℤ) (told : Option (ℕ → Option (List ℕ))) (old new : ℕ → Bool)
-    (valid : IsValid s) (work : IsAtWork (geometry_of s) v m tree lists loose) (is : IsNode tree d n) (dir : n.kind ≡ Dir) (written : IsRestamped d stamp m told) (changed : (k : ℕ) → new k ≡ true → (old k ≡ true) ⊎ (k ≡ d)) where
+    (valid : IsValid s) (work : IsAtWork (geometry_of s) v m tree lists loose) (is : IsNode tree d n) (dir : n.kind ≡ Dir) (written : IsRestamped d stamp m told) (changed : (k : ℕ) → new k ≡ true → (old k ≡ true) ⊎ (k ≡ d)) (kept_changed : StaysChanged old new) where
   abbrev geometry : Geometry
   geometry = geometry_of s
 
@@ -212,6 +169,15 @@ module _ (s : Super) (v : Room) (m : ℕ → Option (List ℕ)) (tree : Tree) (l
       let bad : true ≡ false = sym f ∙ ap (λ (y : Node). is_file y.kind) nodes ∙ ap is_file dir in
       cc
 
+  d_reached : 0 < times d (reach before tree)
+  d_reached = (apart_own s v m tree lists loose d n work is).3
+
+  was_reached : (k : ℕ) → Has (d ∷ []) k → times k loose ≡ 0 → 0 < times k (reach before tree)
+  was_reached k h none = subst (λ (j : ℕ). 0 < times j (reach before tree)) (sym (is_d k h)) d_reached
+
+  d_marked : (k : ℕ) → Has (d ∷ []) k → IsMarked before k
+  d_marked k h = subst (λ (j : ℕ). IsMarked before j) (sym (is_d k h)) ((work.stocked.marks d).1 (let r = d_reached in let a = times-append d (reach before tree) loose in let t : 0 < times d (reach before tree ++ loose) = omega (arith, r, a) in t))
+
   goes_on : GoesOn geometry v v m map tree after old new
   goes_on = record {
     rest = refl;
@@ -220,11 +186,15 @@ module _ (s : Super) (v : Room) (m : ℕ → Option (List ℕ)) (tree : Tree) (l
     same_data = same_data;
     bytes = bytes_same before tree lists loose work.stocked (contents map) (d ∷ []) (d ∷ []) shift apart;
     written = λ k h. by_cause k (changed k h);
+    kept = kept_changed;
+    entered = entered_since geometry m map tree after lists lists loose loose (d ∷ []) (d ∷ []) work.stocked stocked shift same_data work.told (λ k none. inl (elsewhere k (not_there k d none)))
+        (λ k h none. told_here k (is_d k h)) (λ k. omega arith) new (λ k h left none. let has : 0 < times k (d ∷ []) = h in absurd (omega (arith, has, none))) was_reached;
+    reserved = reserved_stays before (contents map) (d ∷ []) (d ∷ []) v m shift d_marked (λ k h none. let has : 0 < times k (d ∷ []) = h in absurd (omega (arith, has, none)));
   }
     where
-      by_cause : (k : ℕ) → (old k ≡ true) ⊎ (k ≡ d) → (old k ≡ true) ⊎ (IsMarked since k × (times k (file_data since after) ≡ 0))
+      by_cause : (k : ℕ) → (old k ≡ true) ⊎ (k ≡ d) → (old k ≡ true) ⊎ (MayBeWritten since after k)
       by_cause k (inl e) = inl e
-      by_cause k (inr e) = inr (subst (λ (j : ℕ). IsMarked since j × (times j (file_data since after) ≡ 0)) (sym e) (node_unfiled since after lists loose stocked d now (put_here tree.nodes d now)))
+      by_cause k (inr e) = inr (subst (λ (j : ℕ). MayBeWritten since after j) (sym e) (node_unfiled since after lists loose stocked d now (put_here tree.nodes d now)))
 
   pub stamped_step : IsStepped geometry v v m tree after lists loose told old new
   stamped_step = record { map = map; is = written.is; work = work_now; goes_on = goes_on }

@@ -26,16 +26,18 @@ use Rattle.bfs_shift.specs.Lists.{Lists}
 use Rattle.bfs_shift.specs.Stocked.{Stocked, Shifts}
 use Rattle.bfs_shift.specs.Shifts.{volume_in}
 use Rattle.bfs_shift.proofs.Moves.{moved_shifts}
-use Rattle.bfs_moves.specs.Work.{IsAtWork, GoesOn, IsStepped}
-use Rattle.bfs_moves.proofs.Bits.{some_bytes, bitmap_has, or_told}
-use Rattle.bfs_moves.proofs.Files.{unfiled, files_same, stream_same, bytes_same, marks_stay, told_since}
+use Rattle.bfs_txn.specs.Told.{StaysChanged}
+use Rattle.bfs_stream_pages.specs.Moves.{ChangesFresh}
+use Rattle.bfs_shift.specs.Work.{IsAtWork, GoesOn, IsStepped, MayBeWritten}
+use Rattle.bfs_shift.proofs.Basics.{some_bytes, bitmap_has, or_told}
+use Rattle.bfs_shift.proofs.Files.{unfiled, files_same, stream_same, bytes_same, marks_stay, told_since, entered_since, reserved_stays}
 
 module _ (s : Super) (v now : Room) (m : ℕ → Option (List ℕ)) (tree : Tree) (lists since : Lists) (loose : List ℕ) (d : ℕ) (told : Option (ℕ → Option (List ℕ))) (old new : ℕ → Bool) (valid : IsValid s) (work : IsAtWork (geometry_of s) v m tree lists loose)
     (marked : (k : ℕ) → Has (inode_blocks (volume_in (geometry_of s) m) d) k → IsMarked (volume_in (geometry_of s) m) k)
     (apart : (e : ℕ × Node) → In e (entries tree.nodes) → is_file e.1.kind ≡ true → (k : ℕ) → times k (node_blocks (volume_in (geometry_of s) m) e) + (times k (inode_blocks (volume_in (geometry_of s) m) d) + times k (bitmap_blocks (geometry_of s))) ≤ times k (reach (volume_in (geometry_of s) m) tree ++ loose))
     (map : ℕ → Option (List ℕ)) (is : told ≡ Some map) (held : HasHeld (record { id = d; sizes = sizes_of s }) now map) (moved : Moved (record { id = d; sizes = sizes_of s }) v now m map)
-    (written : AreWritten v old new (inode_blocks (volume_in (geometry_of s) map) d)) (stocked : Stocked (volume_in (geometry_of s) map) tree since loose)
-    (own : (k : ℕ) → Has (inode_blocks (volume_in (geometry_of s) map) d) k → IsMarked (volume_in (geometry_of s) map) k × (times k (file_data (volume_in (geometry_of s) map) tree) ≡ 0)) where
+    (written : AreWritten v old new (inode_blocks (volume_in (geometry_of s) map) d)) (kept : StaysChanged old new) (fresh : ChangesFresh (record { id = d; sizes = sizes_of s }) m map new) (stocked : Stocked (volume_in (geometry_of s) map) tree since loose)
+    (own : (k : ℕ) → Has (inode_blocks (volume_in (geometry_of s) map) d) k → MayBeWritten (volume_in (geometry_of s) map) tree k) where
   abbrev g : Geometry
   g = geometry_of s
 
@@ -88,6 +90,9 @@ module _ (s : Super) (v now : Room) (m : ℕ → Option (List ℕ)) (tree : Tree
     told = told_since g m map tree tree lists since loose loose xs ys work.stocked stocked shift (λ k. ap (times k) (sym same)) work.told or_is (λ k h none. ours k h) (λ k. omega arith);
   }
 
+  was_reached : (k : ℕ) → Has xs k → times k loose ≡ 0 → 0 < times k (reach was tree)
+  was_reached k h none = let r : 0 < times k (reach was tree ++ loose) = (work.stocked.marks k).0 (marked k h) in let a = times-append k (reach was tree) loose in omega (arith, r, a, none)
+
   goes_on : GoesOn g v now m map tree tree old new
   goes_on = record {
     rest = moved.rest;
@@ -96,9 +101,12 @@ module _ (s : Super) (v now : Room) (m : ℕ → Option (List ℕ)) (tree : Tree
     same_data = λ k. ap (times k) (sym same);
     bytes = bytes_same was tree lists loose work.stocked (contents map) xs ys shift apart;
     written = λ k h. by_cause k (written k h);
+    kept = kept;
+    entered = entered_since g m map tree tree lists since loose loose xs ys work.stocked stocked shift (λ k. ap (times k) (sym same)) work.told or_is (λ k h none. ours k h) (λ k. omega arith) new (λ k h left none. fresh k h none) was_reached;
+    reserved = reserved_stays was (contents map) xs ys v m shift marked moved.were_free;
   }
     where
-      by_cause : (k : ℕ) → (old k ≡ true) ⊎ (IsBitmapBlock v k ⊎ Has ys k) → (old k ≡ true) ⊎ (IsMarked is_now k × (times k (file_data is_now tree) ≡ 0))
+      by_cause : (k : ℕ) → (old k ≡ true) ⊎ (IsBitmapBlock v k ⊎ Has ys k) → (old k ≡ true) ⊎ (MayBeWritten is_now tree k)
       by_cause k (inl e) = inl e
       by_cause k (inr (inl bit)) = inr (unfiled is_now tree since loose stocked k (let b : 0 < times k (bitmap_blocks g) = bitmap_has g v k work.volume some bit in omega (arith, b)))
       by_cause k (inr (inr h)) = inr (own k h)

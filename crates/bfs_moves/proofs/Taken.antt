@@ -3,7 +3,7 @@ use Rattle.std.proofs.Common.{◌≡◌, ◌≤◌, ◌<◌, ◌+◌, ◌*◌, �
 use Rattle.std.specs.Prelude.{IsSome}
 use Rattle.std.specs.List.{flat_map}
 use Rattle.std.specs.FinMap.{entries, get}
-use Rattle.bfs_base.specs.Lists.{times, counted_from}
+use Rattle.bfs_base.specs.Lists.{times, Has, counted_from}
 use Rattle.bfs_bytes.specs.declared.Run.{Run}
 use Rattle.bfs_super.specs.Conditions.{IsValid, natural, block_of_run}
 use Rattle.bfs_super.specs.Geometry.{geometry_of}
@@ -26,16 +26,18 @@ use Rattle.bfs_shift.specs.Shifts.{volume_in}
 use Rattle.bfs_shift.proofs.Bits.{taken_shifts}
 use Rattle.bfs_shift.proofs.Loose.{loose_changed}
 use Rattle.bfs_shift.proofs.Moving.{all_parts}
-use Rattle.bfs_moves.specs.Work.{IsAtWork, GoesOn, IsStepped}
-use Rattle.bfs_moves.proofs.Bits.{some_bytes, bitmap_has, or_told}
-use Rattle.bfs_moves.proofs.Files.{unfiled, none_there, files_same, stream_same, bytes_same, marks_stay, told_since}
+use Rattle.bfs_txn.specs.Told.{StaysChanged}
+use Rattle.bfs_shift.specs.Work.{IsAtWork, GoesOn, IsStepped, MayBeWritten}
+use Rattle.bfs_shift.proofs.Basics.{some_bytes, bitmap_has, or_told}
+use Rattle.bfs_shift.proofs.Files.{unfiled, none_there, files_same, stream_same, bytes_same, marks_stay, told_since, entered_since, reserved_stays}
+use Rattle.bfs_moves.proofs.Births.{only_one}
 
 one_more : (d : ℕ) (l : List ℕ) → times d (d ∷ l) ≡ 1 + times d l
 one_more d l = grind arith
 
 module _ (s : Super) (v now : Room) (run : Run) (m : ℕ → Option (List ℕ)) (tree : Tree) (lists : Lists) (loose : List ℕ) (told : Option (ℕ → Option (List ℕ))) (old new : ℕ → Bool) (valid : IsValid s) (work : IsAtWork (geometry_of s) v m tree lists loose)
     (inside : IsInside v run) (low : 1 ≤ run.len) (high : run.len ≤ 1) (taken : IsTaken v m 1 1 (first_of v run) run.len) (mark : bits.IsMarked v now (first_of v run) run.len 1 m told) (rest : now ≡ record v { tally = now.tally })
-    (changed : (k : ℕ) → new k ≡ true → (old k ≡ true) ⊎ IsBitmapBlock v k) (count : IsCounted v m → IsTold (IsCounted now) told) where
+    (changed : (k : ℕ) → new k ≡ true → (old k ≡ true) ⊎ IsBitmapBlock v k) (kept : StaysChanged old new) (count : IsCounted v m → IsTold (IsCounted now) told) where
   abbrev g : Geometry
   g = geometry_of s
 
@@ -94,9 +96,17 @@ module _ (s : Super) (v now : Room) (run : Run) (m : ℕ → Option (List ℕ)) 
     same_data = λ k. ap (times k) (sym same);
     bytes = bytes_same was tree lists loose work.stocked (contents mark.map) [] (first ∷ []) shift apart;
     written = λ k h. by_cause k (changed k h);
+    kept = kept;
+    entered = entered_since g m mark.map tree tree lists lists loose (first ∷ loose) [] (first ∷ []) work.stocked since shift (λ k. ap (times k) (sym same)) work.told (λ k none. or_is k)
+        (λ k h none. let has : 0 < times k (first ∷ []) = h in let l = loose_is k in absurd (omega (arith, has, l, none)))
+        (λ k. let l = loose_is k in omega (arith, l)) new
+        (λ k h left none. let has : 0 < times k (first ∷ []) = h in let l = loose_is k in absurd (omega (arith, has, l, left)))
+        (λ k h left. let bad : 0 < 0 = h in absurd (omega (arith, bad)));
+    reserved = reserved_stays was (contents mark.map) [] (first ∷ []) v m shift (λ k h. let bad : 0 < 0 = h in absurd (omega (arith, bad)))
+        (λ k h none. let e = only_one k first h in taken.free.free k (omega (arith, e)) (omega (arith, e, low)));
   }
     where
-      by_cause : (k : ℕ) → (old k ≡ true) ⊎ IsBitmapBlock v k → (old k ≡ true) ⊎ (IsMarked is_now k × (times k (file_data is_now tree) ≡ 0))
+      by_cause : (k : ℕ) → (old k ≡ true) ⊎ IsBitmapBlock v k → (old k ≡ true) ⊎ (MayBeWritten is_now tree k)
       by_cause k (inl e) = inl e
       by_cause k (inr bit) = inr (unfiled is_now tree lists (first ∷ loose) since k (let b : 0 < times k (bitmap_blocks g) = bitmap_has g v k work.volume some bit in omega (arith, b)))
 

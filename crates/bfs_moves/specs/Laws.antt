@@ -1,5 +1,5 @@
 -- How the steps of a call are put together, where a call begins, and what is known at its end.
-use Rattle.std.specs.Prelude.{◌≡◌, ◌⊎◌, ◌↔◌, ℕ, ℤ, List, [], ◌++◌, length, Bool, true, Option, Some, None, IsSome}
+use Rattle.std.specs.Prelude.{◌≡◌, ◌<◌, ◌⊎◌, ◌↔◌, ℕ, ℤ, List, [], ◌∷◌, ◌++◌, length, Bool, true, Option, Some, None, IsSome}
 use Rattle.std.specs.List.{Contains}
 use Rattle.std.specs.List.Sorted.{IsStrictlySortedBy}
 use Rattle.std.specs.FinMap.{get, insert, empty}
@@ -13,14 +13,14 @@ use Rattle.bfs_stream.specs.Grown.{IsOfVolume}
 use Rattle.bfs_pages.specs.Maps.{assoc}
 use Rattle.bfs_tree.specs.Listings.{key_in, listed, pair_cmp, with_key}
 use Rattle.bfs_tree.specs.Trees.{Node, Tree, IsPlain}
-use Rattle.bfs_sound.specs.Volumes.{sizes, IsMarked}
+use Rattle.bfs_sound.specs.Volumes.{sizes, IsMarked, log_blocks}
 use Rattle.bfs_sound.specs.Owners.{fixed_blocks, reach, IsMetadata}
 use Rattle.bfs_sound.specs.Whole.{IsSound}
 use Rattle.bfs_sound.specs.Laws.{changed}
 use Rattle.bfs_shift.specs.Lists.{Lists, Agrees}
 use Rattle.bfs_shift.specs.Laws.{lists_of}
 use Rattle.bfs_shift.specs.Shifts.{volume_in}
-use Rattle.bfs_moves.specs.Work.{IsAtWork, GoesOn}
+use Rattle.bfs_shift.specs.Work.{IsAtWork, GoesOn}
 
 -- nothing was done, and two steps were
 abbrev pub GoesOnSame : Type 0
@@ -36,12 +36,16 @@ WorkBegins = (g : Geometry) (v : Room) (m : ℕ → Option (List ℕ)) (tree : T
     → ((k : ℕ) → IsMetadata (volume_in g m) tree k → times k (fixed_blocks (volume_in g m)) ≡ 0 → IsSome (m k))
     → IsAtWork g v m tree (lists_of (volume_in g m) tree) [] × Agrees tree (lists_of (volume_in g m) tree)
 
+-- a block of the volume that is neither block 0 nor one of the log
+abbrev pub IsApart : Geometry → ℕ → Type 0
+IsApart g k = (k < g.blocks) × (times k (0 ∷ log_blocks g) ≡ 0)
+
 -- A call has ended on a volume with nothing loose: each block that was marked is, and is metadata just where it was; what was changed
--- is metadata.
+-- is metadata, and neither block 0 nor of the log.
 pub record IsCallKept (g : Geometry) (m map : ℕ → Option (List ℕ)) (tree after : Tree) (old new : ℕ → Bool) : Type 0 where
   pub marked : (k : ℕ) → IsMarked (volume_in g m) k → IsMarked (volume_in g map) k
   pub metadata : (k : ℕ) → IsMarked (volume_in g m) k → IsMetadata (volume_in g m) tree k ↔ IsMetadata (volume_in g map) after k
-  pub changed : (k : ℕ) → new k ≡ true → (old k ≡ true) ⊎ IsMetadata (volume_in g map) after k
+  pub changed : (k : ℕ) → new k ≡ true → (old k ≡ true) ⊎ (IsMetadata (volume_in g map) after k × IsApart g k)
 
 abbrev pub CallIsKept : Type 0
 CallIsKept = (g : Geometry) (v now : Room) (m map : ℕ → Option (List ℕ)) (tree after : Tree) (before lists : Lists) (old new : ℕ → Bool)

@@ -1,4 +1,4 @@
-pub mod Work
 pub mod Written
 pub mod Born
+pub mod Grown
 pub mod Laws

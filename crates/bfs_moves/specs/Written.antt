@@ -1,5 +1,7 @@
 -- An inode's block that was written.
-use Rattle.std.specs.Prelude.{◌≡◌, ◌≤◌, ℕ, ℤ, pos, List, length, Bool, Option, Some, None}
+use Rattle.std.specs.Prelude.{◌≡◌, ◌≤◌, ◌<◌, ◌⊎◌, ◌↔◌, ℕ, ℤ, pos, List, length, Bool, Option, Some, None}
+use Rattle.std.specs.List.{Contains}
+use Rattle.std.specs.List.Sorted.{IsStrictlySortedBy}
 use Rattle.bfs_base.specs.declared.kind.KeyKind.{KeyKind}
 use Rattle.bfs_base.specs.declared.kind.KeyKind.TheVariants.{Text}
 use Rattle.bfs_super.specs.declared.geometry.Geometry.{Geometry}
@@ -10,16 +12,19 @@ use Rattle.bfs_pages.specs.Maps.{assoc}
 use Rattle.bfs_txn.specs.Told.{with_block}
 use Rattle.bfs_stream.specs.Sizes.{Origin, Sizes}
 use Rattle.bfs_stream.specs.declared.fault.GrowFault.{GrowFault}
+use Rattle.bfs_stream.specs.declared.fault.GrowFault.TheVariants as grow
+use Rattle.bfs_stream.specs.Grown.{IsStuck}
+use Rattle.bfs_stream.specs.Scans.{IsDamage}
 use Rattle.bfs_node.specs.declared.fault.TreeFault.{TreeFault}
 use Rattle.bfs_index.specs.Refused.{IsPairFault}
 use Rattle.bfs_stream.specs.Told.{contents}
-use Rattle.bfs_tree.specs.declared.call.Kind.TheVariants.{Dir}
-use Rattle.bfs_tree.specs.Trees.{Node, Tree, IsNode}
+use Rattle.bfs_tree.specs.Listings.{pair_cmp}
+use Rattle.bfs_tree.specs.Trees.{Tree}
 use Rattle.bfs_maps.specs.Mapped.{StreamNow}
 use Rattle.bfs_maps.specs.NumberTrees.{IsTreeOf}
 use Rattle.bfs_shift.specs.Lists.{Lists}
 use Rattle.bfs_shift.specs.Stocked.{HasWords}
-use Rattle.bfs_moves.specs.Work.{IsAtWork}
+use Rattle.bfs_shift.specs.Work.{IsAtWork}
 
 -- The inode at a block has another stamp of the last change of its content, and nothing else has changed.
 pub record IsRestamped (d : ℕ) (stamp : ℤ) (m : ℕ → Option (List ℕ)) (told : Option (ℕ → Option (List ℕ))) : Type 0 where
@@ -45,16 +50,6 @@ pub record HasStreamSince (o : Origin) (v now : Room) (m : ℕ → Option (List 
 abbrev pub HasRowsSince : Origin → Room → Room → (ℕ → Option (List ℕ)) → List Row → Option (ℕ → Option (List ℕ)) → (ℕ → Bool) → (ℕ → Bool) → Type 0
 HasRowsSince o v now m rows told old new = HasStreamSince o v now m (IsTreeOf Text rows) told old new
 
--- a directory of a tree stands at this block of a volume at work
-pub record HasDirectoryAt (g : Geometry) (v : Room) (m : ℕ → Option (List ℕ)) (d : ℕ) : Type 0 where
-  pub tree : Tree
-  pub lists : Lists
-  pub loose : List ℕ
-  pub node : Node
-  pub work : IsAtWork g v m tree lists loose
-  pub there : IsNode tree d node
-  pub kind : node.kind ≡ Dir
-
 -- an index of this kind, that the index directory names, stands at this block of a volume at work
 pub record HasIndexAt (g : Geometry) (v : Room) (m : ℕ → Option (List ℕ)) (inode : ℕ) (kind : KeyKind) : Type 0 where
   pub tree : Tree
@@ -65,14 +60,24 @@ pub record HasIndexAt (g : Geometry) (v : Room) (m : ℕ → Option (List ℕ)) 
   pub row : assoc Text lists.names name ≡ Some (pos inode)
   pub kind_is : lists.kinds name ≡ kind
 
--- some tree stands on a volume at work, with some lists and loose blocks
-pub record HasWork (g : Geometry) (v : Room) (m : ℕ → Option (List ℕ)) : Type 0 where
-  pub tree : Tree
-  pub lists : Lists
-  pub loose : List ℕ
-  pub work : IsAtWork g v m tree lists loose
-
 -- why a node wasn't listed: as a call on the index says; and where there is no index, nothing is answered
 abbrev pub IsListFault : Sizes → Room → (ℕ → Option (List ℕ)) → Option ℕ → TreeFault GrowFault → Type 0
 IsListFault s v m None fault = ⊥
 IsListFault s v m (Some inode) fault = IsPairFault (record { id = inode; sizes = s }) v m fault
+
+-- Where an index has the name, it is of this kind, and the pairs are those that it lists and one more, in order.
+abbrev pub ListsMore : Lists → KeyKind → List ℕ → List ℕ → ℕ → List (List ℕ × ℕ) → Type 0
+ListsMore lists kind name key id pairs = (value : ℤ) → assoc Text lists.names name ≡ Some value
+    → (lists.kinds name ≡ kind) × IsStrictlySortedBy (pair_cmp kind) pairs
+    × ((k : List ℕ) (n : ℕ) → Contains pairs (k, n) ↔ (Contains (lists.pairs name) (k, n) ⊎ ((k ≡ key) × (n ≡ id))))
+
+-- Why a stream that has room for so many blocks has not grown by them: fewer were added, and no free run of as many as were asked for is
+-- left; or a block could not be had, and none is damaged.
+abbrev pub IsFewFault : Origin → Room → (ℕ → Option (List ℕ)) → ℕ → GrowFault → Type 0
+IsFewFault o v m blocks (grow.NoRun asked free) = (added : ℕ) × (added < blocks) × IsStuck o v m added asked free
+IsFewFault o v m blocks (grow.Full room) = ⊥
+IsFewFault o v m blocks (grow.Block fault) = ¬ IsDamage fault
+
+-- So it is of a node whose bytes stand in its stream, once its inode was written; it asks for at most two blocks.
+abbrev pub IsSoundFault : Origin → Room → (ℕ → Option (List ℕ)) → GrowFault → Type 0
+IsSoundFault o v m fault = (bytes : List ℕ) × (blocks : ℕ) × (blocks ≤ 2) × IsFewFault o v (with_block o.id bytes m) blocks fault

@@ -4,6 +4,7 @@ ghost use Rattle.bfs_inode.specs.Refusals.{Names};
 ghost use Rattle.bfs_super.specs.Conditions.{IsValid, natural};
 ghost use Rattle.bfs_super.specs.Geometry.{geometry_of};
 ghost use Rattle.bfs_txn.specs.Faults.{IsCaused};
+ghost use Rattle.bfs_txn.specs.Told.{StaysChanged};
 ghost use Rattle.bfs_moves.specs.Born.{IsBornEmpty, IsBornLink};
 
 use crate::inode::has_few_bytes;
@@ -47,6 +48,8 @@ pub(crate) fn write_empty<E: Edits>(
     ensures written { (m : ℕ → Option (List ℕ)) → E.told edits.old ≡ Some m → OnOk result (IsBornEmpty sup.now.block_size block new name.now m (E.told edits.new)) }
     ensures kept { OnErr result (E.told edits.new ≡ E.told edits.old) }
     ensures changed { (k : ℕ) → E.changed edits.new k ≡ true → (E.changed edits.old k ≡ true) ⊎ (k ≡ block) }
+    ensures stays { StaysChanged (E.changed edits.old) (E.changed edits.new) }
+    ensures set { OnOk result (E.changed edits.new block ≡ true) }
     ensures size { E.size edits.new ≡ E.size edits.old }
     ensures frame { E.frame edits.new ≡ E.frame edits.old }
     ensures cause { IsCaused (E.counts edits.old) (E.counts edits.new) result }
@@ -80,6 +83,8 @@ pub(crate) fn write_link<E: Edits>(
     ensures written { (m : ℕ → Option (List ℕ)) → E.told edits.old ≡ Some m → OnOk result (IsBornLink sup.now.block_size block new name.now target.now m (E.told edits.new)) }
     ensures kept { OnErr result (E.told edits.new ≡ E.told edits.old) }
     ensures changed { (k : ℕ) → E.changed edits.new k ≡ true → (E.changed edits.old k ≡ true) ⊎ (k ≡ block) }
+    ensures stays { StaysChanged (E.changed edits.old) (E.changed edits.new) }
+    ensures set { OnOk result (E.changed edits.new block ≡ true) }
     ensures size { E.size edits.new ≡ E.size edits.old }
     ensures frame { E.frame edits.new ≡ E.frame edits.old }
     ensures cause { IsCaused (E.counts edits.old) (E.counts edits.new) result }

@@ -1,18 +1,17 @@
 // An index is found by its name.
-ghost use Rattle.std.specs.Prelude.{◌≡◌, ℕ, List, Option, Some, true, IfErr, MatchResult};
+ghost use Rattle.std.specs.Prelude.{◌≡◌, ℕ, ℤ, List, Option, Some, true, IfErr, MatchResult};
 ghost use Rattle.bfs_base.specs.declared.kind.KeyKind.TheVariants.{Text};
 ghost use Rattle.bfs_super.specs.Conditions.{IsValid};
 ghost use Rattle.bfs_super.specs.Geometry.{geometry_of};
 ghost use Rattle.bfs_txn.specs.Faults.{AreLater};
+ghost use Rattle.bfs_pages.specs.Maps.{assoc};
 ghost use Rattle.bfs_tree.specs.Trees.{Tree};
-ghost use Rattle.bfs_values.specs.Rows.{rows_in};
-ghost use Rattle.bfs_maps.specs.NumberTrees.{AreNumbers, IsNumberAt};
+ghost use Rattle.bfs_maps.specs.NumberTrees.{IsNumber, IsNumberAt};
 ghost use Rattle.bfs_maps.specs.Refused.{IsUndone, HasReadCause};
-ghost use Rattle.bfs_sound.specs.Inodes.{content, is_proper};
+ghost use Rattle.bfs_sound.specs.Inodes.{is_proper};
 ghost use Rattle.bfs_shift.specs.Lists.{Lists};
-ghost use Rattle.bfs_shift.specs.Shifts.{volume_in};
-ghost use Rattle.bfs_moves.specs.Work.{IsAtWork};
-ghost use Rattle.bfs_moves.specs.Written.{HasWork};
+ghost use Rattle.bfs_shift.specs.Work.{IsAtWork};
+ghost use Rattle.bfs_shift.specs.Work.{HasWork};
 
 use bfs_bitmap::Bitmap;
 use bfs_dir::Dir;
@@ -34,7 +33,7 @@ pub fn find_index<E: Edits>(
     requires size { E.size edits.old ≡ sup.now.block_size }
     requires work { (m : ℕ → Option (List ℕ)) → E.told edits.old ≡ Some m → HasWork (geometry_of sup.now) bitmap.old m }
     requires name { is_proper name.now ≡ true }
-    ensures found { (m : ℕ → Option (List ℕ)) (tree : Tree) (lists : Lists) (loose : List ℕ) → E.told edits.old ≡ Some m → IsAtWork (geometry_of sup.now) bitmap.old m tree lists loose → AreNumbers (rows_in Text (content (volume_in (geometry_of sup.now) m) (geometry_of sup.now).indices)) → MatchResult result (IsNumberAt Text lists.names name.now) IsUndone }
+    ensures found { (m : ℕ → Option (List ℕ)) (tree : Tree) (lists : Lists) (loose : List ℕ) → E.told edits.old ≡ Some m → IsAtWork (geometry_of sup.now) bitmap.old m tree lists loose → ((value : ℤ) → assoc Text lists.names name.now ≡ Some value → IsNumber value) → MatchResult result (IsNumberAt Text lists.names name.now) IsUndone }
     ensures bitmap { bitmap.new ≡ bitmap.old }
     ensures told { E.told edits.new ≡ E.told edits.old }
     ensures changed { E.changed edits.new ≡ E.changed edits.old }

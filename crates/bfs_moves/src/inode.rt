@@ -4,9 +4,10 @@ ghost use Rattle.bfs_inode.specs.Inode.{inode_at, stream_at};
 ghost use Rattle.bfs_super.specs.Conditions.{IsValid};
 ghost use Rattle.bfs_node.specs.declared.fault.TreeFault.TheVariants as tree;
 ghost use Rattle.bfs_txn.specs.Faults.{AreLater, IsCaused};
+ghost use Rattle.bfs_txn.specs.Told.{StaysChanged};
 ghost use Rattle.bfs_stream.specs.Told.{contents};
 ghost use Rattle.bfs_stream.specs.declared.fault.GrowFault.TheVariants as grow;
-ghost use Rattle.bfs_maps.specs.Refused.{IsUndone, HasPutCause};
+ghost use Rattle.bfs_maps.specs.Refused.{IsUndone, HasPutCause, HasReadCause};
 ghost use Rattle.bfs_index.specs.Refused.{HasPairCause};
 ghost use Rattle.bfs_shift.specs.Stocked.{HasWords};
 ghost use Rattle.bfs_moves.specs.Written.{IsRestamped, HasBlockWords};
@@ -21,7 +22,7 @@ use bfs_txn::{BlockFault, Blocks, Edits};
 use std::alloc::Global;
 
 /// Room for a block.
-#[tactic(auto, using(crate::proofs::Bits::least_bytes))]
+#[tactic(auto, using(bfs_shift::proofs::Basics::least_bytes))]
 pub(crate) fn buffer(alloc: Global, sup: &Super) -> Result<Vec<u8>, BlockFault>
     requires valid { IsValid sup.now }
     ensures length { IfOk result (λ v. length v.items ≡ sup.now.block_size) }
@@ -100,6 +101,7 @@ pub(crate) fn write_stamp<E: Edits>(
     ensures written { (m : ℕ → Option (List ℕ)) → E.told edits.old ≡ Some m → IsSome (m inode) → OnOk result (IsRestamped inode stamp m (E.told edits.new)) }
     ensures kept { OnErr result (E.told edits.new ≡ E.told edits.old) }
     ensures changed { (k : ℕ) → E.changed edits.new k ≡ true → (E.changed edits.old k ≡ true) ⊎ (k ≡ inode) }
+    ensures stays { StaysChanged (E.changed edits.old) (E.changed edits.new) }
     ensures size { E.size edits.new ≡ E.size edits.old }
     ensures frame { E.frame edits.new ≡ E.frame edits.old }
     ensures cause { IsCaused (E.counts edits.old) (E.counts edits.new) result }
@@ -140,6 +142,7 @@ pub(crate) fn check_inode<B: Blocks>(
     ensures frame { B.frame under.new ≡ B.frame under.old }
     ensures later { AreLater (B.counts under.old) (B.counts under.new) }
     ensures cause { IfErr result (HasPutCause (B.counts under.old) (B.counts under.new)) }
+    ensures read_cause { IfErr result (HasReadCause (B.counts under.old) (B.counts under.new)) }
     ensures pair_cause { IfErr result (HasPairCause (B.counts under.old) (B.counts under.new)) }
 {
     let mut block = match buffer(alloc, sup) {

@@ -4,6 +4,8 @@
 
 mod birth;
 mod find;
+mod first_tree;
+mod grown;
 mod inode;
 mod laws;
 mod listing;
@@ -14,6 +16,7 @@ mod stamp;
 mod take;
 
 pub use find::find_index;
+pub use grown::{make_directory, make_long_link};
 pub use laws::{
     call_is_kept, goes_on_same, goes_on_twice, node_is_listed, used_is_reach, work_begins,
     work_ends,

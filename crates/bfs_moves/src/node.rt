@@ -6,12 +6,13 @@ ghost use Rattle.bfs_super.specs.Geometry.{geometry_of};
 ghost use Rattle.bfs_bitmap.specs.Runs.{Room};
 ghost use Rattle.bfs_inode.specs.Refusals.{Names};
 ghost use Rattle.bfs_txn.specs.Faults.{IsCaused};
+ghost use Rattle.bfs_txn.specs.Told.{StaysChanged};
 ghost use Rattle.bfs_tree.specs.declared.call.Kind.TheVariants as kinds;
 ghost use Rattle.bfs_tree.specs.Names.{has_byte};
 ghost use Rattle.bfs_tree.specs.Trees.{Tree, new_node};
 ghost use Rattle.bfs_sound.specs.Inodes.{kind_bits};
 ghost use Rattle.bfs_shift.specs.Lists.{Lists};
-ghost use Rattle.bfs_moves.specs.Work.{IsAtWork, IsStepped};
+ghost use Rattle.bfs_shift.specs.Work.{IsAtWork, IsStepped};
 
 use crate::birth::{address_in, write_empty, write_link};
 use bfs_fresh::NewNode;
@@ -34,7 +35,7 @@ fn mode_of(kind: Kind, mode: u32) -> i32
 }
 
 /// What the inode of a node at a block is made with, of the directory at another, with these flags.
-fn new_inode(
+pub(crate) fn new_inode(
     sup: &Super,
     block: u64,
     parent: u64,
@@ -83,6 +84,7 @@ pub fn make_file<E: Edits>(
     ensures made { (v : Room) (m : ℕ → Option (List ℕ)) (tree : Tree) (lists : Lists) (rest : List ℕ) → E.told edits.old ≡ Some m → IsAtWork (geometry_of sup.now) v m tree lists (block ∷ rest) → get tree.nodes block ≡ None → block ≢ (geometry_of sup.now).root → OnOk result (IsStepped (geometry_of sup.now) v v m tree (record tree { nodes = insert tree.nodes block (new_node kinds.File name.now parent mode 0 [] stamp) }) lists rest (E.told edits.new) (E.changed edits.old) (E.changed edits.new)) }
     ensures kept { OnErr result (E.told edits.new ≡ E.told edits.old) }
     ensures changed { (k : ℕ) → E.changed edits.new k ≡ true → (E.changed edits.old k ≡ true) ⊎ (k ≡ block) }
+    ensures stays { StaysChanged (E.changed edits.old) (E.changed edits.new) }
     ensures size { E.size edits.new ≡ E.size edits.old }
     ensures frame { E.frame edits.new ≡ E.frame edits.old }
     ensures cause { IsCaused (E.counts edits.old) (E.counts edits.new) result }
@@ -118,6 +120,7 @@ pub fn make_link<E: Edits>(
     ensures made { (v : Room) (m : ℕ → Option (List ℕ)) (tree : Tree) (lists : Lists) (rest : List ℕ) → E.told edits.old ≡ Some m → IsAtWork (geometry_of sup.now) v m tree lists (block ∷ rest) → get tree.nodes block ≡ None → block ≢ (geometry_of sup.now).root → OnOk result (IsStepped (geometry_of sup.now) v v m tree (record tree { nodes = insert tree.nodes block (new_node kinds.Link name.now parent mode (length target.now) target.now stamp) }) lists rest (E.told edits.new) (E.changed edits.old) (E.changed edits.new)) }
     ensures kept { OnErr result (E.told edits.new ≡ E.told edits.old) }
     ensures changed { (k : ℕ) → E.changed edits.new k ≡ true → (E.changed edits.old k ≡ true) ⊎ (k ≡ block) }
+    ensures stays { StaysChanged (E.changed edits.old) (E.changed edits.new) }
     ensures size { E.size edits.new ≡ E.size edits.old }
     ensures frame { E.frame edits.new ≡ E.frame edits.old }
     ensures cause { IsCaused (E.counts edits.old) (E.counts edits.new) result }

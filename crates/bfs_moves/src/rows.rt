@@ -6,6 +6,7 @@ ghost use Rattle.bfs_super.specs.Conditions.{IsValid, natural};
 ghost use Rattle.bfs_super.specs.Geometry.{geometry_of};
 ghost use Rattle.bfs_bitmap.specs.Fills.{IsBitmapBlock};
 ghost use Rattle.bfs_txn.specs.Faults.{AreLater};
+ghost use Rattle.bfs_txn.specs.Told.{StaysChanged};
 ghost use Rattle.bfs_pages.specs.Maps.{assoc, put};
 ghost use Rattle.bfs_stream.specs.Grown.{IsOfVolume};
 ghost use Rattle.bfs_stream.specs.Sizes.{sizes_of};
@@ -16,8 +17,9 @@ ghost use Rattle.bfs_maps.specs.NumberTrees.{AreNumbers};
 ghost use Rattle.bfs_maps.specs.Refused.{IsPutFault, HasPutCause};
 ghost use Rattle.bfs_dir.specs.Directories.{IsDirectory, names_of};
 ghost use Rattle.bfs_shift.specs.Lists.{Lists, with_rows};
-ghost use Rattle.bfs_moves.specs.Work.{IsAtWork, IsStepped};
-ghost use Rattle.bfs_moves.specs.Written.{HasDirectoryAt, HasRowsSince};
+ghost use Rattle.bfs_shift.specs.Work.{IsAtWork, IsStepped};
+ghost use Rattle.bfs_shift.specs.Work.{HasDirectoryAt};
+ghost use Rattle.bfs_moves.specs.Written.{HasRowsSince};
 
 use crate::inode::check_inode;
 use bfs_bitmap::Bitmap;
@@ -49,6 +51,7 @@ fn put_row<E: Edits>(
     ensures refused { (m : ℕ → Option (List ℕ)) → E.told edits.old ≡ Some m → IsDirectory (record { id = dir; sizes = sizes_of sup.now }) bitmap.old m → IfErr result (IsPutFault Text (record { id = dir; sizes = sizes_of sup.now }) bitmap.old m (names_of (record { id = dir; sizes = sizes_of sup.now }) m) name.now) }
     ensures rest { bitmap.new ≡ record bitmap.old { tally = bitmap.new.tally } }
     ensures changed { (k : ℕ) → E.changed edits.new k ≡ true → (E.changed edits.old k ≡ true) ⊎ (IsBitmapBlock bitmap.old k ⊎ (k < natural sup.now.num_blocks)) }
+    ensures stays { StaysChanged (E.changed edits.old) (E.changed edits.new) }
     ensures size { E.size edits.new ≡ E.size edits.old }
     ensures frame { E.frame edits.new ≡ E.frame edits.old }
     ensures later { AreLater (E.counts edits.old) (E.counts edits.new) }
@@ -87,6 +90,7 @@ pub fn put_name<E: Edits>(
     ensures refused { (m : ℕ → Option (List ℕ)) (tree : Tree) (lists : Lists) (loose : List ℕ) (n : Node) → E.told edits.old ≡ Some m → IsAtWork (geometry_of sup.now) bitmap.old m tree lists loose → IsNode tree dir n → n.kind ≡ kinds.Dir → AreNumbers (lists.rows dir) → IfErr result (IsPutFault Text (record { id = dir; sizes = sizes_of sup.now }) bitmap.old m (lists.rows dir) name.now) }
     ensures rest { bitmap.new ≡ record bitmap.old { tally = bitmap.new.tally } }
     ensures changed { (k : ℕ) → E.changed edits.new k ≡ true → (E.changed edits.old k ≡ true) ⊎ (IsBitmapBlock bitmap.old k ⊎ (k < natural sup.now.num_blocks)) }
+    ensures stays { StaysChanged (E.changed edits.old) (E.changed edits.new) }
     ensures size { E.size edits.new ≡ E.size edits.old }
     ensures frame { E.frame edits.new ≡ E.frame edits.old }
     ensures later { AreLater (E.counts edits.old) (E.counts edits.new) }

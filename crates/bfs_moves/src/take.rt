@@ -6,11 +6,12 @@ ghost use Rattle.bfs_super.specs.Geometry.{geometry_of};
 ghost use Rattle.bfs_bitmap.specs.Runs.{IsNoRun, IsRunCause};
 ghost use Rattle.bfs_bitmap.specs.Fills.{IsBitmapBlock};
 ghost use Rattle.bfs_txn.specs.Faults.{AreLater};
+ghost use Rattle.bfs_txn.specs.Told.{StaysChanged};
 ghost use Rattle.bfs_stream.specs.Grown.{IsOfVolume};
 ghost use Rattle.bfs_stream.specs.Sizes.{sizes_of};
 ghost use Rattle.bfs_tree.specs.Trees.{Tree};
 ghost use Rattle.bfs_shift.specs.Lists.{Lists};
-ghost use Rattle.bfs_moves.specs.Work.{IsAtWork, IsStepped};
+ghost use Rattle.bfs_shift.specs.Work.{IsAtWork, IsStepped};
 
 use bfs_bitmap::{Bitmap, RunFault};
 use bfs_super::Super;
@@ -32,6 +33,7 @@ pub fn take_block<E: Edits>(
     ensures rest { bitmap.new ≡ record bitmap.old { tally = bitmap.new.tally } }
     ensures err { OnErr result (bitmap.new ≡ bitmap.old) }
     ensures changed { (k : ℕ) → E.changed edits.new k ≡ true → (E.changed edits.old k ≡ true) ⊎ IsBitmapBlock bitmap.old k }
+    ensures stays { StaysChanged (E.changed edits.old) (E.changed edits.new) }
     ensures size { E.size edits.new ≡ E.size edits.old }
     ensures frame { E.frame edits.new ≡ E.frame edits.old }
     ensures later { AreLater (E.counts edits.old) (E.counts edits.new) }

@@ -38,3 +38,6 @@ pub mod Called
 pub mod Parts
 pub mod Ends
 pub mod Attributes
+pub mod Files
+pub mod Basics
+pub mod AtWork

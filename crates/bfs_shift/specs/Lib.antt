@@ -6,3 +6,4 @@ pub mod Laws
 pub mod StreamLaws
 pub mod Seats
 pub mod TreeLaws
+pub mod Work

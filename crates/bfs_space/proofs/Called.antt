@@ -34,10 +34,11 @@ use Rattle.bfs_shift.specs.Shifts.{volume_in}
 use Rattle.bfs_shift.proofs.Closed.{sound_stocked, sound_agrees}
 use Rattle.bfs_shift.proofs.Counted.{count_is_reach}
 use Rattle.bfs_shift.proofs.Frees.{other_count}
-use Rattle.bfs_moves.specs.Work.{IsAtWork}
+use Rattle.bfs_shift.specs.Work.{IsAtWork}
 use Rattle.bfs_moves.proofs.Ends.{work_ends}
 use Rattle.bfs_core.specs.Spaces.{SpaceView, Entered, HasSet, IsFaceMetadata, IsFresh, IsHeld, IsSoundOver, StaysMarked, face}
-use Rattle.bfs_space.specs.Called.{IsApart, StaysAs, IsCalled, IsFaceTold, is_changed, with_entry}
+use Rattle.bfs_moves.specs.Laws.{IsApart}
+use Rattle.bfs_space.specs.Called.{StaysAs, IsCalled, IsFaceTold, is_changed, with_entry}
 
 -- ---- runs that were given back
 

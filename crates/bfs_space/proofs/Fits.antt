@@ -23,7 +23,8 @@ use Rattle.bfs_space.specs.declared.keep.Unkept.{Unkept}
 use Rattle.bfs_space.specs.declared.keep.Unkept.TheVariants.{Damaged, TooMany}
 use Rattle.bfs_space.specs.declared.calling.CallFault.TheVariants as calling
 use Rattle.bfs_space.specs.Books.{MayBeSealed}
-use Rattle.bfs_space.specs.Called.{IsApart, IsCalled, is_changed}
+use Rattle.bfs_moves.specs.Laws.{IsApart}
+use Rattle.bfs_space.specs.Called.{IsCalled, is_changed}
 use Rattle.bfs_space.specs.Answered.{IsAnswered, IsKept, IsStray, IsUnfit, IsCallFault, AreFit, room_kept}
 use Rattle.bfs_space.proofs.Called.{same_place, some_is, is_there, some_or}
 

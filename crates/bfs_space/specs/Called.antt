@@ -12,22 +12,19 @@ use Rattle.bfs_stream.specs.Grown.{IsOfVolume}
 use Rattle.bfs_tree.specs.declared.reply.Entry.{Entry}
 use Rattle.bfs_tree.specs.Histories.{Mounted, Follows, after}
 use Rattle.bfs_tree.specs.Trees.{Tree}
-use Rattle.bfs_sound.specs.Volumes.{IsMarked, log_blocks}
+use Rattle.bfs_sound.specs.Volumes.{IsMarked}
 use Rattle.bfs_sound.specs.Owners.{fixed_blocks, IsMetadata}
 use Rattle.bfs_shift.specs.Lists.{Lists, Agrees}
 use Rattle.bfs_shift.specs.Laws.{lists_of}
 use Rattle.bfs_shift.specs.Shifts.{volume_in}
-use Rattle.bfs_moves.specs.Work.{IsAtWork}
+use Rattle.bfs_shift.specs.Work.{IsAtWork}
+use Rattle.bfs_moves.specs.Laws.{IsApart}
 use Rattle.bfs_core.specs.Spaces.{SpaceView, Entered, HasSet, IsFaceMetadata, IsFresh, IsSoundOver, face}
 
 -- a block that was marked is, and is metadata just where it was
 pub record StaysAs (g : Geometry) (m map : ℕ → Option (List ℕ)) (tree after : Tree) (k : ℕ) : Type 0 where
   pub marked : IsMarked (volume_in g map) k
   pub metadata : IsMetadata (volume_in g m) tree k ↔ IsMetadata (volume_in g map) after k
-
--- a block of the volume that is neither block 0 nor one of the log
-abbrev pub IsApart : Geometry → ℕ → Type 0
-IsApart g k = (k < g.blocks) × (times k (0 ∷ log_blocks g) ≡ 0)
 
 -- What a call has made of a volume that is sound with a tree. It stands for another tree with the same root, whose lists agree with
 -- it, and no block is loose; the bitmap has perhaps more runs that were given back; no reserved block is

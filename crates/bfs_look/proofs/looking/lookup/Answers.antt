@@ -4,7 +4,7 @@ use Rattle.bfs_super.specs.Conditions.{natural}
 use Rattle.bfs_tree.specs.declared.call.Kind.{Kind}
 use Rattle.bfs_super.specs.Geometry.{geometry_of}
 use Rattle.bfs_tree.specs.Trees.{is_dir}
-use Rattle.bfs_moves.specs.Written.{HasDirectoryAt}
+use Rattle.bfs_shift.specs.Work.{HasDirectoryAt}
 use Rattle.bfs_look.specs.Ready.{IsKindOf, IsReady}
 use Rattle.bfs_look.proofs.Known.{dir_is, has_directory}
 use Rattle.bfs_look.proofs.Looked.{lookup_nothing, lookup_no_dir}

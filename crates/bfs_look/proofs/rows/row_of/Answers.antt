@@ -3,6 +3,7 @@ use Rattle.bfs_base.specs.declared.kind.KeyKind.TheVariants.{Text}
 use Rattle.bfs_node.specs.Page.{Row}
 use Rattle.bfs_stream.specs.Sizes.{Origin}
 use Rattle.bfs_stream_pages.specs.Held.{stream_of}
+use Rattle.bfs_maps.proofs.Looked.{holds_number}
 use Rattle.bfs_maps.specs.Mapped.{HasReadable}
 use Rattle.bfs_maps.specs.NumberTrees.{IsNumberAt, IsNumberTree}
 use Rattle.bfs_dir.specs.Directories.{names_of}
@@ -18,8 +19,8 @@ returns-in-Ok-clause-found g c m tree lists n told ready is dir =
     let at = c.at-directory.ensures in
     let whole = subst (λ (x : Origin). IsNumberTree Text (stream_of x m)) (sym at) (directory_tree s c.args.bitmap.now m tree lists ready c.args.dir n is dir c.requires.valid) in
     subst (λ (rows : List Row). IsNumberAt Text rows c.args.name.now c.in-Ok.found) (ready.work.stocked.rows c.args.dir n is dir)
-    (subst (λ (x : Origin). IsNumberAt Text (names_of x m) c.args.name.now c.in-Ok.found) at (c.in-Ok.ensures.found m told whole))
+    (subst (λ (x : Origin). IsNumberAt Text (names_of x m) c.args.name.now c.in-Ok.found) at (c.in-Ok.ensures.found m told (holds_number Text c.args.name.now _ whole)))
 
 pub returns-in-Err-clause-found : goal.returns-in-Err-clause-found
 returns-in-Err-clause-found g c m tree lists n told ready is dir =
-    c.in-Err.ensures.found m told (subst (λ (x : Origin). IsNumberTree Text (stream_of x m)) (sym c.at-directory.ensures) (directory_tree c.args.site.sup c.args.bitmap.now m tree lists ready c.args.dir n is dir c.requires.valid))
+    c.in-Err.ensures.found m told (holds_number Text c.args.name.now _ (subst (λ (x : Origin). IsNumberTree Text (stream_of x m)) (sym c.at-directory.ensures) (directory_tree c.args.site.sup c.args.bitmap.now m tree lists ready c.args.dir n is dir c.requires.valid)))

@@ -33,6 +33,7 @@ loop-at-preserved g c = record {
   frame = c.in-Ok-true.ensures.frame ∙ c.loop-at.invariant.frame;
   later = search rules;
   changed = λ k e. by_side k (c.in-Ok-true.ensures.changed k e);
+  stays = λ k h. c.in-Ok-true.ensures.stays k (c.loop-at.invariant.stays k h);
   filled = λ m is stands once.
       let o = stream_in c.args.site c.args.id in
       let size = c.args.site.sup.block_size in

@@ -1,8 +1,7 @@
-use Rattle.std.proofs.Common.{◌≡◌, ◌≤◌, ◌<◌, ◌+◌, ◌*◌, ◌/◌, ◌%◌, ◌∙◌, ◌≤ℤ◌, ℕ, ℤ, pos, sym, ap, ap₂, subst, arith}
+use Rattle.std.proofs.Common.{◌≡◌, ◌≤◌, ◌<◌, ◌/◌, ◌%◌, ◌∙◌, ◌≤ℤ◌, ℕ, ℤ, pos, sym, ap, subst, arith}
 use Rattle.std.proofs.lemmas.Int.{ints}
 use Rattle.std.proofs.Math.Nat.{mod-lt}
-use Rattle.bfs_super.specs.Conditions.{natural}
-use Rattle.bfs_stream.specs.Sizes.{sizes_of, first_block}
+use Rattle.bfs_stream.specs.Sizes.{sizes_of}
 use Rattle.bfs_stream.proofs.Sized.{valid_sizes}
 use Rattle.bfs_make.proofs.Places.{placed}
 use Rattle.bfs_make.proofs.giving.run_of.Goals as goal

@@ -4,9 +4,9 @@ use Rattle.bfs_super.specs.Conditions.{block_of_run}
 use Rattle.bfs_stream.specs.Sizes.{Origin, sizes_of}
 use Rattle.bfs_stream_pages.specs.Held.{stream_of}
 use Rattle.bfs_maps.specs.Mapped.{HasReadable}
-use Rattle.bfs_maps.specs.NumberTrees.{IsNumberAt, IsNumberTree}
+use Rattle.bfs_maps.specs.NumberTrees.{HoldsNumber, IsNumberAt}
 use Rattle.bfs_dir.specs.Directories.{names_of}
-use Rattle.bfs_moves.proofs.Found.{names_readable, names_tree, number_found}
+use Rattle.bfs_moves.proofs.Found.{names_readable, names_hold, number_found}
 use Rattle.bfs_moves.proofs.find.find_index.Goals as goal
 
 pub get-requires-clause-stream : goal.get-requires-clause-stream
@@ -25,7 +25,7 @@ returns-in-Ok-clause-found g c m tree lists loose told work numbers =
     let there : block_of_run s s.indices ≢ 0 = λ e. c.if-inode-eq0.false (c.block_of-inode.ensures ∙ e) in
     let o : Origin = record { id = block_of_run s s.indices; sizes = sizes_of s } in
     let at : c.at-directory.result ≡ o = c.at-directory.ensures ∙ ap (λ (i : ℕ). record { id = i; sizes = sizes_of s }) c.block_of-inode.ensures in
-    let whole = subst (λ (x : Origin). IsNumberTree Text (stream_of x m)) (sym at) (names_tree s v m tree lists loose c.requires.valid work there numbers) in
+    let whole = subst (λ (x : Origin). HoldsNumber Text c.args.name.now (stream_of x m)) (sym at) (names_hold s v m tree lists loose c.requires.valid work there c.args.name.now c.requires.name numbers) in
     number_found s v m tree lists loose c.requires.valid work there c.args.name.now c.requires.name c.in-Ok.found
     (subst (λ (x : Origin). IsNumberAt Text (names_of x m) c.args.name.now c.in-Ok.found) at (c.in-Ok.ensures.found m told whole))
 
@@ -36,4 +36,4 @@ returns-in-Err-clause-found g c m tree lists loose told work numbers =
     let there : block_of_run s s.indices ≢ 0 = λ e. c.if-inode-eq0.false (c.block_of-inode.ensures ∙ e) in
     let o : Origin = record { id = block_of_run s s.indices; sizes = sizes_of s } in
     let at : c.at-directory.result ≡ o = c.at-directory.ensures ∙ ap (λ (i : ℕ). record { id = i; sizes = sizes_of s }) c.block_of-inode.ensures in
-    c.in-Err.ensures.found m told (subst (λ (x : Origin). IsNumberTree Text (stream_of x m)) (sym at) (names_tree s v m tree lists loose c.requires.valid work there numbers))
+    c.in-Err.ensures.found m told (subst (λ (x : Origin). HoldsNumber Text c.args.name.now (stream_of x m)) (sym at) (names_hold s v m tree lists loose c.requires.valid work there c.args.name.now c.requires.name numbers))

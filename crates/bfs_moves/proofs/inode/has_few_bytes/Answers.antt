@@ -1,4 +1,4 @@
-use Rattle.bfs_moves.proofs.Bits.{least_bytes, most_bytes}
+use Rattle.bfs_shift.proofs.Basics.{least_bytes, most_bytes}
 use Rattle.bfs_moves.proofs.inode.has_few_bytes.Goals as goal
 
 pub returns : goal.returns

@@ -15,7 +15,7 @@ list_pair-requires-clause-index g c m told =
     subst (λ (o : Option ℕ). IfSome o (λ inode. HasIndexAt (geometry_of c.args.sup.now) c.args.bitmap.now m inode c.args.kind)) c.in-Some.is (c.requires.index m told)
 
 pub returns-in-None-clause-listed : goal.returns-in-None-clause-listed
-returns-in-None-clause-listed g c m tree lists loose name pairs told work at kinds sorted has =
+returns-in-None-clause-listed g c m tree lists loose name pairs told work at more =
     let none : assoc Text lists.names name ≡ None = subst (λ (o : Option ℕ). IsNumberAt Text lists.names name o) c.in-None.is at in
     let room = geometry_of c.args.sup.now in
     record {
@@ -26,9 +26,10 @@ returns-in-None-clause-listed g c m tree lists loose name pairs told work at kin
     }
 
 pub returns-in-Ok-clause-listed : goal.returns-in-Ok-clause-listed
-returns-in-Ok-clause-listed g c m tree lists loose name pairs told work at kinds sorted has =
+returns-in-Ok-clause-listed g c m tree lists loose name pairs told work at more =
     let row : assoc Text lists.names name ≡ Some (pos c.in-Some.inode) = subst (λ (o : Option ℕ). IsNumberAt Text lists.names name o) c.in-Some.is at in
-    c.in-Ok.ensures.listed m tree lists loose name pairs told work row (kinds (pos c.in-Some.inode) row) sorted has
+    let each = more (pos c.in-Some.inode) row in
+    c.in-Ok.ensures.listed m tree lists loose name pairs told work row each.0 each.1 each.2
 
 pub returns-in-Err-clause-refused : goal.returns-in-Err-clause-refused
 returns-in-Err-clause-refused g c m tree lists loose name told work at kinds =

@@ -7,7 +7,7 @@ use Rattle.bfs_stream_pages.specs.Held.{stream_of}
 use Rattle.bfs_tree.specs.Listings.{pair_cmp}
 use Rattle.bfs_index.specs.Indices.{IsIndex, HasWith}
 use Rattle.bfs_shift.specs.Lists.{with_pairs}
-use Rattle.bfs_moves.specs.Work.{IsStepped}
+use Rattle.bfs_shift.specs.Work.{IsStepped}
 use Rattle.bfs_moves.specs.Written.{HasStreamSince}
 use Rattle.bfs_moves.proofs.Listed.{undone_pair, index_held, index_is, listed_step}
 use Rattle.bfs_moves.proofs.Named.{still_there}

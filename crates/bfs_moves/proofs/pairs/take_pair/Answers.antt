@@ -10,10 +10,7 @@ use Rattle.bfs_moves.proofs.Listed.{undone_pair}
 use Rattle.bfs_moves.proofs.pairs.take_pair.Goals as goal
 
 pub returns-in-Err-clause-refused : goal.returns-in-Err-clause-refused
-returns-in-Err-clause-refused g c m told d =
-    let o : Origin = record { id = c.args.inode; sizes = sizes_of c.args.sup.now } in
-    let v = c.args.bitmap.now in
-    undone_pair o v v m m (moved_none o v m d.held.1.owns) c.in-Err.fault c.in-Err.ensures.undone
+returns-in-Err-clause-refused g c m told d = c.in-Err.ensures.undone
 
 pub remove-requires-clause-stream : goal.remove-requires-clause-stream
 remove-requires-clause-stream g c m told = subst (λ (x : Place). HasHeld x.origin c.args.bitmap.now m) (sym c.at-index.ensures) (c.requires.stream m (sym c.check_inode.ensures.told ∙ told))
@@ -35,6 +32,4 @@ returns-in-Ok-remove-clause-taken g c m told d =
 
 pub returns-in-Err-remove-clause-refused : goal.returns-in-Err-remove-clause-refused
 returns-in-Err-remove-clause-refused g c m told d =
-    let at = c.at-index.ensures in
-    subst (λ (x : Place). IsPairFault x.origin c.args.bitmap.now m c.in-Err-remove.fault) at
-    (c.in-Err-remove.ensures.refused m (c.check_inode.ensures.told ∙ told) (subst (λ (x : Place). IsIndex x c.args.bitmap.now m) (sym at) d))
+    c.in-Err-remove.ensures.refused m (c.check_inode.ensures.told ∙ told) (subst (λ (x : Place). IsIndex x c.args.bitmap.now m) (sym c.at-index.ensures) d)

@@ -7,7 +7,7 @@ use Rattle.bfs_stream_pages.specs.Held.{stream_of}
 use Rattle.bfs_tree.specs.Listings.{pair_cmp}
 use Rattle.bfs_index.specs.Indices.{IsIndex, HasWithout}
 use Rattle.bfs_shift.specs.Lists.{with_pairs}
-use Rattle.bfs_moves.specs.Work.{IsStepped}
+use Rattle.bfs_shift.specs.Work.{IsStepped}
 use Rattle.bfs_moves.specs.Written.{HasStreamSince}
 use Rattle.bfs_moves.proofs.Listed.{undone_pair, index_held, index_is, unlisted_step}
 use Rattle.bfs_moves.proofs.Named.{still_there}
@@ -42,7 +42,4 @@ returns-in-Ok-check_inode-clause-unlisted g c m tree lists loose name pairs told
     (subst (λ (after : ℕ → Bool). IsStepped (geometry_of s) v now m tree tree (with_pairs lists name pairs) loose told_now old after) (sym c.check_inode.ensures.changed) step)
 
 pub returns-in-Err-check_inode-clause-refused : goal.returns-in-Err-check_inode-clause-refused
-returns-in-Err-check_inode-clause-refused g c m tree lists loose name told work row kind_is =
-    let o : Origin = record { id = c.args.inode; sizes = sizes_of c.args.sup.now } in
-    let written = c.in-Ok.ensures.taken m told (subst (λ (k : KeyKind). IsIndex (record { origin = o; kind = k }) c.args.bitmap.now m) kind_is (index_is c.args.sup.now c.args.bitmap.now m tree lists loose c.args.inode name c.requires.valid work row)) in
-    undone_pair o c.args.bitmap.now c.take_pair.new.bitmap m written.since.map written.since.moved c.in-Err-check_inode.fault c.in-Err-check_inode.ensures.undone
+returns-in-Err-check_inode-clause-refused g c m tree lists loose name told work row kind_is = c.in-Err-check_inode.ensures.undone

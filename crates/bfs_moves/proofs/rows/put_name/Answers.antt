@@ -7,9 +7,10 @@ use Rattle.bfs_stream.specs.Sizes.{Origin, sizes_of}
 use Rattle.bfs_maps.specs.NumberTrees.{IsTreeOf}
 use Rattle.bfs_maps.specs.Refused.{IsPutFault}
 use Rattle.bfs_shift.specs.Lists.{with_rows}
-use Rattle.bfs_moves.specs.Work.{IsStepped}
+use Rattle.bfs_shift.specs.Work.{IsStepped}
 use Rattle.bfs_moves.specs.Written.{HasRowsSince}
-use Rattle.bfs_moves.proofs.Named.{undone_put, directory_held, directory_map, named_step, still_there}
+use Rattle.bfs_shift.proofs.AtWork.{directory_held, directory_map}
+use Rattle.bfs_moves.proofs.Named.{undone_put, named_step, still_there}
 use Rattle.bfs_moves.proofs.rows.put_name.Goals as goal
 
 pub put_row-requires-clause-stream : goal.put_row-requires-clause-stream

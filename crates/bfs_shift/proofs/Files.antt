@@ -1,10 +1,12 @@
 -- What a change within a call keeps of files, and which blocks are told after it.
 use Rattle.std.proofs.Common.{◌≡◌, ◌≤◌, ◌<◌, ◌+◌, ◌⊎◌, inl, inr, ℕ, zero, suc, List, [], ◌∷◌, ◌++◌, refl, sym, ap, ◌∙◌, subst, arith, Bool, true, false, cond, Option, Some, None}
-use Rattle.std.specs.Prelude.{IsSome, ◌&&◌}
+use Rattle.std.specs.Prelude.{IsSome, ◌&&◌, not, ◌==◌, nat_lt}
 use Rattle.std.specs.List.{flat_map}
 use Rattle.std.specs.FinMap.{entries, get}
 use Rattle.bfs_base.specs.Lists.{times, Has, Agree, AreSame}
 use Rattle.bfs_super.specs.declared.geometry.Geometry.{Geometry}
+use Rattle.bfs_bitmap.specs.Runs.{Room, per_block, is_free, is_reserved}
+use Rattle.bfs_bitmap.specs.Runs as bits
 use Rattle.bfs_stream.specs.Places.{arrays_at}
 use Rattle.bfs_stream.specs.Told.{contents}
 use Rattle.bfs_stream.proofs.Doubles.{times-append}
@@ -22,6 +24,7 @@ use Rattle.bfs_shift.specs.Stocked.{Stocked, Shifts}
 use Rattle.bfs_shift.specs.Shifts.{volume_in}
 use Rattle.bfs_shift.proofs.Moving.{all_parts, part_stays}
 use Rattle.bfs_shift.proofs.Loose.{all_same}
+use Rattle.bfs_shift.specs.Work.{MayBeWritten}
 
 all_agree : (a b : ℕ → List ℕ) (f : ℕ × Node → List ℕ) (es : List (ℕ × Node)) → ((e : ℕ × Node) → In e es → Agree a b (f e)) → Agree a b (flat_map f es)
 all_agree a b f [] all k h = let bad : 0 < 0 = h in absurd (omega (arith, bad))
@@ -65,17 +68,17 @@ module _ (v : Volume) (tree : Tree) (lists : Lists) (loose : List ℕ) (stocked 
       let s : times k (flat_map (node_blocks v) (entries tree.nodes)) ≡ times k metadata + times k (file_data v tree) = times_split k (node_blocks v) (node_metadata v) (data_blocks v) (entries tree.nodes) (node_split v k) in
       omega (arith, p, s)
 
-  pub unfiled : (k : ℕ) → 0 < times k (fixed_blocks v) + (times k (bitmap_blocks v.geometry) + (times k metadata + times k (index_blocks v))) + times k loose → IsMarked v k × (times k (file_data v tree) ≡ 0)
+  pub unfiled : (k : ℕ) → 0 < times k (bitmap_blocks v.geometry) + (times k metadata + times k (index_blocks v)) + times k loose → MayBeWritten v tree k
   unfiled k some = (
     (stocked.marks k).1 (let p = all_split k in let r : 0 < times k (reach v tree ++ loose) = omega (arith, p, some) in r),
-    (let p = all_split k in let o : times k (reach v tree ++ loose) ≤ 1 = stocked.once k in omega (arith, p, o, some)),
+    ((let p = all_split k in let o : times k (reach v tree ++ loose) ≤ 1 = stocked.once k in omega (arith, p, o, some)), (let p = all_split k in let o : times k (reach v tree ++ loose) ≤ 1 = stocked.once k in omega (arith, p, o, some))),
   )
 
   pub metadata_in : (d : ℕ) (n : Node) → IsNode tree d n → (k : ℕ) → times k (node_metadata v (d, n)) ≤ times k metadata
   metadata_in d n is k = times_member k (node_metadata v) (entries tree.nodes) (d, n) (in_entries tree.nodes d n is)
 
   -- the inode of a node is marked, and no file data
-  pub node_unfiled : (d : ℕ) (n : Node) → IsNode tree d n → IsMarked v d × (times d (file_data v tree) ≡ 0)
+  pub node_unfiled : (d : ℕ) (n : Node) → IsNode tree d n → MayBeWritten v tree d
   node_unfiled d n is = unfiled d (let o = has_own v d n in let i = metadata_in d n is d in omega (arith, o, i))
 
   pub not_loose : (d : ℕ) (n : Node) → IsNode tree d n → times d loose ≡ 0
@@ -189,3 +192,41 @@ module _ (g : Geometry) (m map : ℕ → Option (List ℕ)) (tree after : Tree) 
       by_count : (c : ℕ) → times k ys ≡ c → IsSome (map k)
       by_count (suc c) e = ours k (let h : 0 < times k ys = omega (arith, e) in h) (not_left k some)
       by_count zero e = by_stay e (stays k e)
+
+  -- Each metadata block was metadata, or has changed, where what came has.
+  module _ (new : ℕ → Bool) (entered : (k : ℕ) → Has ys k → times k left ≡ 0 → times k xs ≡ 0 → new k ≡ true) (reached : (k : ℕ) → Has xs k → times k left ≡ 0 → 0 < times k (reach was tree)) where
+    pub entered_since : (k : ℕ) → IsMetadata is_now after k → IsMetadata was tree k ⊎ (new k ≡ true)
+    entered_since k is = by_count (times k ys) refl
+      where
+        some : 0 < times k (reach is_now after)
+        some = is.0
+
+        no_data : times k (file_data was tree) ≡ 0
+        no_data = let d : times k (file_data was tree) ≡ times k (file_data is_now after) = same_data k in let z = is.1 in omega (arith, d, z)
+
+        by_old : 0 < times k ys → (c : ℕ) → times k xs ≡ c → IsMetadata was tree k ⊎ (new k ≡ true)
+        by_old h zero e = inr (entered k h (not_left k some) e)
+        by_old h (suc c) e = inl (reached k (let r : 0 < times k xs = omega (arith, e) in r) (not_left k some), no_data)
+
+        by_count : (c : ℕ) → times k ys ≡ c → IsMetadata was tree k ⊎ (new k ≡ true)
+        by_count (suc c) e = by_old (omega (arith, e)) (times k xs) refl
+        by_count zero e = inl (was_there k some e, no_data)
+
+free_unreserved : (a b c : Bool) → (a && (b && not c)) ≡ true → c ≡ true → ⊥
+free_unreserved a b false e r = let bad : false ≡ true = r in cc
+free_unreserved false b true e r = let bad : false ≡ true = e in cc
+free_unreserved true false true e r = let bad : false ≡ true = e in cc
+free_unreserved true true true e r = let bad : false ≡ true = e in cc
+
+-- No reserved block becomes marked, where what came was free.
+pub reserved_stays : (v : Volume) (new : ℕ → List ℕ) (xs ys : List ℕ) (room : Room) (m : ℕ → Option (List ℕ)) → Shifts v new xs ys → ((k : ℕ) → Has xs k → IsMarked v k) → ((k : ℕ) → Has ys k → times k xs ≡ 0 → is_free room m k ≡ true)
+    → (k : ℕ) → is_reserved room.given k ≡ true → ¬ IsMarked v k → ¬ IsMarked (with_blocks v new) k
+reserved_stays v new xs ys room m shifts were free k r none marked = by_cause ((shifts.marks k).0 marked)
+  where
+    by_count : Has ys k → (c : ℕ) → times k xs ≡ c → ⊥
+    by_count h (suc c) e = none (were k (let some : 0 < times k xs = omega (arith, e) in some))
+    by_count h zero e = free_unreserved (nat_lt k room.blocks) (bits.marked (per_block room) m k == 0) (is_reserved room.given k) (free k h e) r
+
+    by_cause : Has ys k ⊎ (IsMarked v k × (times k xs ≡ 0)) → ⊥
+    by_cause (inl h) = by_count h (times k xs) refl
+    by_cause (inr old) = none old.0

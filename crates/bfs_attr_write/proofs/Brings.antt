@@ -16,7 +16,7 @@ use Rattle.bfs_make.specs.Given.{HasGivenBack}
 use Rattle.bfs_attr_write.specs.Exchanged.{Exchanged}
 
 -- where nothing was given back
-rest_given : (v now : Room) → now ≡ record v { tally = now.tally } → now ≡ record v { given = now.given; tally = now.tally }
+pub rest_given : (v now : Room) → now ≡ record v { tally = now.tally } → now ≡ record v { given = now.given; tally = now.tally }
 rest_given v now rest = rest ∙ ap (λ (g : List Given). let r : Room = record v { given = g; tally = now.tally } in r) (sym (ap (λ (x : Room). x.given) rest))
 
 new_marks : (b : Bool) (x y : ℕ) → y ≡ cond b x 1 → y ≡ cond (true && not b) 1 (cond (b && not true) 0 x)

@@ -8,6 +8,7 @@ use Rattle.std.proofs.lemmas.List.Elements.{filter-append}
 use Rattle.bfs_base.specs.Keys.{text_cmp}
 use Rattle.bfs_base.specs.Lists.{times, Has, IsOnce, Agree}
 use Rattle.bfs_base.specs.declared.kind.KeyKind.TheVariants.{Text}
+use Rattle.bfs_bitmap.specs.Fills.{IsBitmapBlock}
 use Rattle.bfs_bitmap.specs.Runs.{Room, is_free}
 use Rattle.bfs_bytes.specs.Fields.{run_in, unsigned_at}
 use Rattle.bfs_inode.specs.Inode.{inode_at}
@@ -436,9 +437,9 @@ module _ (b : Bearer) (v mid now : Room) (m m1 map' : ℕ → Option (List ℕ))
     in_these k has = has_right (attribute_blocks b.geometry m b.id) (attribute_blocks b.geometry map' b.id) k has
 
     wrote : AreWritten v old since_changed these
-    wrote = wrote_twice v old half since_changed these
-        (wrote_more v old half made these (λ k has. in_these k (let c = count_since k in let h : 0 < times k made = has in let s : 0 < times k (attribute_blocks b.geometry map' b.id) = omega (arith, c, h) in s)) stored_written)
-        (wrote_more v half since_changed after these (λ k has. in_these k (let c = count_since k in let h : 0 < times k after = has in let s : 0 < times k (attribute_blocks b.geometry map' b.id) = omega (arith, c, h) in s))
+    wrote = wrote_twice (IsBitmapBlock v) old half since_changed these
+        (wrote_more (IsBitmapBlock v) old half made these (λ k has. in_these k (let c = count_since k in let h : 0 < times k made = has in let s : 0 < times k (attribute_blocks b.geometry map' b.id) = omega (arith, c, h) in s)) stored_written)
+        (wrote_more (IsBitmapBlock v) half since_changed after these (λ k has. in_these k (let c = count_since k in let h : 0 < times k after = has in let s : 0 < times k (attribute_blocks b.geometry map' b.id) = omega (arith, c, h) in s))
         (subst (λ (x : Room). AreWritten x half since_changed after) fresh.rest put_written))
 
     pub attributes_joined : AttributesNow b v now m (insert (attributes_at volume b.id) name attribute) told old since_changed

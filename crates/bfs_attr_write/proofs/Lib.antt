@@ -8,3 +8,6 @@ pub mod Joined
 pub mod Unknown
 pub mod Steps
 pub mod Parted
+pub mod Picked
+pub mod Leaving
+pub mod Departs

@@ -1,22 +1,29 @@
 -- What the steps of a call that changes attributes have to do with one another.
-use Rattle.std.specs.Prelude.{◌≡◌, ◌⊎◌, ℕ, false, List, Bool, Option, ◌∷◌, ◌++◌}
+use Rattle.std.specs.Prelude.{◌≡◌, ◌⊎◌, ℕ, pos, false, List, Bool, Option, Some, ◌∷◌, ◌++◌}
 use Rattle.std.specs.FinMap.{from_entries, remove}
 use Rattle.bfs_base.specs.Keys.{text_cmp}
+use Rattle.bfs_base.specs.declared.kind.KeyKind.TheVariants.{Text}
 use Rattle.bfs_sound.specs.Attributes.{Named}
 use Rattle.bfs_sound.specs.Nodes.{AreApart}
 use Rattle.bfs_base.specs.Lists.{Has}
 use Rattle.bfs_bitmap.specs.Runs.{Room, is_free}
+use Rattle.bfs_pages.specs.Maps.{assoc, without}
+use Rattle.bfs_super.specs.Conditions.{IsValid}
 use Rattle.bfs_super.specs.Geometry.{geometry_of}
 use Rattle.bfs_super.specs.declared.sup.Super.{Super}
 use Rattle.bfs_stream.specs.Sizes.{sizes_of, first_block}
 use Rattle.bfs_tree.specs.Trees.{Attribute}
-use Rattle.bfs_maps.specs.Mapped.{HasHeld}
+use Rattle.bfs_maps.specs.Mapped.{HasHeld, rows_of}
+use Rattle.bfs_rows.specs.RowTrees.{AreRowsNow}
+use Rattle.bfs_make.specs.Given.{HasGivenBack}
 use Rattle.bfs_make.specs.Made.{HasStored}
 use Rattle.bfs_make.specs.declared.making.NewInode.{NewInode}
-use Rattle.bfs_attr.specs.Bearers.{Bearer, bearer_of, volume_at, origin}
+use Rattle.bfs_attr.specs.Bearers.{Bearer, bearer_of, volume_at, origin, attributes_at}
+use Rattle.bfs_attr.specs.Changed.{AttributesNow}
 use Rattle.bfs_attr.specs.Made.{IsAttributeInode}
 use Rattle.bfs_attr_write.specs.Adding.{CanAdd, IsStored}
 use Rattle.bfs_attr_write.specs.Exchanged.{Exchanged}
+use Rattle.bfs_attr_write.specs.Removal.{CanTake}
 
 -- An inode that was stored with a stream, and is that of an attribute, is that attribute stored.
 abbrev pub AttributesAreStored : Type 0
@@ -39,3 +46,12 @@ ExchangesFollow = (v mid now : Room) (m between map : ℕ → Option (List ℕ))
 abbrev pub EntriesPart : Type 0
 EntriesPart = (before behind : List Named) (entry : Named) → AreApart (before ++ (entry ∷ behind))
     → AreApart (before ++ behind) × (from_entries {R = text_cmp} (before ++ behind) ≡ remove (from_entries (before ++ (entry ∷ behind))) entry.0)
+
+-- Where the row of a name was taken out of the attribute directory, and the inode that it named was given back, the attributes are
+-- those before without that name.
+abbrev pub RowsLeave : Type 0
+RowsLeave = (s : Super) (inode : ℕ) (v mid now : Room) (m : ℕ → Option (List ℕ)) (d id : ℕ) (name : List ℕ) (taken told : Option (ℕ → Option (List ℕ))) (old half new : ℕ → Bool)
+    → IsValid s → CanTake (bearer_of inode s) v m d name → assoc Text (rows_of Text (origin (geometry_of s) d) m) name ≡ Some (pos id)
+    → (row : AreRowsNow Text (origin (geometry_of s) d) v mid m (without Text (rows_of Text (origin (geometry_of s) d) m) name) taken old half)
+    → now ≡ record mid { given = now.given; tally = now.tally } → HasGivenBack (origin (geometry_of s) id) mid now row.map told half new
+    → AttributesNow (bearer_of inode s) v now m (remove (attributes_at (volume_at (geometry_of s) m) inode) name) told old new

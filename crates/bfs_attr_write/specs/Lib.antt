@@ -1,3 +1,4 @@
 pub mod Exchanged
 pub mod Adding
+pub mod Removal
 pub mod Laws

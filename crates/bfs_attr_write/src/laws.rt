@@ -1,5 +1,5 @@
 // How the steps of a call follow one another: the contracts of functions that do nothing.
-ghost use Rattle.bfs_attr_write.specs.Laws.{AttributesAreStored, DirectoriesStayHeld, EntriesPart, ExchangesFollow};
+ghost use Rattle.bfs_attr_write.specs.Laws.{AttributesAreStored, DirectoriesStayHeld, EntriesPart, ExchangesFollow, RowsLeave};
 
 /// What storing an attribute's inode leaves is what putting its row begins with.
 pub fn attributes_are_stored()
@@ -19,4 +19,9 @@ pub fn exchanges_follow()
 /// An attribute taken from among others leaves the map without its name.
 pub fn entries_part()
     ensures { EntriesPart }
+{}
+
+/// A row that was taken, and the inode that it named given back, leave the attributes without its name.
+pub fn rows_leave()
+    ensures { RowsLeave }
 {}

@@ -1,6 +1,6 @@
 #!/bin/sh
 # Parses a script and writes the reply text of a history with an entry for each of its lines (the time that the history takes is
-# taken off), beside `wc`, a plain loop over the same bytes in C, and one in awk, in one run. Two scripts are made: the short lines
+# taken off), and reads the command of each line too, beside `wc`, a plain loop over the same bytes in C, and one in awk, in one run. Two scripts are made: the short lines
 # of a workload, and those of a mail user. Prints the median processor time of 5 runs each (of awk's loop one), and the most memory
 # that was taken. Our side is a small program over bfs_script, which is proved and built in a copy of the crates below it. What
 # isn't installed is skipped. usage: bench/scripts.sh [LINES]
@@ -9,7 +9,7 @@ root=$(dirname "$(dirname "$(readlink -f "$0")")")
 lines=${1:-1000000}
 work=$(mktemp -d)
 trap 'rm -rf "$work"' EXIT
-below="bfs_bytes bfs_base bfs_tree bfs_script"
+below="bfs_bytes bfs_base bfs_tree bfs_text bfs_command bfs_script"
 program="$work/crates/bench_scripts"
 mkdir -p "$program/src" "$program/specs" "$program/proofs"
 : >"$program/specs/Lib.antt"
@@ -21,8 +21,8 @@ for crate in $below; do
 done
 echo "bench_scripts: $below byteorder memchr itoa" >>"$work/crates.txt"
 cat >"$program/src/main.rt" <<'RATTLE'
-// Reads a script. With the word `parse` it is parsed; with `history`, a history with an entry for each line is made too; with
-// `text`, its text is written.
+// Reads a script. With the word `parse` it is parsed; with `lines`, the command of each line is read too; with `history`, a
+// history with an entry for each line is made of a parsed script; with `text`, its text is written.
 #![tactic(auto)]
 
 use bfs_script::{Script, parse, text};
@@ -43,15 +43,25 @@ fn reply_to(number: u32) -> Reply {
     }
 }
 
-fn history(alloc: Global, script: Script) -> Result<Vec<Entry>, AllocError> {
+// Reads the command of each line, and sums their numbers.
+fn read_lines(alloc: Global, script: &Script) -> Result<u64, AllocError> {
+    let mut sum: u64 = 0;
+    for at in 0..script.len() {
+        let line = script.line(alloc, at)?;
+        sum = sum.wrapping_add(u64::from(line.number));
+    }
+    Ok(sum)
+}
+
+fn history(alloc: Global, lines: u32) -> Result<Vec<Entry>, AllocError> {
     let mut entries = Vec::new(alloc);
-    for line in script.lines() {
+    for number in 0..lines {
         entries.push(Entry {
-            session: line.session,
-            tag: line.number,
+            session: number % 4 + 1,
+            tag: number,
             stamp: 1,
             call: Call::Sync,
-            reply: reply_to(line.number),
+            reply: reply_to(number),
         })?;
     }
     Ok(entries)
@@ -62,8 +72,9 @@ fn steps_in(word: Option<String>) -> u8 {
     match word {
         Some(word) => match word.as_bytes() {
             b"parse" => 1,
-            b"history" => 2,
-            b"text" => 3,
+            b"lines" => 2,
+            b"history" => 3,
+            b"text" => 4,
             _ => 0,
         },
         None => 0,
@@ -92,10 +103,20 @@ fn main(rt: HostRuntime) -> ExitCode {
     if steps == 1 {
         return ExitCode::from(0);
     }
-    let Ok(entries) = history(alloc, script) else {
+    if steps == 2 {
+        return match read_lines(alloc, &script) {
+            Ok(0) => ExitCode::from(1),
+            Ok(_) => ExitCode::from(0),
+            Err(_) => ExitCode::from(7),
+        };
+    }
+    let Ok(lines) = u32::try_from(script.len()) else {
+        return ExitCode::from(8);
+    };
+    let Ok(entries) = history(alloc, lines) else {
         return ExitCode::from(7);
     };
-    if steps == 2 {
+    if steps == 3 {
         return ExitCode::from(0);
     }
     let Ok(words) = text(alloc, &entries) else {
@@ -198,7 +219,8 @@ for name, line in (("workload", workload), ("mail", mail)):
         for n in range(lines):
             script.write(line(n) + "\n")
     size = os.path.getsize(path)
-    tools = {"read": [program, path], "read, parse": [program, path, "parse"], "read, parse, history": [program, path, "history"],
+    tools = {"read": [program, path], "read, parse": [program, path, "parse"], "read, parse, each line": [program, path, "lines"],
+             "read, parse, history": [program, path, "history"],
              "read, parse, history, text": [program, path, "text"]}
     if shutil.which("wc"):
         tools["wc"] = ["wc", path]
@@ -220,10 +242,14 @@ for name, line in (("workload", workload), ("mail", mail)):
     print("|---|---|---|---|---|")
     for tool, spent in middle.items():
         print(f"| {tool} | {spent:.3f} | {size / 2**20 / spent:.0f} | {most[tool] / 1024:.0f} | {most[tool] * 1024 / size:.1f} |")
-    ours = middle["read, parse"] + middle["read, parse, history, text"] - middle["read, parse, history"]
+    text = middle["read, parse, history, text"] - middle["read, parse, history"]
+    ours = {"reading, parsing and writing the text": middle["read, parse"] + text,
+            "that and reading the command of each line": middle["read, parse, each line"] + text}
     held = (most["read, parse"] - most["read"]) * 1024 / size
-    print(f"\nthe parsed script takes {held:.1f} times the bytes of the script, beside them; reading, parsing and writing the text {ours:.3f} s")
-    for other in ("loop in C", "loop in awk"):
-        if "wc" in middle and other in middle:
-            print(f"that is {ours / (middle['wc'] + middle[other]):.2f} times what wc and the {other} take together")
+    print(f"\nthe parsed script takes {held:.1f} times the bytes of the script, beside them")
+    for what, spent in ours.items():
+        print(f"{what} takes {spent:.3f} s")
+        for other in ("loop in C", "loop in awk"):
+            if "wc" in middle and other in middle:
+                print(f"- {spent / (middle['wc'] + middle[other]):.2f} times what wc and the {other} take together")
 PYTHON

@@ -5,7 +5,7 @@ use Rattle.bfs_bytes.specs.declared.Run.{Run}
 use Rattle.bfs_log.specs.declared.entry.EntryFault.{EntryFault}
 use Rattle.bfs_log.specs.declared.entry.EntryFault.TheVariants as entries
 use Rattle.bfs_tree.specs.declared.rows.Key.{Key}
-use Rattle.bfs_script.specs.Texts.{word, named, key_word, and_number, and_stamp}
+use Rattle.bfs_text.specs.Printed.{word, named, key_word, and_number, and_stamp}
 use Rattle.bfs_finding.specs.Which.{fault_number, inode_number, page_number}
 use Rattle.bfs_finding.specs.declared.finding.Finding.{Finding}
 use Rattle.bfs_finding.specs.declared.finding.Finding.TheVariants as finds

@@ -1,11 +1,11 @@
 // The lines of a disk that is too short, and of a malformed entry of the log.
 ghost use Rattle.std.specs.Prelude.{◌≡◌, ◌++◌, OnOk, codes};
-ghost use Rattle.bfs_script.specs.Texts.{and_number, and_stamp};
+ghost use Rattle.bfs_text.specs.Printed.{and_number, and_stamp};
 ghost use Rattle.bfs_finding_text.specs.Texts.{short_words, entry_words, line_of};
 
 use bfs_bytes::Run;
 use bfs_log::EntryFault;
-use bfs_script::put::{put, put_and_number, put_and_signed};
+use bfs_text::put::{put, put_and_number, put_and_signed};
 use std::alloc::AllocError;
 
 fn put_short(out: &mut Vec<u8>, sectors: u64, needed: u64) -> Result<(), AllocError>

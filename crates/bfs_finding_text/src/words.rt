@@ -1,10 +1,10 @@
 // The words of a finding, and its line.
 ghost use Rattle.std.specs.Prelude.{◌≡◌, ◌++◌, ◌∷◌, OnOk, codes};
-ghost use Rattle.bfs_script.specs.Texts.{named, and_number, and_stamp};
+ghost use Rattle.bfs_text.specs.Printed.{named, and_number, and_stamp};
 ghost use Rattle.bfs_finding_text.specs.Texts.{and_key, and_own, row_words, words_of, line_of};
 
 use bfs_finding::{Finding, fault_number, inode_number, page_number};
-use bfs_script::put::{put, put_and_number, put_and_signed, put_key, put_word};
+use bfs_text::put::{put, put_and_number, put_and_signed, put_key, put_word};
 use bfs_tree::{Bytes, Key};
 use std::alloc::AllocError;
 

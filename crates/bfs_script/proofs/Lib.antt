@@ -1,10 +1,6 @@
-pub mod Cuts
-pub mod Spelled
-pub mod Unescaping
-pub mod Parts
-pub mod Octal
 pub mod BadLines
 pub mod Noted
-mod Goes
-mod Histories
+pub mod Placed
+pub mod Far
+pub mod Limits
 mod Formed

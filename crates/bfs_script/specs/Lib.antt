@@ -1,10 +1,5 @@
-pub mod Cutting
-pub mod Words
-pub mod Grammar
-pub mod Said
+pub mod Scripts
+pub mod Places
 pub mod Texts
 pub mod Readers
-pub mod Spelled
-pub mod Left
-pub mod SpelledLaws
-pub mod Forms
+pub mod ScriptLaws

@@ -1,125 +1,108 @@
-// What one line of a script says.
-ghost use Rattle.std.specs.Prelude.{◌≡◌, ◌++◌, ◌≤◌, ◌<◌, ◌+◌, ℕ, true, false, length, take, IfOk, IfErr, OnOk, Some, None, if◌then◌else◌};
-ghost use Rattle.std.specs.Option.{option_map};
-ghost use Rattle.bfs_script.specs.Cutting.{words_of};
-ghost use Rattle.bfs_script.specs.Grammar.{spoken, said, Takes, is_bad, line_in, line_too_far, IsFaultAt};
-ghost use Rattle.bfs_script.specs.Said.{meaning};
+// The lines of a script, one after the other.
+ghost use Rattle.std.specs.Prelude.{◌≡◌, ◌++◌, ◌∷◌, ◌≤◌, ◌<◌, ◌+◌, ◌-◌, ◌==◌, List, [], false, length, drop, IfErr, OnOk, Some, None, if◌then◌else◌};
+ghost use Rattle.std.specs.List.{All};
+ghost use Rattle.bfs_text.specs.Cutting.{lines_of};
+ghost use Rattle.bfs_command.specs.Grammar.{said};
+ghost use Rattle.bfs_command.specs.declared.line.Line.{Line};
+ghost use Rattle.bfs_script.specs.Scripts.{said_on, is_bad, line_too_far, IsFaultAt};
+ghost use Rattle.bfs_script.specs.Places.{between, lines_at, IsPlace, IsLineEnd, IsNumber, passes_limit};
 
-use crate::commands::read_command;
-use crate::digits::read_session;
-use crate::pieces::Pieces;
-use crate::verbs::read_verb;
-use crate::{Command, Line, ScriptFault};
-use std::alloc::{AllocError, Global};
+use crate::ScriptFault;
+use crate::script::Place;
+use bfs_command::{LineKind, line_kind};
+use memchr::memchr;
+use std::alloc::AllocError;
 
-/// A session's command.
-#[derive(Drop)]
-struct Spoken {
-    session: u32,
-    command: Command,
-}
-
-/// What a line says: nothing, a session's command, or something that isn't in the grammar.
-#[derive(Drop)]
-pub enum Said {
-    Nothing,
-    Command { session: u32, command: Command },
-    Bad,
-}
-
-/// Reads the words of a line.
-fn read_spoken(alloc: Global, line: &[u8]) -> Result<Option<Spoken>, AllocError>
-    ensures { IfOk result (λ r. option_map (λ s. (s.session, s.command)) r ≡ spoken (words_of line.now)) }
+/// The place of the first line feed from a place on, or the end of the bytes.
+fn find_feed(bytes: &[u8], start: usize) -> usize
+    requires { start < length bytes.now }
+    ensures { IsLineEnd bytes.now start result }
 {
-    let mut words = Pieces::of(line, b' ');
-    let Some(word) = words.next() else {
-        return Ok(None);
-    };
-    let Some(session) = read_session(word) else {
-        return Ok(None);
-    };
-    let Some(word) = words.next() else {
-        return Ok(None);
-    };
-    let Some(verb) = read_verb(word) else {
-        return Ok(None);
-    };
-    match read_command(alloc, verb, &mut words)? {
-        Some(command) => Ok(Some(Spoken { session, command })),
-        None => Ok(None),
+    match memchr(b'\n', &bytes[start..]) {
+        None => bytes.len(),
+        Some(at) => start + at,
     }
 }
 
-/// Reads a line without its line feed.
-fn read_line(alloc: Global, line: &[u8]) -> Result<Said, AllocError>
-    ensures { IfOk result (λ s. meaning s ≡ said line.now) }
+/// Where the line that begins at a place ends: at its line feed, or at the end of the bytes.
+pub fn end_of_line(bytes: &[u8], start: usize) -> usize
+    requires { start < length bytes.now }
+    ensures end { IsLineEnd bytes.now start result }
+    ensures lines { lines_of (drop start bytes.now) ≡ between start result bytes.now ∷ lines_of (drop (result + 1) bytes.now) }
 {
-    if let [] | [b'#', ..] = line {
-        return Ok(Said::Nothing);
-    }
-    match read_spoken(alloc, line)? {
-        Some(Spoken { session, command }) => Ok(Said::Command { session, command }),
-        None => Ok(Said::Bad),
-    }
+    find_feed(bytes, start)
 }
 
-/// Puts a command behind the lines before it.
-fn push_line(
-    lines: &mut Vec<Line>,
+/// Does the script pass 268,435,456 bytes in this line?
+fn is_too_far(bytes: &[u8], number: u32, start: usize, end: usize) -> bool
+    requires inside { start < length bytes.now }
+    requires end { IsLineEnd bytes.now start end }
+    requires number { IsNumber bytes.now start number }
+    requires before { start ≤ 268435456 }
+    ensures far { result ≡ (number == line_too_far bytes.now) }
+    ensures near { result ≡ false → (end ≤ 268435456) × (end < length bytes.now → end < 268435456) }
+{
+    end >= 268_435_456 && bytes.len() > 268_435_456
+}
+
+/// Is a limit passed at this line?
+fn is_over(bytes: &[u8], number: u32, start: usize, end: usize) -> bool
+    requires inside { start < length bytes.now }
+    requires end { IsLineEnd bytes.now start end }
+    requires number { IsNumber bytes.now start number }
+    requires before { start ≤ 268435456 }
+    ensures over { result ≡ passes_limit (line_too_far bytes.now) number (end - start) }
+    ensures near { result ≡ false → (end ≤ 268435456) × (end < length bytes.now → end < 268435456) }
+{
+    is_too_far(bytes, number, start, end) || number > 1_048_576 || end - start > 4_096
+}
+
+/// Puts a place behind the others.
+fn push_place(
+    places: &mut Vec<Place>,
     number: u32,
-    session: u32,
-    command: Command,
-) -> Result<(), ScriptFault>
-    ensures pushed { OnOk result (lines.new.items ≡ lines.old.items ++ line_in number (Some (session, command))) }
-    ensures fault { IfErr result (λ f. f ≡ ScriptFault.NoMemory) }
+    start: usize,
+    end: usize,
+) -> Result<(), AllocError>
+    requires ordered { start ≤ end }
+    requires near { end ≤ 268435456 }
+    ensures { OnOk result (places.new.items ≡ places.old.items ++ record { number = number; start = start; end = end } ∷ []) }
 {
-    let line = Line {
+    places.push(Place {
         number,
-        session,
-        command,
-    };
-    match lines.push(line) {
-        Ok(()) => Ok(()),
-        Err(_) => Err(ScriptFault::NoMemory),
-    }
+        start: start as u32,
+        end: end as u32,
+    })?;
+    Ok(())
 }
 
-/// Puts what a line says behind the lines before it.
+/// Puts the place of a line behind those of the lines before it, where it has a command.
 pub fn take_line(
-    alloc: Global,
-    far: u64,
     number: u32,
-    line: &[u8],
-    lines: &mut Vec<Line>,
+    bytes: &[u8],
+    start: usize,
+    end: usize,
+    places: &mut Vec<Place>,
 ) -> Result<(), ScriptFault>
-    ensures good { OnOk result (is_bad far number line.now ≡ false) }
-    ensures said { OnOk result (Takes number (said line.now) lines.old.items lines.new.items) }
-    ensures fault { IfErr result (IsFaultAt (if is_bad far number line.now then Some number else None)) }
+    requires inside { start < length bytes.now }
+    requires end { IsLineEnd bytes.now start end }
+    requires number { IsNumber bytes.now start number }
+    requires before { start ≤ 268435456 }
+    ensures good { OnOk result (is_bad (line_too_far bytes.now) number (between start end bytes.now) ≡ false) }
+    ensures said { OnOk result ((more : List Line) → lines_at bytes.now places.old.items ++ said_on number (said (between start end bytes.now)) more ≡ lines_at bytes.now places.new.items ++ more) }
+    ensures near { OnOk result (end < length bytes.now → end < 268435456) }
+    ensures places { OnOk result (All (IsPlace bytes.now) places.old.items → All (IsPlace bytes.now) places.new.items) }
+    ensures fault { IfErr result (IsFaultAt (if is_bad (line_too_far bytes.now) number (between start end bytes.now) then Some number else None)) }
 {
-    let fault = ScriptFault::Line { number };
-    if u64::from(number) == far || number > 1_048_576 || line.len() > 4_096 {
-        return Err(fault);
+    if is_over(bytes, number, start, end) {
+        return Err(ScriptFault::Line { number });
     }
-    match read_line(alloc, line) {
-        Err(_) => Err(ScriptFault::NoMemory),
-        Ok(Said::Nothing) => Ok(()),
-        Ok(Said::Command { session, command }) => push_line(lines, number, session, command),
-        Ok(Said::Bad) => Err(fault),
+    match line_kind(&bytes[start..end]) {
+        LineKind::Blank => Ok(()),
+        LineKind::Bad => Err(ScriptFault::Line { number }),
+        LineKind::Command => match push_place(places, number, start, end) {
+            Ok(()) => Ok(()),
+            Err(_) => Err(ScriptFault::NoMemory),
+        },
     }
-}
-
-/// The line in which the script passes 268,435,456 bytes, or 0.
-pub fn line_too_far(bytes: &[u8]) -> u64
-    ensures { result ≡ line_too_far bytes.now }
-{
-    if bytes.len() <= 268_435_456 {
-        return 0;
-    }
-    let mut line = 1;
-    'feeds: for at in 0..268_435_456 {
-        if bytes[at] == b'\n' {
-            line += 1;
-        }
-    }
-    line
 }

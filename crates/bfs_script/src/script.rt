@@ -1,49 +1,89 @@
-// A script as a list of lines.
-ghost use Rattle.std.specs.Prelude.{◌≡◌};
+// A script as its bytes and the places of its lines.
+ghost use Rattle.std.specs.Prelude.{◌≡◌, ◌<◌, ◌==◌, ◌∷◌, [], Some, IfOk, length};
+ghost use Rattle.std.specs.List.{All, slice_get};
+ghost use Rattle.bfs_script.specs.Places.{line_at, lines_at, IsPlace};
 
-use crate::Command;
+use bfs_command::{Line, Spoken, read_spoken};
+use std::alloc::{AllocError, Global};
 use std::marker::Model;
 
-/// A line with a command: its number in the script, counted from 1, and its session, 1 to 16.
-#[derive(Debug, Drop)]
-pub struct Line {
+/// Where a line with a command stands, and its number.
+#[derive(Clone, Copy, Debug)]
+pub struct Place {
     pub number: u32,
-    pub session: u32,
-    pub command: Command,
+    pub start: u32,
+    pub end: u32,
 }
 
-/// The lines with commands, in their order. Empty lines and comments are left out.
+/// The lines with commands, in their order. Empty lines and comments are left out. It keeps the bytes that it was read from,
+/// and twelve bytes for each line; a line's words are read when it is asked for.
 #[derive(Debug, Drop)]
 pub struct Script {
-    lines: Vec<Line>,
+    bytes: Vec<u8>,
+    places: Vec<Place>,
 }
 
 impl Model for Script {
     ghost use Rattle.std.specs.Prelude.{List};
-    ghost use Rattle.bfs_script.specs.declared.script.Line.{Line};
+    ghost use Rattle.std.specs.List.{All};
+    ghost use Rattle.bfs_command.specs.declared.line.Line.{Line};
+    ghost use Rattle.bfs_script.specs.Places.{lines_at, IsPlace};
 
     ghost Value = { List Line };
 
-    ghost view = { λ s. s.lines.items };
+    ghost view = { λ s. lines_at s.bytes.items s.places.items };
+
+    ghost invariant = { λ s. All (IsPlace s.bytes.items) s.places.items };
+}
+
+/// The script of these bytes, whose lines with commands stand at these places.
+pub fn script_at(bytes: Vec<u8>, places: Vec<Place>) -> Script
+    requires { All (IsPlace bytes.items) places.items }
+    ensures { result ≡ lines_at bytes.items places.items }
+{
+    Script { bytes, places }
+}
+
+/// Reads the line at a place.
+fn read_at(alloc: Global, bytes: &[u8], place: Place) -> Result<Line, AllocError>
+    requires { IsPlace bytes.now place }
+    ensures { IfOk result (λ line. line_at bytes.now place ≡ line ∷ []) }
+{
+    let Place { number, start, end } = place;
+    match read_spoken(alloc, &bytes[start as usize..end as usize])? {
+        Some(Spoken { session, command }) => Ok(Line {
+            number,
+            session,
+            command,
+        }),
+        None => unreachable!(),
+    }
 }
 
 impl Script {
-    pub fn new(lines: Vec<Line>) -> Script
-        ensures { result ≡ lines.items }
+    /// How many lines there are.
+    pub fn len(&self) -> usize
+        ensures { result ≡ length self.now }
     {
-        Script { lines }
+        self.places.len()
     }
 
-    pub fn lines(&self) -> &[Line]
-        ensures { result.now ≡ self.now }
+    /// Are there no lines?
+    pub fn is_empty(&self) -> bool
+        ensures { result ≡ (length self.now == 0) }
     {
-        self.lines.as_slice()
+        self.len() == 0
     }
 
-    pub fn into_vec(self) -> Vec<Line>
-        ensures { result.items ≡ self }
+    /// Reads the line at a place in the list.
+    pub fn line(&self, alloc: Global, at: usize) -> Result<Line, AllocError>
+        requires { at < length self.now }
+        ensures { IfOk result (λ line. slice_get self.now at ≡ Some line) }
     {
-        let Script { lines } = self;
-        lines
+        let place = self.places[at];
+        match read_at(alloc, &self.bytes, place) {
+            Ok(line) => Ok(line),
+            Err(fault) => Err(fault),
+        }
     }
 }

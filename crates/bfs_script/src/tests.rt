@@ -1,5 +1,7 @@
 // Scripts in good and bad words, limits, and a reply of every kind.
-use crate::{Calls, Command, Due, Path, ScriptFault, parse, text};
+use crate::{ScriptFault, parse, text};
+use bfs_command::{Calls, Command, Due};
+use bfs_text::Path;
 use bfs_tree::{
     AttributeRow, Attributes, Bytes, Call, Entry, FoundRow, FoundRows, IndexRow, Indices, Info,
     Key, KeyKind, Kind, Names, Reply,
@@ -140,7 +142,8 @@ fn value_in(alloc: Global, script: &[u8]) -> Result<Vec<u8>, AllocError> {
     let Ok(script) = parse(alloc, script) else {
         return Ok(out);
     };
-    for line in script.lines() {
+    for at in 0..script.len() {
+        let line = script.line(alloc, at)?;
         if let Command::AttrWrite {
             path,
             name,
@@ -496,7 +499,8 @@ fn calls_in(alloc: Global, script: &[u8]) -> Result<Vec<u8>, AllocError> {
     let Ok(script) = parse(alloc, script) else {
         return Ok(out);
     };
-    for line in script.lines() {
+    for at in 0..script.len() {
+        let line = script.line(alloc, at)?;
         let mut calls = Calls::of(5, &line.command);
         for _ in 0..6 {
             let due = calls.due(alloc)?;

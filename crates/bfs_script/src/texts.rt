@@ -3,8 +3,8 @@ ghost use Rattle.std.specs.Prelude.{◌≡◌, ◌++◌, IfOk, OnOk};
 ghost use Rattle.bfs_script.specs.Texts.{words_of_entry, words_of_piece, is_quiet, line_of, holding_of, text_of};
 ghost use Rattle.bfs_script.specs.Readers.{reads_in, without, IsNoted};
 
-use crate::put::{put, put_counted, put_number};
-use crate::replies::put_reply;
+use bfs_text::put::{put, put_counted, put_number};
+use bfs_text::put_reply;
 use bfs_tree::{Call, Entry, Reply};
 use std::alloc::{AllocError, Global};
 

@@ -1,12 +1,14 @@
 -- One line more of a workload.
 use Rattle.std.proofs.Common.{◌≡◌, ◌++◌, ◌∷◌, [], ◌+◌, ◌-◌, ◌<◌, ℕ, suc, List, ap, sym, ◌∙◌, append_assoc, arith}
-use Rattle.bfs_script.specs.declared.script.Line.{Line}
-use Rattle.bfs_soak.specs.Workload.{line_drawn, lines_drawn, next_state}
+use Rattle.bfs_soak.specs.Workload.{next_state}
+use Rattle.bfs_soak.specs.Spellings.{drawn_text, lines_text}
 
-pub line_more : (whole old new : List Line) (x y at count : ℕ) → at < count → whole ≡ old ++ lines_drawn x (at + 1) (count - at) → new ≡ old ++ line_drawn x (at + 1) ∷ []
-    → y ≡ next_state (next_state (next_state x)) → whole ≡ new ++ lines_drawn y (at + 1 + 1) (count - (at + 1))
-line_more whole old new x y at count lt so_far items state =
+pub text_more : (whole old new : List ℕ) (x y at count : ℕ) → at < count → whole ≡ old ++ lines_text x (at + 1) (count - at) → new ≡ old ++ (drawn_text x (at + 1) ++ 10 ∷ [])
+    → y ≡ next_state (next_state (next_state x)) → whole ≡ new ++ lines_text y (at + 1 + 1) (count - (at + 1))
+text_more whole old new x y at count lt so_far items state =
     let left : count - at ≡ suc (count - (at + 1)) = omega (arith, lt) in
-    let rest : List Line = lines_drawn (next_state (next_state (next_state x))) (at + 1 + 1) (count - (at + 1)) in
-    so_far ∙ ap (λ (n : ℕ). old ++ lines_drawn x (at + 1) n) left ∙ sym (append_assoc old (line_drawn x (at + 1) ∷ []) rest)
-    ∙ ap (λ (l : List Line). l ++ rest) (sym items) ∙ ap (λ (z : ℕ). new ++ lines_drawn z (at + 1 + 1) (count - (at + 1))) (sym state)
+    let rest : List ℕ = lines_text (next_state (next_state (next_state x))) (at + 1 + 1) (count - (at + 1)) in
+    let line : List ℕ = drawn_text x (at + 1) ++ 10 ∷ [] in
+    so_far ∙ ap (λ (n : ℕ). old ++ lines_text x (at + 1) n) left
+    ∙ ap (λ (l : List ℕ). old ++ l) (sym (append_assoc (drawn_text x (at + 1)) (10 ∷ []) rest)) ∙ sym (append_assoc old line rest)
+    ∙ ap (λ (l : List ℕ). l ++ rest) (sym items) ∙ ap (λ (z : ℕ). new ++ lines_text z (at + 1 + 1) (count - (at + 1))) (sym state)

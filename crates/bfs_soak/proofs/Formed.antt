@@ -1,9 +1,9 @@
 -- Each line of a workload is in form.
 use Rattle.std.proofs.Common.{◌<◌, ◌+◌, ℕ, zero, suc, List, ◌∷◌, length, get_or, Bool, true, false, ◌==◌, if◌then◌else◌, arith}
 use Rattle.std.specs.List.{All}
-use Rattle.bfs_script.specs.declared.command.Command.{Command}
-use Rattle.bfs_script.specs.declared.script.Line.{Line}
-use Rattle.bfs_script.specs.Forms.{InForm, IsLineInForm}
+use Rattle.bfs_command.specs.declared.command.Command.{Command}
+use Rattle.bfs_command.specs.declared.line.Line.{Line}
+use Rattle.bfs_command.specs.Forms.{InForm, IsLineInForm}
 use Rattle.bfs_soak.specs.Workload.{next_state, drawn, command_drawn, session_of, line_drawn, lines_drawn, first_line, workload}
 
 either : (t : Bool) (a b : Command) → InForm a → InForm b → InForm (if t then a else b)

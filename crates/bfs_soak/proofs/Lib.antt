@@ -1,2 +1,5 @@
 pub mod Drawn
+pub mod Plain
+pub mod Spells
+pub mod Workloads
 mod Formed

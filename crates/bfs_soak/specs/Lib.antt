@@ -1,3 +1,4 @@
 pub mod Workload
+pub mod Spellings
 pub mod Summary
 pub mod WorkloadLaws

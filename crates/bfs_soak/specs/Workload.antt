@@ -1,8 +1,8 @@
 -- The workload of a number: which commands which session gives.
 use Rattle.std.specs.Prelude.{ℕ, zero, suc, ◌+◌, ◌*◌, ◌/◌, ◌%◌, List, [], ◌∷◌, ◌==◌, if◌then◌else◌, codes, decimal}
-use Rattle.bfs_script.specs.declared.command.Command.{Command}
-use Rattle.bfs_script.specs.declared.command.Command.TheVariants as commands
-use Rattle.bfs_script.specs.declared.script.Line.{Line}
+use Rattle.bfs_command.specs.declared.command.Command.{Command}
+use Rattle.bfs_command.specs.declared.command.Command.TheVariants as commands
+use Rattle.bfs_command.specs.declared.line.Line.{Line}
 
 -- the state after a draw
 unfoldable pub next_state : ℕ → ℕ

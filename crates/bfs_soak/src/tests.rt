@@ -1,7 +1,8 @@
 // The workload and the summary of a worked number.
 use crate::draws::{drawn, next_state};
 use crate::{make_workload, summarize};
-use bfs_script::{Command, Script};
+use bfs_command::Command;
+use bfs_script::Script;
 use bfs_tree::{Call, Entry, Reply};
 use std::alloc::{AllocError, Global};
 use std::test::Fail;
@@ -16,7 +17,8 @@ fn the_first_state_and_its_draw_are_known(rt: HostRuntime) {
 // The number and the session of each line, and whether it is a listing or makes a folder.
 fn outline(alloc: Global, script: &Script) -> Result<Vec<u8>, AllocError> {
     let mut out = Vec::new(alloc);
-    for line in script.lines() {
+    for at in 0..script.len() {
+        let line = script.line(alloc, at)?;
         out.extend_from_slice(format!(in alloc; "{} {} ", line.number, line.session)?.as_bytes())?;
         match &line.command {
             Command::MakeDir { path } => {

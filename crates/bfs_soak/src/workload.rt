@@ -1,141 +1,128 @@
-// The workload of a number.
-ghost use Rattle.std.specs.Prelude.{◌≡◌, ◌<◌, ◌≤◌, ◌∷◌, ◌++◌, ◌≢◌, ℕ, [], IfOk, OnOk};
-ghost use Rattle.bfs_soak.specs.Workload.{numbered, folder, file_in, folder_in, command_drawn, session_of, line_drawn, lines_drawn, first_line, workload, next_state, drawn};
+// The workload of a number: its lines are spelled, and read as a script.
+ghost use Rattle.std.specs.Prelude.{◌≡◌, ◌<◌, ◌≤◌, ◌∷◌, ◌++◌, [], IfOk, OnOk};
+ghost use Rattle.bfs_soak.specs.Workload.{workload, next_state};
+ghost use Rattle.bfs_soak.specs.Spellings.{home_text, inside_text, command_text, drawn_text, first_text, workload_text};
 
 use crate::draws::{drawn, next_state};
-use bfs_script::{Command, Line, Path, Script};
-use bfs_tree::Bytes;
-use itoa::Buffer;
+use bfs_script::{Script, ScriptFault, parse_vec};
+use bfs_text::put::{put, put_number};
 use std::alloc::{AllocError, Global};
 
-/// A letter and a number.
-fn numbered(alloc: Global, letter: u8, number: u64) -> Result<Bytes, AllocError>
-    ensures { IfOk result (λ r. r ≡ numbered letter number) }
+/// The path of a session's folder.
+fn put_home(out: &mut Vec<u8>, s: u64) -> Result<(), AllocError>
+    ensures { OnOk result (out.new.items ≡ out.old.items ++ home_text s) }
 {
-    let mut buffer = Buffer::new();
-    let mut name = Vec::from_slice(alloc, &[letter])?;
-    name.extend_from_slice(buffer.format(number).as_bytes())?;
-    Ok(Bytes::new(name))
+    put(out, b"/s")?;
+    put_number(out, s)
 }
 
-/// The folder of a session.
-fn folder(alloc: Global, session: u64) -> Result<Path, AllocError>
-    ensures { IfOk result (λ r. r ≡ folder session) }
+/// The path of what is named by a letter and a number in a session's folder.
+fn put_inside(out: &mut Vec<u8>, s: u64, letter: u8, number: u64) -> Result<(), AllocError>
+    ensures { OnOk result (out.new.items ≡ out.old.items ++ inside_text s letter number) }
 {
-    let mut names = Vec::new(alloc);
-    names.push(numbered(alloc, b's', session)?)?;
-    Ok(Path::new(names))
+    put_home(out, s)?;
+    put(out, &[b'/', letter])?;
+    put_number(out, number)
 }
 
-/// What is named by a letter and a number in a session's folder.
-fn inside(alloc: Global, session: u64, letter: u8, number: u64) -> Result<Path, AllocError>
-    ensures { IfOk result (λ r. r ≡ numbered 115 session ∷ numbered letter number ∷ []) }
+/// A word, a space and the path of a file.
+fn put_file(out: &mut Vec<u8>, word: &[u8], s: u64, a: u64) -> Result<(), AllocError>
+    ensures { OnOk result (out.new.items ≡ out.old.items ++ (word.now ++ inside_text s 102 a)) }
 {
-    let mut names = Vec::new(alloc);
-    names.push(numbered(alloc, b's', session)?)?;
-    names.push(numbered(alloc, letter, number)?)?;
-    Ok(Path::new(names))
+    put(out, word)?;
+    put_inside(out, s, b'f', a)
 }
 
-/// The command of a session with the draws k, a and b.
-fn command_drawn(alloc: Global, s: u64, k: u64, a: u64, b: u64) -> Result<Command, AllocError>
-    requires few { k < 8 }
+/// The words of a command with the draws k, a and b.
+fn put_command(out: &mut Vec<u8>, s: u64, k: u64, a: u64, b: u64) -> Result<(), AllocError>
     requires small { b < 32 }
-    ensures { IfOk result (λ c. c ≡ command_drawn s k a b) }
-{
-    if k == 6 {
-        let path = folder(alloc, s)?;
-        return Ok(Command::List { path });
-    }
-    if k == 7 {
-        return Ok(Command::Sync);
-    }
-    if k == 1 {
-        let path = inside(alloc, s, b'd', a)?;
-        return Ok(Command::MakeDir { path });
-    }
-    let path = inside(alloc, s, b'f', a)?;
-    file_command(alloc, s, k, b, path)
-}
-
-/// The command on a file of a session.
-fn file_command(alloc: Global, s: u64, k: u64, b: u64, path: Path) -> Result<Command, AllocError>
-    requires few { k < 6 }
-    requires file { k ≢ 1 }
-    requires small { b < 32 }
-    ensures { IfOk result (λ c. (a : ℕ) → path ≡ file_in s a → c ≡ command_drawn s k a b) }
+    ensures { OnOk result (out.new.items ≡ out.old.items ++ command_text s k a b) }
 {
     match k {
-        0 => Ok(Command::Make { path }),
-        2 => Ok(Command::Remove { path }),
+        0 => put_file(out, b"make ", s, a),
+        1 => {
+            put(out, b"mkdir ")?;
+            put_inside(out, s, b'd', a)
+        }
+        2 => put_file(out, b"rm ", s, a),
         3 => {
-            let to = inside(alloc, s, b'f', b)?;
-            Ok(Command::Rename { path, to })
+            put_file(out, b"mv ", s, a)?;
+            put_file(out, b" ", s, b)
         }
         4 => {
-            let name = Bytes::from_slice(alloc, b"x")?;
-            let bytes = Bytes::from_slice(alloc, &[b as u8, 0, 0, 0])?;
-            Ok(Command::AttrWrite {
-                path,
-                name,
-                kind: 0x4c4f_4e47,
-                bytes,
-            })
+            put_file(out, b"attr ", s, a)?;
+            put(out, b" x LONG:")?;
+            put_number(out, b)
         }
-        _ => Ok(Command::SetSize {
-            path,
-            size: 512 * b,
-        }),
+        5 => {
+            put_file(out, b"size ", s, a)?;
+            put(out, b" ")?;
+            put_number(out, 512 * b)
+        }
+        6 => {
+            put(out, b"ls ")?;
+            put_home(out, s)
+        }
+        _ => put(out, b"sync"),
     }
 }
 
-/// Puts the line of a session's folder behind the others.
-fn push_first(alloc: Global, lines: &mut Vec<Line>, s: u32) -> Result<(), AllocError>
-    ensures { OnOk result (lines.new.items ≡ lines.old.items ++ first_line s ∷ []) }
+/// The line that makes a session's folder.
+fn put_first(out: &mut Vec<u8>, s: u64) -> Result<(), AllocError>
+    ensures { OnOk result (out.new.items ≡ out.old.items ++ (first_text s ++ 10 ∷ [])) }
 {
-    let path = folder(alloc, u64::from(s))?;
-    lines.push(Line {
-        number: s,
-        session: s,
-        command: Command::MakeDir { path },
-    })?;
-    Ok(())
+    put_number(out, s)?;
+    put(out, b" mkdir ")?;
+    put_home(out, s)?;
+    put(out, b"\n")
 }
 
-/// Puts the i-th line behind the others, and answers the state after its three draws.
-fn push_drawn(alloc: Global, lines: &mut Vec<Line>, x: u64, i: u32) -> Result<u64, AllocError>
+/// The i-th line behind the first four, and the state after its three draws.
+fn put_drawn(out: &mut Vec<u8>, x: u64, i: u32) -> Result<u64, AllocError>
     requires { i ≤ 1048572 }
-    ensures line { OnOk result (lines.new.items ≡ lines.old.items ++ line_drawn x i ∷ []) }
+    ensures line { OnOk result (out.new.items ≡ out.old.items ++ (drawn_text x i ++ 10 ∷ [])) }
     ensures state { IfOk result (λ y. y ≡ next_state (next_state (next_state x))) }
 {
     let first = next_state(x);
     let second = next_state(first);
     let third = next_state(second);
-    let session = i % 4 + 1;
+    let s = u64::from(i % 4 + 1);
     let (k, a, b) = (drawn(8, first), drawn(32, second), drawn(32, third));
-    let command = command_drawn(alloc, u64::from(session), k, a, b)?;
-    lines.push(Line {
-        number: 4 + i,
-        session,
-        command,
-    })?;
+    put_number(out, s)?;
+    put(out, b" ")?;
+    put_command(out, s, k, a, b)?;
+    put(out, b"\n")?;
     Ok(third)
 }
 
-/// The workload of a seed: four lines that make the sessions' folders, and so many more, each of the command that its draws
-/// give.
+/// The lines of a workload: four that make the sessions' folders, and so many more, each of the command that its draws give.
+fn spell_workload(alloc: Global, seed: u64, count: u32) -> Result<Vec<u8>, AllocError>
+    requires { count ≤ 1048572 }
+    ensures { IfOk result (λ out. out.items ≡ workload_text seed count) }
+{
+    let mut out = Vec::new(alloc);
+    put_first(&mut out, 1)?;
+    put_first(&mut out, 2)?;
+    put_first(&mut out, 3)?;
+    put_first(&mut out, 4)?;
+    let mut x = seed;
+    'lines: for at in 0..count {
+        x = put_drawn(&mut out, x, at + 1)?;
+    }
+    Ok(out)
+}
+
+/// The workload of a seed, and of so many lines behind those that make the sessions' folders.
 pub fn make_workload(alloc: Global, seed: u64, count: u32) -> Result<Script, AllocError>
     requires { count ≤ 1048572 }
     ensures { IfOk result (λ s. s ≡ workload seed count) }
 {
-    let mut lines = Vec::new(alloc);
-    push_first(alloc, &mut lines, 1)?;
-    push_first(alloc, &mut lines, 2)?;
-    push_first(alloc, &mut lines, 3)?;
-    push_first(alloc, &mut lines, 4)?;
-    let mut x = seed;
-    'lines: for at in 0..count {
-        x = push_drawn(alloc, &mut lines, x, at + 1)?;
+    let lines = spell_workload(alloc, seed, count)?;
+    match parse_vec(alloc, lines) {
+        Ok(script) => Ok(script),
+        Err(fault) => match fault {
+            ScriptFault::NoMemory => Err(AllocError),
+            ScriptFault::Line { .. } => unreachable!(),
+        },
     }
-    Ok(Script::new(lines))
 }

@@ -1,4 +1,4 @@
-use Rattle.bfs_script.specs.Cutting.{lines_of}
+use Rattle.bfs_text.specs.Cutting.{lines_of}
 use Rattle.bfs_script.proofs.Formed.{from_form}
 use Rattle.bfs_script.proofs.laws.lines_are_in_form.Goals as goal
 

@@ -1,9 +1,14 @@
-use Rattle.std.proofs.Common.{rules, ◌<◌, length}
-use Rattle.bfs_script.proofs.BadLines.{fault_here}
+use Rattle.std.proofs.Common.{rules, ◌≡◌, ℕ, List, None, subst}
+use Rattle.std.specs.Prelude.{IfOk, IfErr}
+use Rattle.bfs_script.specs.Scripts.{bad_line, IsFaultAt}
 use Rattle.bfs_script.proofs.reading.parse.Goals as goal
 
-pub returns-in-Err-clause-fault : goal.returns-in-Err-clause-fault
-returns-in-Err-clause-fault c =
-    let some : 0 < length c.loop-rest.rest.now = search rules in
-    fault_here _ c.line_too_far-far.result c.loop-rest.number c.cut_once.result.1 c.loop-rest.rest.now c.cut_once.result.0.now c.in-Err.fault
-    (c.cut_once.ensures.lines (search rules)) (c.cut_once.ensures.last_line (search rules) some) c.loop-rest.invariant.bad c.in-Err.ensures.fault
+pub returns-in-Ok-clause-good : goal.returns-in-Ok-clause-good
+returns-in-Ok-clause-good c =
+    let items : c.in-Ok.bytes.items ≡ c.args.bytes.now = search rules in
+    subst (λ (l : List ℕ). IfOk c.parse_vec.result (λ s. bad_line l ≡ None)) items c.parse_vec.ensures.good
+
+pub returns-in-Ok-clause-fault : goal.returns-in-Ok-clause-fault
+returns-in-Ok-clause-fault c =
+    let items : c.in-Ok.bytes.items ≡ c.args.bytes.now = search rules in
+    subst (λ (l : List ℕ). IfErr c.parse_vec.result (IsFaultAt (bad_line l))) items c.parse_vec.ensures.fault

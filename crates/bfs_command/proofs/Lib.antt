@@ -1,0 +1,4 @@
+mod Goes
+mod Histories
+pub mod Formed
+pub mod Shaped

@@ -1,3 +1,5 @@
+pub mod OneNodes
+pub mod OneTrees
 pub mod Upright
 pub mod Rows
 pub mod Pieces

@@ -31,7 +31,7 @@ use Rattle.bfs_sound.specs.Attributes.{own_name, HasDirectory, IsAttributeRow, I
 use Rattle.bfs_sound.specs.Nodes.{HasNode, HasContent, HasTarget}
 use Rattle.bfs_sound.specs.Listings.{IsIndexOf, HasIndexDirectory, index_rows}
 use Rattle.bfs_sound.specs.Owners.{In, reach}
-use Rattle.bfs_whole.proofs.Nodes.{some_same}
+use Rattle.bfs_finding.proofs.OneNodes.{some_same}
 use Rattle.bfs_finding.specs.declared.finding.InodePart.{InodePart}
 use Rattle.bfs_finding.specs.Ways.{Way, to_system, to_root, to_child, to_directory, to_attribute, to_indices, to_index, says, IsReached, Arrives, IsShared, lacks_stream, blocks_by, HasNames, of_node, of_attributes, of_indices, IsStreamed, by_node, by_directory, by_attribute, by_indices, by_index}
 use Rattle.bfs_finding.specs.NodeFaults.{IsModeFault, IsAreaFault, runs_past, long_name, IsInodeFault, of_field, of_mode, of_area, of_target, area_of, own_bytes, IsNameFault, IsParentFault, of_block, of_run, of_dot, of_dots, IsRowFault, IsAttributeFault}

@@ -19,7 +19,7 @@ use Rattle.bfs_sound.specs.Inodes.{content, rows_of, index_directory}
 use Rattle.bfs_sound.specs.Listings.{index_rows}
 use Rattle.bfs_sound.specs.Owners.{In, reach}
 use Rattle.bfs_sound.specs.Whole.{IsSound, volume_of}
-use Rattle.bfs_whole.proofs.Trees.{one_stands}
+use Rattle.bfs_finding.proofs.OneTrees.{one_stands}
 use Rattle.bfs_finding.specs.declared.finding.PagePart.{PagePart}
 use Rattle.bfs_finding.specs.declared.finding.Finding.{Finding}
 use Rattle.bfs_finding.specs.declared.finding.Finding.TheVariants as finds

@@ -20,7 +20,7 @@ use Rattle.bfs_sound.specs.Listings.{IsChild}
 use Rattle.bfs_sound.specs.Owners.{In, own_blocks, owner_blocks, node_blocks, index_blocks, fixed_blocks, reach}
 use Rattle.bfs_sound.proofs.Counts.{in_map, in_left, in_right, in_flat, times_member, times_two}
 use Rattle.bfs_sound.proofs.Parts.{in_entries}
-use Rattle.bfs_whole.proofs.Nodes.{pos_same}
+use Rattle.bfs_finding.proofs.OneNodes.{pos_same}
 use Rattle.bfs_finding.specs.Ways.{Way, to_system, to_root, to_child, to_directory, to_attribute, to_indices, to_index, says, IsReached, root_reached, row_reached, Arrives, lacks_stream, blocks_by}
 use Rattle.bfs_finding.proofs.Upright.{Upright}
 use Rattle.bfs_finding.proofs.Rows.{in_filter, in_assoc, tree_ascends}

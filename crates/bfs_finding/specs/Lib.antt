@@ -1,3 +1,4 @@
+pub mod OneTree
 pub mod Which
 pub mod Ways
 pub mod NodeFaults

@@ -10,7 +10,7 @@ use bfs_node::{Header, KeyKind, PAGE, blank, data_type};
 use std::alloc::{AllocError, Global};
 
 /// The header of a tree with one leaf.
-fn header(kind: KeyKind) -> [u8; PAGE]
+pub fn tree_header(kind: KeyKind) -> [u8; PAGE]
     ensures { header_at result ≡ first_header kind }
 {
     let mut page = [0; PAGE];
@@ -44,7 +44,7 @@ pub fn empty_tree(alloc: Global, kind: KeyKind) -> Result<Vec<u8>, AllocError>
     ensures length { IfOk result (λ v. length v.items ≡ 2048) }
 {
     let mut bytes = Vec::new(alloc);
-    bytes.extend_from_slice(&header(kind))?;
+    bytes.extend_from_slice(&tree_header(kind))?;
     bytes.extend_from_slice(&empty_leaf())?;
     Ok(bytes)
 }

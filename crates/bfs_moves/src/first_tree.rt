@@ -1,33 +1,14 @@
 // The tree of a new directory: a header, and one leaf with the rows `.` and `..`.
 ghost use Rattle.std.specs.Prelude.{◌≡◌, ◌<◌, ◌^◌, length, IfOk};
 ghost use Rattle.bfs_base.specs.declared.kind.KeyKind.TheVariants.{Text};
-ghost use Rattle.bfs_node.specs.Header.{header_at};
 ghost use Rattle.bfs_values.specs.Reached.{IsWholeTree};
 ghost use Rattle.bfs_values.specs.Rows.{rows_in};
-ghost use Rattle.bfs_make.specs.Trees.{first_header};
 ghost use Rattle.bfs_shift.specs.TreeLaws.{first_rows};
 ghost use Rattle.bfs_moves.specs.Grown.{IsLeaf};
 
-use bfs_node::{Header, KeyKind, PAGE, blank, data_type, insert_row};
+use bfs_make::tree_header;
+use bfs_node::{KeyKind, PAGE, blank, insert_row};
 use std::alloc::{AllocError, Global};
-
-/// The header of a tree of names with one leaf.
-fn header() -> [u8; PAGE]
-    ensures { header_at result ≡ first_header Text }
-{
-    let mut page = [0; PAGE];
-    Header {
-        magic: 0x69f6c2e8,
-        node_size: 1024,
-        levels: 1,
-        data_type: data_type(KeyKind::Text),
-        root_pointer: 1024,
-        free_pointer: -1,
-        maximum_size: 2048,
-    }
-    .print(&mut page);
-    page
-}
 
 /// The leaf of a new directory at a block, in the directory at another.
 fn first_leaf(block: u64, parent: u64) -> [u8; PAGE]
@@ -51,7 +32,7 @@ pub(crate) fn first_tree(alloc: Global, block: u64, parent: u64) -> Result<Vec<u
     ensures length { IfOk result (λ v. length v.items ≡ 2048) }
 {
     let mut bytes = Vec::new(alloc);
-    bytes.extend_from_slice(&header())?;
+    bytes.extend_from_slice(&tree_header(KeyKind::Text))?;
     bytes.extend_from_slice(&first_leaf(block, parent))?;
     Ok(bytes)
 }

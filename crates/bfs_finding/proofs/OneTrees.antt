@@ -18,7 +18,7 @@ use Rattle.bfs_sound.specs.Volumes.{Volume}
 use Rattle.bfs_sound.specs.Inodes.{content}
 use Rattle.bfs_sound.specs.Listings.{IsRow, IsChild}
 use Rattle.bfs_sound.specs.Whole.{HasSoundNodes, IsSound}
-use Rattle.bfs_whole.proofs.Nodes.{some_same, pos_same, same_or_not, one_node}
+use Rattle.bfs_finding.proofs.OneNodes.{some_same, pos_same, same_or_not, one_node}
 
 -- two options are the same where what one has the other has
 same_options : {X : Type 0} (a b : Option X) → ((x : X) → a ≡ Some x → b ≡ Some x) → ((x : X) → b ≡ Some x → a ≡ Some x) → a ≡ b

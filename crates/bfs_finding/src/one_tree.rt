@@ -1,5 +1,5 @@
 // Laws of whole images: each is the contract of a function that does nothing.
-ghost use Rattle.bfs_whole.specs.OneTree.{RecoveredTreeIsOne, SoundTreeIsOne, StandingTreeIsOne, TreeIsOne};
+ghost use Rattle.bfs_finding.specs.OneTree.{RecoveredTreeIsOne, SoundTreeIsOne, StandingTreeIsOne, TreeIsOne};
 
 /// At most one tree is whole with an image.
 pub fn tree_is_one()

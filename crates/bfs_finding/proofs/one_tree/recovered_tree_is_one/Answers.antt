@@ -2,8 +2,8 @@ use Rattle.std.proofs.Common.{sym, subst}
 use Rattle.bfs_log.specs.Replay.{super_of, blocks_of}
 use Rattle.bfs_log.proofs.Replays.{replayed_one}
 use Rattle.bfs_sound.specs.Whole.{volume_of, IsWhole}
-use Rattle.bfs_whole.proofs.Trees.{one_tree}
-use Rattle.bfs_whole.proofs.laws.recovered_tree_is_one.Goals as goal
+use Rattle.bfs_finding.proofs.OneTrees.{one_tree}
+use Rattle.bfs_finding.proofs.one_tree.recovered_tree_is_one.Goals as goal
 
 pub returns : goal.returns
 returns c = λ image one other a b.

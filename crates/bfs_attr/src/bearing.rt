@@ -4,6 +4,7 @@ ghost use Rattle.bfs_smalldata.specs.Items.{Item, items_of};
 ghost use Rattle.bfs_super.specs.Conditions.{IsValid};
 ghost use Rattle.bfs_stream.specs.Told.{contents};
 ghost use Rattle.bfs_txn.specs.Faults.{AreLater};
+ghost use Rattle.bfs_txn.specs.Told.{StaysChanged};
 ghost use Rattle.bfs_maps.specs.Refused.{HasReadCause, IsUndone};
 ghost use Rattle.std.specs.Prelude.{false};
 ghost use Rattle.std.specs.Str.{bytes_eq};
@@ -50,6 +51,7 @@ fn put_into<E: Edits>(
     requires short { length name.now ≤ 255 }
     ensures put { (m : ℕ → Option (List ℕ)) → E.told edits.old ≡ Some m → IsSome (m inode) → IsSome (items_of (drop 232 (contents m inode))) → MatchResult result (IsPutInto m inode (record { kind = kind; name = name.now; bytes = bytes.now }) (E.told edits.new)) IsUndone }
     ensures changed { (k : ℕ) → E.changed edits.new k ≡ true → (E.changed edits.old k ≡ true) ⊎ (k ≡ inode) }
+    ensures stays { StaysChanged (E.changed edits.old) (E.changed edits.new) }
     ensures size { E.size edits.new ≡ E.size edits.old }
     ensures frame { E.frame edits.new ≡ E.frame edits.old }
     ensures later { AreLater (E.counts edits.old) (E.counts edits.new) }
@@ -77,6 +79,7 @@ fn take_from<E: Edits>(site: Site, edits: &mut E, inode: u64, name: &[u8]) -> Re
     requires size { E.size edits.old ≡ site.sup.block_size }
     ensures taken { (m : ℕ → Option (List ℕ)) → E.told edits.old ≡ Some m → IsSome (m inode) → IsSome (items_of (drop 232 (contents m inode))) → MatchResult result (IsTakenFrom m inode name.now (E.told edits.new)) IsUndone }
     ensures changed { (k : ℕ) → E.changed edits.new k ≡ true → (E.changed edits.old k ≡ true) ⊎ (k ≡ inode) }
+    ensures stays { StaysChanged (E.changed edits.old) (E.changed edits.new) }
     ensures size { E.size edits.new ≡ E.size edits.old }
     ensures frame { E.frame edits.new ≡ E.frame edits.old }
     ensures later { AreLater (E.counts edits.old) (E.counts edits.new) }
@@ -115,6 +118,7 @@ pub fn put_in_small<E: Edits>(
     requires other { bytes_eq name.now own_name ≡ false }
     ensures put { (v : Room) (m : ℕ → Option (List ℕ)) → E.told edits.old ≡ Some m → Holds (bearer_of inode site.sup) v m → HasNoRow (volume_at (geometry_of site.sup) m) inode name.now → MatchResult result (IsPutInSmall (bearer_of inode site.sup) v m name.now (record { code = kind; bytes = bytes.now }) (E.told edits.new) (E.changed edits.old) (E.changed edits.new)) IsUndone }
     ensures changed { (k : ℕ) → E.changed edits.new k ≡ true → (E.changed edits.old k ≡ true) ⊎ (k ≡ inode) }
+    ensures stays { StaysChanged (E.changed edits.old) (E.changed edits.new) }
     ensures size { E.size edits.new ≡ E.size edits.old }
     ensures frame { E.frame edits.new ≡ E.frame edits.old }
     ensures later { AreLater (E.counts edits.old) (E.counts edits.new) }
@@ -135,6 +139,7 @@ pub fn take_from_small<E: Edits>(
     requires size { E.size edits.old ≡ site.sup.block_size }
     ensures taken { (v : Room) (m : ℕ → Option (List ℕ)) → E.told edits.old ≡ Some m → Holds (bearer_of inode site.sup) v m → MatchResult result (IsTakenFromSmall (bearer_of inode site.sup) v m name.now (E.told edits.new) (E.changed edits.old) (E.changed edits.new)) IsUndone }
     ensures changed { (k : ℕ) → E.changed edits.new k ≡ true → (E.changed edits.old k ≡ true) ⊎ (k ≡ inode) }
+    ensures stays { StaysChanged (E.changed edits.old) (E.changed edits.new) }
     ensures size { E.size edits.new ≡ E.size edits.old }
     ensures frame { E.frame edits.new ≡ E.frame edits.old }
     ensures later { AreLater (E.counts edits.old) (E.counts edits.new) }

@@ -20,7 +20,7 @@ ghost use Rattle.bfs_make.specs.Sites.{stream_in};
 
 use crate::inode::damaged;
 use bfs_bytes::{Run, run_at};
-use bfs_make::Site;
+use bfs_make::{Site, blocks_in};
 use bfs_maps::{TreeAt, rows_from};
 use bfs_node::{KeyKind, TreeFault};
 use bfs_range::{KeyBytes, Ranged, RangedRow};
@@ -50,20 +50,6 @@ fn is_zero_run(run: Run) -> bool
     ensures { result ≡ is_zero run }
 {
     run.group == 0 && run.start == 0 && run.len == 0
-}
-
-/// A number that isn't negative, or 0.
-fn natural_long(value: i64) -> u64
-    ensures { result ≡ natural value }
-{
-    if value < 0 { 0 } else { value as u64 }
-}
-
-/// The number of a volume's blocks.
-fn blocks_in(sup: Super) -> u64
-    ensures { result ≡ natural sup.num_blocks }
-{
-    natural_long(sup.num_blocks)
 }
 
 /// The first block of a run; a group below 0 counts as 0.

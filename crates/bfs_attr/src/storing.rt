@@ -3,6 +3,7 @@ ghost use Rattle.std.specs.Prelude.{◌≡◌, ◌≤◌, ℕ, List, max, length
 ghost use Rattle.bfs_super.specs.Conditions.{IsValid, ceil};
 ghost use Rattle.bfs_super.specs.Geometry.{geometry_of};
 ghost use Rattle.bfs_txn.specs.Faults.{AreLater};
+ghost use Rattle.bfs_txn.specs.Told.{StaysChanged};
 ghost use Rattle.bfs_stream.specs.Faults.{IsGrowCause};
 ghost use Rattle.bfs_stream.specs.Grown.{IsOfVolume};
 ghost use Rattle.bfs_stream.specs.Sizes.{sizes_of, IsInVolume, first_block};
@@ -48,6 +49,7 @@ pub fn store_attribute<E: Edits>(
     ensures attribute { (m : ℕ → Option (List ℕ)) → E.told edits.old ≡ Some m → HasBits bitmap.old m → IfOk result (λ run. IfSome (E.told edits.new) (λ map. IsAttributeInode (volume_at (geometry_of site.sup) map) (first_block (sizes_of site.sup) run) (record { code = kind; bytes = bytes.now }))) }
     ensures faults { (m : ℕ → Option (List ℕ)) → E.told edits.old ≡ Some m → HasBits bitmap.old m → IfErr result (IsNotStored (sizes_of site.sup) bitmap.old m (ceil (length bytes.now) site.sup.block_size)) }
     ensures rest { bitmap.new ≡ record bitmap.old { tally = bitmap.new.tally } }
+    ensures stays { StaysChanged (E.changed edits.old) (E.changed edits.new) }
     ensures size { E.size edits.new ≡ E.size edits.old }
     ensures frame { E.frame edits.new ≡ E.frame edits.old }
     ensures later { AreLater (E.counts edits.old) (E.counts edits.new) }

@@ -5,6 +5,7 @@ ghost use Rattle.bfs_super.specs.Conditions.{IsValid, natural};
 ghost use Rattle.bfs_super.specs.Geometry.{geometry_of};
 ghost use Rattle.bfs_bitmap.specs.Runs.{as_kept};
 ghost use Rattle.bfs_txn.specs.Faults.{AreLater};
+ghost use Rattle.bfs_txn.specs.Told.{StaysChanged};
 ghost use Rattle.bfs_stream.specs.Grown.{IsOfVolume};
 ghost use Rattle.bfs_stream.specs.Sizes.{sizes_of};
 ghost use Rattle.bfs_maps.specs.Mapped.{HasHeld};
@@ -17,28 +18,13 @@ ghost use Rattle.bfs_attr.specs.Refused.{IsNoPage};
 ghost use Rattle.bfs_attr_write.specs.Removal.{CanTake, IsNotTakenOut, IsTakenOutFault};
 
 use bfs_bitmap::Bitmap;
-use bfs_make::{Site, give_inode};
+use bfs_make::{Site, blocks_in, give_inode};
 use bfs_maps::TreeAt;
 use bfs_node::{KeyKind, TreeFault};
 use bfs_rows::take_row;
 use bfs_stream::GrowFault;
 use bfs_stream_pages::MapFault;
-use bfs_super::Super;
 use bfs_txn::{BlockFault, Edits};
-
-/// A number that isn't negative, or 0.
-fn natural_long(value: i64) -> u64
-    ensures { result ≡ natural value }
-{
-    if value < 0 { 0 } else { value as u64 }
-}
-
-/// The number of a volume's blocks.
-fn blocks_in(sup: Super) -> u64
-    ensures { result ≡ natural sup.num_blocks }
-{
-    natural_long(sup.num_blocks)
-}
 
 /// Gives back the inode that a row of an attribute directory names. The directory is damaged where that is no block of the volume.
 fn give_named<E: Edits>(
@@ -56,6 +42,7 @@ fn give_named<E: Edits>(
     ensures pages { IfErr result IsNoPage }
     ensures rest { bitmap.new ≡ record bitmap.old { given = bitmap.new.given; tally = bitmap.new.tally } }
     ensures kept { as_kept bitmap.new ≡ as_kept bitmap.old }
+    ensures stays { StaysChanged (E.changed edits.old) (E.changed edits.new) }
     ensures size { E.size edits.new ≡ E.size edits.old }
     ensures frame { E.frame edits.new ≡ E.frame edits.old }
     ensures later { AreLater (E.counts edits.old) (E.counts edits.new) }
@@ -91,6 +78,7 @@ pub fn take_attribute_row<E: Edits>(
     ensures blamed { (m : ℕ → Option (List ℕ)) → E.told edits.old ≡ Some m → IfErr result (IsTakenOutFault site.sup directory name.now bitmap.old m (E.told edits.new)) }
     ensures rest { bitmap.new ≡ record bitmap.old { given = bitmap.new.given; tally = bitmap.new.tally } }
     ensures kept { as_kept bitmap.new ≡ as_kept bitmap.old }
+    ensures stays { StaysChanged (E.changed edits.old) (E.changed edits.new) }
     ensures size { E.size edits.new ≡ E.size edits.old }
     ensures frame { E.frame edits.new ≡ E.frame edits.old }
     ensures later { AreLater (E.counts edits.old) (E.counts edits.new) }

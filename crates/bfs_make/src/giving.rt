@@ -5,6 +5,7 @@ ghost use Rattle.bfs_bitmap.specs.Runs.{Room, Fits, as_kept};
 ghost use Rattle.bfs_inode.specs.Inode.{stream_at};
 ghost use Rattle.bfs_super.specs.Conditions.{IsValid, natural};
 ghost use Rattle.bfs_txn.specs.Faults.{AreLater};
+ghost use Rattle.bfs_txn.specs.Told.{StaysChanged};
 ghost use Rattle.bfs_stream.specs.Faults.{IsCauseIn};
 ghost use Rattle.bfs_stream.specs.Grown.{IsOfVolume, Owns};
 ghost use Rattle.bfs_stream.specs.Places.{fields, places_at};
@@ -99,6 +100,7 @@ fn empty_over<E: Edits>(
     ensures emptied { (v : Room) (m : ℕ → Option (List ℕ)) → E.told edits.old ≡ Some m → HasHeld (stream_in site id) v m → OnOk result (HasEmptied (stream_in site id) v m (E.told edits.new) (E.changed edits.old) (E.changed edits.new)) }
     ensures sound { (m : ℕ → Option (List ℕ)) → E.told edits.old ≡ Some m → IfErr result (λ fault. ¬ IsDamage fault) }
     ensures changed { (k : ℕ) → E.changed edits.new k ≡ true → (E.changed edits.old k ≡ true) ⊎ (k ≡ id) }
+    ensures stays { StaysChanged (E.changed edits.old) (E.changed edits.new) }
     ensures size { E.size edits.new ≡ E.size edits.old }
     ensures frame { E.frame edits.new ≡ E.frame edits.old }
     ensures later { AreLater (E.counts edits.old) (E.counts edits.new) }
@@ -123,6 +125,7 @@ fn empty<E: Edits>(site: Site, edits: &mut E, id: u64) -> Result<(), BlockFault>
     ensures emptied { (v : Room) (m : ℕ → Option (List ℕ)) → E.told edits.old ≡ Some m → HasHeld (stream_in site id) v m → OnOk result (HasEmptied (stream_in site id) v m (E.told edits.new) (E.changed edits.old) (E.changed edits.new)) }
     ensures sound { (m : ℕ → Option (List ℕ)) → E.told edits.old ≡ Some m → IfErr result (λ fault. ¬ IsDamage fault) }
     ensures changed { (k : ℕ) → E.changed edits.new k ≡ true → (E.changed edits.old k ≡ true) ⊎ (k ≡ id) }
+    ensures stays { StaysChanged (E.changed edits.old) (E.changed edits.new) }
     ensures size { E.size edits.new ≡ E.size edits.old }
     ensures frame { E.frame edits.new ≡ E.frame edits.old }
     ensures later { AreLater (E.counts edits.old) (E.counts edits.new) }
@@ -153,6 +156,7 @@ fn strip<E: Edits>(
     ensures sound { (m : ℕ → Option (List ℕ)) → E.told edits.old ≡ Some m → Owns (stream_in site id) bitmap.old [] m → (fields (sizes_of site.sup) (contents m) id).size ≡ pos 0 → IfErr result (λ fault. ¬ IsDamage fault) }
     ensures rest { bitmap.new ≡ record bitmap.old { given = bitmap.new.given; tally = bitmap.new.tally } }
     ensures kept { as_kept bitmap.new ≡ as_kept bitmap.old }
+    ensures stays { StaysChanged (E.changed edits.old) (E.changed edits.new) }
     ensures size { E.size edits.new ≡ E.size edits.old }
     ensures frame { E.frame edits.new ≡ E.frame edits.old }
     ensures later { AreLater (E.counts edits.old) (E.counts edits.new) }
@@ -178,6 +182,7 @@ fn give_block<E: Edits>(
     ensures rest { bitmap.new ≡ record bitmap.old { given = bitmap.new.given; tally = bitmap.new.tally } }
     ensures kept { as_kept bitmap.new ≡ as_kept bitmap.old }
     ensures changed { (k : ℕ) → E.changed edits.new k ≡ true → (E.changed edits.old k ≡ true) ⊎ IsBitmapBlock bitmap.old k }
+    ensures stays { StaysChanged (E.changed edits.old) (E.changed edits.new) }
     ensures size { E.size edits.new ≡ E.size edits.old }
     ensures frame { E.frame edits.new ≡ E.frame edits.old }
     ensures later { AreLater (E.counts edits.old) (E.counts edits.new) }
@@ -201,6 +206,7 @@ pub fn give_inode<E: Edits>(
     ensures sound { (m : ℕ → Option (List ℕ)) → E.told edits.old ≡ Some m → HasHeld (stream_in site id) bitmap.old m → IfErr result (λ fault. ¬ IsDamage fault) }
     ensures rest { bitmap.new ≡ record bitmap.old { given = bitmap.new.given; tally = bitmap.new.tally } }
     ensures kept { as_kept bitmap.new ≡ as_kept bitmap.old }
+    ensures stays { StaysChanged (E.changed edits.old) (E.changed edits.new) }
     ensures size { E.size edits.new ≡ E.size edits.old }
     ensures frame { E.frame edits.new ≡ E.frame edits.old }
     ensures later { AreLater (E.counts edits.old) (E.counts edits.new) }

@@ -12,6 +12,6 @@ mod tree;
 
 pub use giving::{give_inode, run_of};
 pub use making::{InodeForm, NewInode, make_inode, new_inode, run_start, take_block};
-pub use site::{Site, has_long_blocks, has_short_blocks};
+pub use site::{Site, blocks_in, has_long_blocks, has_short_blocks};
 pub use storing::{store, write_stream};
 pub use tree::{empty_tree, tree_header};

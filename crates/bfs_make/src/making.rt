@@ -4,6 +4,7 @@ ghost use Rattle.bfs_bitmap.specs.Runs.{Fits, per_block, is_free};
 ghost use Rattle.bfs_bitmap.specs.Fills.{IsBitmapBlock};
 ghost use Rattle.bfs_super.specs.Conditions.{IsValid, natural};
 ghost use Rattle.bfs_txn.specs.Faults.{AreLater};
+ghost use Rattle.bfs_txn.specs.Told.{StaysChanged};
 ghost use Rattle.bfs_stream.specs.Sizes.{sizes_of, IsInVolume, first_block};
 ghost use Rattle.bfs_stream.specs.Grown.{IsOfVolume, Took};
 ghost use Rattle.bfs_stream.specs.Faults.{IsGrowCause, IsNoRunFor};
@@ -121,6 +122,7 @@ pub fn take_block<E: Edits>(
     ensures no_run { (m : ℕ → Option (List ℕ)) → E.told edits.old ≡ Some m → Fits bitmap.old m → IfErr result (IsNoRunFor bitmap.old m 1) }
     ensures rest { bitmap.new ≡ record bitmap.old { tally = bitmap.new.tally } }
     ensures changed { (k : ℕ) → E.changed edits.new k ≡ true → (E.changed edits.old k ≡ true) ⊎ IsBitmapBlock bitmap.old k }
+    ensures stays { StaysChanged (E.changed edits.old) (E.changed edits.new) }
     ensures size { E.size edits.new ≡ E.size edits.old }
     ensures frame { E.frame edits.new ≡ E.frame edits.old }
     ensures later { AreLater (E.counts edits.old) (E.counts edits.new) }
@@ -149,6 +151,7 @@ pub fn make_inode<E: Edits>(site: Site, edits: &mut E, new: NewInode) -> Result<
     requires inside { IsInVolume (sizes_of site.sup) new.address }
     ensures made { (m : ℕ → Option (List ℕ)) → E.told edits.old ≡ Some m → OnOk result (HasInode (sizes_of site.sup) new m (E.told edits.new)) }
     ensures changed { (k : ℕ) → E.changed edits.new k ≡ true → (E.changed edits.old k ≡ true) ⊎ (k ≡ first_block (sizes_of site.sup) new.address) }
+    ensures stays { StaysChanged (E.changed edits.old) (E.changed edits.new) }
     ensures size { E.size edits.new ≡ E.size edits.old }
     ensures frame { E.frame edits.new ≡ E.frame edits.old }
     ensures later { AreLater (E.counts edits.old) (E.counts edits.new) }
@@ -183,6 +186,7 @@ pub fn new_inode<E: Edits>(
     ensures made { (m : ℕ → Option (List ℕ)) → E.told edits.old ≡ Some m → HasBits bitmap.old m → IfOk result (λ run. HasMade (sizes_of site.sup) bitmap.old bitmap.new m (formed_at run form) (E.told edits.new) (E.changed edits.old) (E.changed edits.new)) }
     ensures no_run { (m : ℕ → Option (List ℕ)) → E.told edits.old ≡ Some m → HasBits bitmap.old m → IfErr result (IsNoRunFor bitmap.old m 1) }
     ensures rest { bitmap.new ≡ record bitmap.old { tally = bitmap.new.tally } }
+    ensures stays { StaysChanged (E.changed edits.old) (E.changed edits.new) }
     ensures size { E.size edits.new ≡ E.size edits.old }
     ensures frame { E.frame edits.new ≡ E.frame edits.old }
     ensures later { AreLater (E.counts edits.old) (E.counts edits.new) }

@@ -1,6 +1,6 @@
 // A volume that inodes stand on.
-ghost use Rattle.std.specs.Prelude.{◌≤◌};
-ghost use Rattle.bfs_super.specs.Conditions.{IsValid};
+ghost use Rattle.std.specs.Prelude.{◌≡◌, ◌≤◌};
+ghost use Rattle.bfs_super.specs.Conditions.{IsValid, natural};
 
 use bfs_super::Super;
 use std::alloc::Global;
@@ -26,4 +26,18 @@ pub fn has_short_blocks(sup: Super)
     ensures { sup.block_size ≤ 8192 }
 {
     let _ = sup;
+}
+
+/// A number that isn't negative, or 0.
+fn natural_long(value: i64) -> u64
+    ensures { result ≡ natural value }
+{
+    if value < 0 { 0 } else { value as u64 }
+}
+
+/// The number of a volume's blocks.
+pub fn blocks_in(sup: Super) -> u64
+    ensures { result ≡ natural sup.num_blocks }
+{
+    natural_long(sup.num_blocks)
 }

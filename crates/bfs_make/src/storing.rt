@@ -120,6 +120,7 @@ pub fn store<E: Edits>(
     ensures stored { (m : ℕ → Option (List ℕ)) → E.told edits.old ≡ Some m → HasBits bitmap.old m → IfOk result (λ run. HasStored (sizes_of site.sup) bitmap.old bitmap.new m (formed_at run form) bytes.now (E.told edits.new) (E.changed edits.old) (E.changed edits.new)) }
     ensures faults { (m : ℕ → Option (List ℕ)) → E.told edits.old ≡ Some m → HasBits bitmap.old m → IfErr result (IsNotStored (sizes_of site.sup) bitmap.old m (ceil (length bytes.now) site.sup.block_size)) }
     ensures rest { bitmap.new ≡ record bitmap.old { tally = bitmap.new.tally } }
+    ensures stays { StaysChanged (E.changed edits.old) (E.changed edits.new) }
     ensures size { E.size edits.new ≡ E.size edits.old }
     ensures frame { E.frame edits.new ≡ E.frame edits.old }
     ensures later { AreLater (E.counts edits.old) (E.counts edits.new) }

@@ -2,7 +2,7 @@ use Rattle.std.proofs.Common.{rules, ◌≡◌, ◌∙◌, ap}
 use mir.Val.{to_z, of_z}
 use mir.Syntax.{w64}
 use Rattle.bfs_super.specs.Conditions.{natural}
-use Rattle.bfs_attr_write.proofs.removing.blocks_in.Goals as goal
+use Rattle.bfs_make.proofs.site.blocks_in.Goals as goal
 
 pub returns : goal.returns
 returns c =

@@ -1,5 +1,5 @@
 // Scripts in good and bad words, limits, and a reply of every kind.
-use crate::{ScriptFault, parse, text};
+use crate::{Script, ScriptFault, parse, text};
 use bfs_command::{Calls, Command, Due};
 use bfs_text::Path;
 use bfs_tree::{
@@ -136,26 +136,37 @@ fn push_part(out: &mut Vec<u8>, part: &[u8]) -> Result<(), AllocError> {
     out.extend_from_slice(part)
 }
 
-// The value of an attribute, as a script spells it.
-fn value_in(alloc: Global, script: &[u8]) -> Result<Vec<u8>, AllocError> {
-    let mut out = Vec::new(alloc);
-    let Ok(script) = parse(alloc, script) else {
-        return Ok(out);
-    };
-    for at in 0..script.len() {
-        let line = script.line(alloc, at)?;
-        if let Command::AttrWrite {
+// The path, the name, the type and the value of an attribute that a line writes.
+fn push_value(out: &mut Vec<u8>, command: &Command) -> Result<(), AllocError> {
+    match command {
+        Command::AttrWrite {
             path,
             name,
             kind,
             bytes,
-        } = &line.command
-        {
-            push_path(&mut out, path)?;
-            push_part(&mut out, name.as_slice())?;
-            push_part(&mut out, &kind.to_be_bytes())?;
-            push_part(&mut out, bytes.as_slice())?;
+        } => {
+            push_path(out, path)?;
+            push_part(out, name.as_slice())?;
+            push_part(out, &kind.to_be_bytes())?;
+            push_part(out, bytes.as_slice())
         }
+        _ => Ok(()),
+    }
+}
+
+fn push_values(out: &mut Vec<u8>, alloc: Global, script: &Script) -> Result<(), AllocError> {
+    for at in 0..script.len() {
+        let line = script.line(alloc, at)?;
+        push_value(out, &line.command)?;
+    }
+    Ok(())
+}
+
+// The value of an attribute, as a script spells it.
+fn value_in(alloc: Global, script: &[u8]) -> Result<Vec<u8>, AllocError> {
+    let mut out = Vec::new(alloc);
+    if let Ok(script) = parse(alloc, script) {
+        push_values(&mut out, alloc, &script)?;
     }
     Ok(out)
 }
@@ -493,24 +504,42 @@ fn push_due(out: &mut Vec<u8>, alloc: Global, due: &Due) -> Result<Reply, AllocE
     Ok(Reply::Done)
 }
 
-// The calls of each command, on a volume whose root is node 5; at most six of each line.
-fn calls_in(alloc: Global, script: &[u8]) -> Result<Vec<u8>, AllocError> {
-    let mut out = Vec::new(alloc);
-    let Ok(script) = parse(alloc, script) else {
-        return Ok(out);
-    };
+// The next call of a line, and its answer; or nothing, where the line is done.
+fn push_next(out: &mut Vec<u8>, alloc: Global, calls: &mut Calls) -> Result<bool, AllocError> {
+    let due = calls.due(alloc)?;
+    if let Due::Nothing = &due {
+        return Ok(false);
+    }
+    let reply = push_due(out, alloc, &due)?;
+    out.push(b';')?;
+    calls.answered(&reply);
+    Ok(true)
+}
+
+// The calls of a command, on a volume whose root is node 5; at most six.
+fn push_calls(out: &mut Vec<u8>, alloc: Global, command: &Command) -> Result<(), AllocError> {
+    let mut calls = Calls::of(5, command);
+    for _ in 0..6 {
+        if !push_next(out, alloc, &mut calls)? {
+            break;
+        }
+    }
+    Ok(())
+}
+
+fn push_lines(out: &mut Vec<u8>, alloc: Global, script: &Script) -> Result<(), AllocError> {
     for at in 0..script.len() {
         let line = script.line(alloc, at)?;
-        let mut calls = Calls::of(5, &line.command);
-        for _ in 0..6 {
-            let due = calls.due(alloc)?;
-            if let Due::Nothing = &due {
-                break;
-            }
-            let reply = push_due(&mut out, alloc, &due)?;
-            out.push(b';')?;
-            calls.answered(&reply);
-        }
+        push_calls(out, alloc, &line.command)?;
+    }
+    Ok(())
+}
+
+// The calls of each line of a script.
+fn calls_in(alloc: Global, script: &[u8]) -> Result<Vec<u8>, AllocError> {
+    let mut out = Vec::new(alloc);
+    if let Ok(script) = parse(alloc, script) {
+        push_lines(&mut out, alloc, &script)?;
     }
     Ok(out)
 }

@@ -1,7 +1,9 @@
 // The workload and the summary of a worked number.
+ghost use Rattle.std.specs.Prelude.{◌≤◌};
+
 use crate::draws::{drawn, next_state};
 use crate::{make_workload, summarize};
-use bfs_command::Command;
+use bfs_command::{Command, Line};
 use bfs_script::Script;
 use bfs_tree::{Call, Entry, Reply};
 use std::alloc::{AllocError, Global};
@@ -14,36 +16,57 @@ fn the_first_state_and_its_draw_are_known(rt: HostRuntime) {
     assert_eq!(rt; drawn(8, state), 6);
 }
 
-// The number and the session of each line, and whether it is a listing or makes a folder.
+// What a line makes or does: the folder that it makes, or that it is a listing.
+fn push_command(out: &mut Vec<u8>, command: &Command) -> Result<(), AllocError> {
+    match command {
+        Command::MakeDir { path } => {
+            for name in path.names() {
+                out.push(b'/')?;
+                out.extend_from_slice(name.as_slice())?;
+            }
+            Ok(())
+        }
+        Command::List { .. } => out.extend_from_slice(b"ls"),
+        _ => {
+            out.push(b'?')?;
+            Ok(())
+        }
+    }
+}
+
+// The number and the session of a line, and what it makes or does.
+fn push_line(out: &mut Vec<u8>, alloc: Global, line: &Line) -> Result<(), AllocError> {
+    out.extend_from_slice(format!(in alloc; "{} {} ", line.number, line.session)?.as_bytes())?;
+    push_command(out, &line.command)?;
+    out.push(b'\n')?;
+    Ok(())
+}
+
+// All lines so.
 fn outline(alloc: Global, script: &Script) -> Result<Vec<u8>, AllocError> {
     let mut out = Vec::new(alloc);
     for at in 0..script.len() {
         let line = script.line(alloc, at)?;
-        out.extend_from_slice(format!(in alloc; "{} {} ", line.number, line.session)?.as_bytes())?;
-        match &line.command {
-            Command::MakeDir { path } => {
-                for name in path.names() {
-                    out.push(b'/')?;
-                    out.extend_from_slice(name.as_slice())?;
-                }
-            }
-            Command::List { .. } => out.extend_from_slice(b"ls")?,
-            _ => out.push(b'?')?,
-        }
-        out.push(b'\n')?;
+        push_line(&mut out, alloc, &line)?;
     }
     Ok(out)
+}
+
+// Are the lines of a workload these?
+fn is_outline(alloc: Global, count: u32, want: &[u8]) -> Result<bool, AllocError>
+    requires { count ≤ 1048572 }
+{
+    let script = make_workload(alloc, 7, count)?;
+    Ok(outline(alloc, &script)?.as_slice() == want)
 }
 
 #[test]
 fn a_workload_begins_with_four_folders(rt: HostRuntime) -> Result<(), Fail> {
     let alloc = rt.alloc();
-    let four = make_workload(alloc, 7, 0)?;
     let folders = b"1 1 /s1\n2 2 /s2\n3 3 /s3\n4 4 /s4\n".as_slice();
-    assert!(rt; outline(alloc, &four)?.as_slice() == folders);
-    let five = make_workload(alloc, 7, 1)?;
+    assert!(rt; is_outline(alloc, 0, folders)?);
     let listing = b"1 1 /s1\n2 2 /s2\n3 3 /s3\n4 4 /s4\n5 2 ls\n".as_slice();
-    assert!(rt; outline(alloc, &five)?.as_slice() == listing);
+    assert!(rt; is_outline(alloc, 1, listing)?);
     Ok(())
 }
 

@@ -97,6 +97,81 @@ fn the_first_bad_line_is_told(rt: HostRuntime) -> Result<(), Fail> {
     Ok(())
 }
 
+#[test]
+fn each_command_is_read(rt: HostRuntime) -> Result<(), Fail> {
+    let alloc = rt.alloc();
+    let scripts: [&[u8]; 20] = [
+        b"1 make /a",
+        b"1 mkdir /a",
+        b"1 link /a x",
+        b"1 rm /a",
+        b"1 mv /a /b",
+        b"1 ls /",
+        b"1 stat /",
+        b"1 mode / 755 0 0",
+        b"1 size /a 1",
+        b"1 readlink /a",
+        b"1 attr / x RAWT:1",
+        b"1 getattr / x",
+        b"1 rmattr / x",
+        b"1 attrs /",
+        b"1 mkindex x LONG",
+        b"1 rmindex x",
+        b"1 indices",
+        b"1 find x LONG:1 LONG:2",
+        b"1 write /a 0 :x",
+        b"1 read /a 0 1",
+    ];
+    for script in scripts {
+        assert_eq!(rt; bad_line(alloc, script), 0);
+    }
+    Ok(())
+}
+
+#[test]
+fn each_word_of_each_command_is_looked_at(rt: HostRuntime) -> Result<(), Fail> {
+    let alloc = rt.alloc();
+    let scripts: [&[u8]; 33] = [
+        b"1 make x",
+        b"1 mkdir /",
+        b"1 link / x",
+        b"1 link /a %zz",
+        b"1 rm a",
+        b"1 mv / /b",
+        b"1 mv /a b",
+        b"1 ls a",
+        b"1 stat /a//b",
+        b"1 mode a 755 0 0",
+        b"1 mode / 9 0 0",
+        b"1 mode / 755 x 0",
+        b"1 mode / 755 0 x",
+        b"1 size a 1",
+        b"1 size /a x",
+        b"1 readlink a",
+        b"1 attr a x RAWT:1",
+        b"1 attr / %G0 RAWT:1",
+        b"1 attr / x RAWT",
+        b"1 getattr a x",
+        b"1 getattr / %",
+        b"1 rmattr a x",
+        b"1 rmattr / %4",
+        b"1 attrs a",
+        b"1 mkindex % LONG",
+        b"1 mkindex x long",
+        b"1 rmindex %1",
+        b"1 find %zz LONG:1 LONG:2",
+        b"1 find x LONG:x LONG:2",
+        b"1 find x LONG:1 LONG:x",
+        b"1 write /a x :x",
+        b"1 read a 0 1",
+        b"1 read /a -1 1",
+    ];
+    for script in scripts {
+        assert_eq!(rt; bad_line(alloc, script), 1);
+    }
+    Ok(())
+}
+
 // So many line feeds, and then some bytes.
 fn behind_feeds(alloc: Global, feeds: usize, last: &[u8]) -> Result<Vec<u8>, AllocError> {
     let mut script = vec![in alloc; b'\n'; feeds]?;

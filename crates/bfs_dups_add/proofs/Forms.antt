@@ -7,8 +7,9 @@ use Rattle.bfs_values.specs.Links.{link_in}
 use Rattle.bfs_values.specs.Values.{fragment_count, fragment_numbers, placed, numbers_in, values_in}
 use Rattle.bfs_values.specs.Formed.{IsFormed}
 use Rattle.bfs_values.specs.Stored.{with_number}
-use Rattle.bfs_dups_add.proofs.Answered.{with-old, with-new, pair-new}
-use Rattle.bfs_dups_add.proofs.Moved.{length-numbers}
+use Rattle.bfs_dups_add.proofs.Answered.{with-old, with-new}
+use Rattle.bfs_dups.proofs.Answered.{pair-new}
+use Rattle.bfs_dups.proofs.Moved.{length-numbers}
 
 pub length-placed : (x : ℕ) (ys : List ℕ) → length (placed x ys) ≡ suc (length ys)
 length-placed x [] = refl

@@ -1,14 +1,7 @@
-pub mod Answered
-pub mod Causes
-pub mod Composed
-pub mod Crowding
-pub mod Forms
-pub mod Gained
-pub mod Holding
-pub mod Lengthened
-pub mod Linked
-pub mod Moved
-pub mod Ordered
-pub mod Pages
-pub mod Scanning
-pub mod Slotted
+mod Answered
+mod Causes
+mod Forms
+mod Gained
+mod Lengthened
+mod Scanning
+mod Taking

@@ -6,6 +6,7 @@ use Rattle.bfs_pages.specs.Trees.{page_in}
 use Rattle.bfs_pages.proofs.Splice.{self, times-append}
 use Rattle.bfs_values.specs.Values.{page_count, page_numbers, next_of, AreDuplicates, numbers_of_pages}
 use Rattle.bfs_values.specs.Chained.{Chained}
+use Rattle.bfs_dups.proofs.Scanning.{numbers-append}
 use Rattle.bfs_dups_add.specs.Rooms.{IsRoom}
 
 -- the pages in front of this one haven't the number, and this one and those behind it are the rest of the chain
@@ -17,10 +18,6 @@ pub record IsScanned (b xs : List ℕ) (number room at : ℕ) : Type 0 where
   pub chain : Chained b at (at ∷ back)
   pub good : AreDuplicates b (at ∷ back)
   pub room_is : (room ≡ 0) ⊎ ((1 ≤ times room front) × (page_count (page_in b room) < 125))
-
-pub numbers-append : (b xs ys : List ℕ) → numbers_of_pages b (xs ++ ys) ≡ numbers_of_pages b xs ++ numbers_of_pages b ys
-numbers-append b [] ys = refl
-numbers-append b (x ∷ xs) ys = ap (λ z. page_numbers (page_in b x) ++ z) (numbers-append b xs ys) ∙ sym (append_assoc (page_numbers (page_in b x)) (numbers_of_pages b xs) (numbers_of_pages b ys))
 
 pub scanned-first : (b xs : List ℕ) (number first : ℕ) → 1 ≤ first → Chained b first xs → AreDuplicates b xs → IsScanned b xs number 0 first
 scanned-first b [] number first some c d = absurd (omega (arith, some, c))
@@ -119,7 +116,3 @@ noted-room b xs number room at now count page old new s r c (inr h) =
 pub roomy-next : (P : ℕ → List ℕ → Type 0) (room at now count : ℕ) (page old new : List ℕ) → ((now ≡ room) × (new ≡ old)) ⊎ ((now ≡ at) × (count < 125) × (new ≡ page)) → (room ≢ 0 → P room old) → (count < 125 → P at page) → now ≢ 0 → P now new
 roomy-next P room at now count page old new (inl h) kept this n = subst (λ r. P r new) (sym h.0) (subst (P room) (sym h.1) (kept (λ z. n (h.0 ∙ z))))
 roomy-next P room at now count page old new (inr h) kept this n = subst (λ r. P r new) (sym h.0) (subst (P at) (sym h.2) (this h.1))
-
-pub link-child : (size x : ℕ) → IsLink size x → x ≢ 0 → IsChild size x
-link-child size x (inl z) n = absurd (n z)
-link-child size x (inr p) n = p

@@ -16,13 +16,11 @@ ghost use Rattle.bfs_values.specs.Formed.{IsFormed};
 ghost use Rattle.bfs_values.specs.Named.{IsNamedIn, IsCrowded};
 ghost use Rattle.bfs_values.specs.Stored.{Stored, IsRevalued, IsScant, with_number};
 
-use crate::links::{chain_value, fragment_value};
-use crate::lists::find_number;
 use crate::making::{page_of_fragment, page_of_pair, set_pair, widen_fragment};
-use crate::paging::{put_page, read_page};
+use crate::paging::put_page;
 use crate::scan::scan_chain;
 use crate::steps::{extend, raise, widen};
-use crate::vacant::find_vacant;
+use bfs_dups::{chain_value, find_number, find_vacant, fragment_value, read_page};
 use bfs_node::{KeyKind, PAGE, PageKind, TreeFault};
 use bfs_pages::{is_child, write_page};
 use bfs_txn::{Pages, Steps};

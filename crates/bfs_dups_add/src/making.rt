@@ -1,24 +1,14 @@
 // Makes the pages that values reach, and changes them: fragments, and duplicate pages.
-ghost use Rattle.std.specs.Prelude.{◌≡◌, ◌≤◌, ◌<◌, ◌+◌, ◌-◌, ◌*◌, ◌^◌, ◌++◌, ◌∷◌, [], ℕ, length};
+ghost use Rattle.std.specs.Prelude.{◌≡◌, ◌≤◌, ◌<◌, ◌+◌, ◌-◌, ◌*◌, ◌^◌, ◌++◌, ◌∷◌, [], length};
 ghost use Rattle.bfs_base.specs.Lists.{times};
 ghost use Rattle.bfs_pages.specs.Trees.{neighbours_in};
-ghost use Rattle.bfs_values.specs.Values.{IsFragment, fragment_count, fragment_numbers, IsDuplicates, page_count, page_numbers, numbers_from, placed};
-ghost use Rattle.bfs_dups_add.specs.Slots.{SameBut};
-ghost use Rattle.bfs_dups_add.specs.Written.{IsLone, IsLast};
+ghost use Rattle.bfs_values.specs.Values.{IsFragment, fragment_count, fragment_numbers, page_count, page_numbers, numbers_from, placed};
+ghost use Rattle.bfs_dups.specs.Slots.{SameBut};
+ghost use Rattle.bfs_dups.specs.Written.{IsLone};
+ghost use Rattle.bfs_dups_add.specs.Written.{IsLast};
 
-use crate::lists::{insert_number, put_number};
+use bfs_dups::{free_all, insert_number, put_number};
 use bfs_node::PAGE;
-
-/// Frees all fragments of a page.
-pub fn free_all(page: &mut [u8])
-    requires page { length page.old ≡ 1024 }
-    ensures free { (j : ℕ) → j < 16 → fragment_count page.new j ≡ 0 }
-    ensures length { length page.new ≡ 1024 }
-{
-    for i in 0..16usize {
-        put_number(page, 64 * i, 0);
-    }
-}
 
 /// Writes two different numbers into a fragment of a page.
 pub fn set_pair(page: &mut [u8], index: u64, a: u64, b: u64)
@@ -94,24 +84,6 @@ pub fn page_of_number(left: u64, number: u64, page: &mut [u8])
     put_number(page, 8, u64::MAX);
     put_number(page, 16, 1);
     put_number(page, 24, number);
-}
-
-/// Adds a number to a duplicate page, before the place where it belongs.
-pub fn widen_page(page: &mut [u8], i: usize, number: u64)
-    requires page { length page.old ≡ 1024 }
-    requires good { IsDuplicates page.old }
-    requires room { page_count page.old < 125 }
-    requires inside { i ≤ page_count page.old }
-    requires place { placed number (page_numbers page.old) ≡ numbers_from page.old 24 i ++ (number ∷ numbers_from page.old (24 + 8 * i) (page_count page.old - i)) }
-    requires absent { times number (page_numbers page.old) ≡ 0 }
-    ensures good { IsDuplicates page.new }
-    ensures numbers { page_numbers page.new ≡ placed number (page_numbers page.old) }
-    ensures links { neighbours_in page.new ≡ neighbours_in page.old }
-    ensures length { length page.new ≡ 1024 }
-{
-    let mut old = [0u8; PAGE];
-    old.copy_from_slice(page);
-    insert_number(&old, 16, page, 16, (i, number));
 }
 
 /// Writes the right link of a duplicate page.

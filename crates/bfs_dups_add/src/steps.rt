@@ -11,11 +11,12 @@ ghost use Rattle.bfs_node.specs.Page.{Row};
 ghost use Rattle.bfs_values.specs.Links.{link_in};
 ghost use Rattle.bfs_values.specs.declared.link.Link.TheVariants.{Fragment};
 ghost use Rattle.bfs_values.specs.Stored.{Stored, IsScant};
-ghost use Rattle.bfs_dups_add.specs.Written.{IsPut, IsVacated, IsWidened, IsExtended};
+ghost use Rattle.bfs_dups.specs.Written.{IsVacated};
+ghost use Rattle.bfs_dups_add.specs.Written.{IsPut, IsWidened, IsExtended};
 
-use crate::lists::find_number;
-use crate::making::{page_of_number, set_next, widen_page};
-use crate::paging::{put_page, vacate};
+use crate::making::{page_of_number, set_next};
+use crate::paging::put_page;
+use bfs_dups::{find_number, vacate, widen_page};
 use bfs_node::{KeyKind, PAGE, TreeFault};
 use bfs_pages::write_page;
 use bfs_txn::{Pages, Steps};

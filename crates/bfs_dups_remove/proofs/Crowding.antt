@@ -16,9 +16,9 @@ use Rattle.bfs_values.specs.Links.{link_in}
 use Rattle.bfs_values.specs.Values.{fragment_count, HasValues}
 use Rattle.bfs_values.specs.Named.{IsNamedIn, IsCrowded}
 use Rattle.bfs_values.specs.Stored.{Stored}
-use Rattle.bfs_dups_add.proofs.Answered.{named-rest}
+use Rattle.bfs_dups.proofs.Answered.{named-rest}
 use Rattle.bfs_values.proofs.Opened.{own, named-split}
-use Rattle.bfs_dups_add.proofs.Slotted.{decide, unnamed}
+use Rattle.bfs_dups.proofs.Slotted.{decide, unnamed}
 
 -- a leaf of a tree that stands in two streams has one list of rows
 mutual

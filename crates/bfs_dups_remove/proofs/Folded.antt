@@ -13,7 +13,7 @@ use Rattle.bfs_values.specs.Links.{link_in}
 use Rattle.bfs_values.specs.Values.{IsDuplicates, page_numbers, next_of, chain_of, numbers_of_pages, AreDuplicates, in_order, placed, HasNumbers, numbers_in, values_in}
 use Rattle.bfs_values.specs.Chained.{Chained}
 use Rattle.bfs_values.specs.Stored.{Stored, SameNumbers, IsRevalued}
-use Rattle.bfs_dups_add.proofs.Ordered.{with-order, order-times}
+use Rattle.bfs_dups.proofs.Ordered.{with-order, order-times}
 use Rattle.bfs_dups_remove.proofs.Lesser.{IsSecond, chain-there, link-on}
 use Rattle.bfs_dups_remove.proofs.Passed.{good-at}
 use Rattle.bfs_dups_remove.proofs.Without.{order-inner}

@@ -13,11 +13,11 @@ use Rattle.bfs_values.specs.Links.{link_in}
 use Rattle.bfs_values.specs.Values.{numbers_from, page_count, page_numbers, chain_of, numbers_of_pages, AreDuplicates, in_order, HasNumbers, numbers_in, values_in}
 use Rattle.bfs_values.specs.Formed.{AreFew, IsFormed}
 use Rattle.bfs_values.specs.Stored.{Stored}
-use Rattle.bfs_dups_add.proofs.Answered.{linked-open}
-use Rattle.bfs_dups_add.proofs.Holding.{reached-once}
-use Rattle.bfs_dups_add.proofs.Moved.{length-numbers}
+use Rattle.bfs_dups.proofs.Answered.{linked-open}
+use Rattle.bfs_dups.proofs.Holding.{reached-once}
+use Rattle.bfs_dups.proofs.Moved.{length-numbers}
 use Rattle.bfs_values.proofs.Opened.{pages_of}
-use Rattle.bfs_dups_add.proofs.Slotted.{decide, eq_no}
+use Rattle.bfs_dups.proofs.Slotted.{decide, eq_no}
 use Rattle.bfs_dups_remove.specs.Shortened.{IsRenumbered, IsPassed, IsFolded}
 use Rattle.bfs_dups_remove.proofs.Folded.{the-first}
 use Rattle.bfs_dups_remove.proofs.Lesser.{IsSecond, length-order, length-more}

@@ -18,12 +18,12 @@ use Rattle.bfs_values.specs.Links.{link_in, link_by}
 use Rattle.bfs_values.specs.Values.{IsDuplicates, page_count, page_numbers, next_of, chain_of, numbers_of_pages, AreDuplicates, in_order, HasNumbers, numbers_in, HasValues, values_in, is_ascending, numbers_from, fragment_count}
 use Rattle.bfs_values.specs.Chained.{Chained}
 use Rattle.bfs_values.specs.Stored.{Stored, SameNumbers, IsRevalued}
-use Rattle.bfs_dups_add.proofs.Answered.{revalued, linked-open, chain-facts}
+use Rattle.bfs_dups.proofs.Answered.{revalued, linked-open, chain-facts}
 use Rattle.bfs_values.proofs.Chaining.{chain-is}
-use Rattle.bfs_dups_add.proofs.Moved.{length-numbers}
+use Rattle.bfs_dups.proofs.Moved.{length-numbers}
 use Rattle.bfs_values.proofs.Opened.{Open, closed, all-but}
-use Rattle.bfs_dups_add.proofs.Ordered.{With, with-front, with-back}
-use Rattle.bfs_dups_add.proofs.Slotted.{decide, eq_no}
+use Rattle.bfs_dups.proofs.Ordered.{With, with-front, with-back}
+use Rattle.bfs_dups.proofs.Slotted.{decide, eq_no}
 use Rattle.bfs_dups_remove.specs.Lessened.{without_number, IsLessened}
 use Rattle.bfs_dups_remove.specs.Shortened.{IsBehind, IsLocated, IsRenumbered, IsPassed}
 use Rattle.bfs_dups_remove.proofs.Merged.{length-placed}

@@ -5,8 +5,8 @@ use Rattle.bfs_bytes.specs.Fields.{unsigned_at}
 use Rattle.bfs_pages.proofs.Splice.{self, times-append}
 use Rattle.bfs_values.specs.Values.{numbers_from, placed, in_order, page_count, page_numbers}
 use Rattle.bfs_values.proofs.Stacked.{from-first}
-use Rattle.bfs_dups_add.proofs.Moved.{numbers-from, length-numbers}
-use Rattle.bfs_dups_add.proofs.Ordered.{order-times}
+use Rattle.bfs_dups.proofs.Moved.{numbers-from, length-numbers}
+use Rattle.bfs_dups.proofs.Ordered.{order-times}
 
 pub length-placed : (x : ℕ) (ys : List ℕ) → length (placed x ys) ≡ suc (length ys)
 length-placed x [] = refl

@@ -12,11 +12,11 @@ use Rattle.bfs_values.specs.Values.{IsDuplicates, page_numbers, next_of, EndsAft
 use Rattle.bfs_values.specs.Chained.{Chained}
 use Rattle.bfs_values.specs.Stored.{SameNumbers}
 use Rattle.bfs_values.proofs.Chaining.{chain-is, chained-ends, numbers-kept, child-more}
-use Rattle.bfs_dups_add.proofs.Holding.{set, give, reached-once}
-use Rattle.bfs_dups_add.proofs.Lengthened.{relinked}
+use Rattle.bfs_dups.proofs.Holding.{set, give, reached-once}
+use Rattle.bfs_dups.proofs.Relinked.{relinked}
 use Rattle.bfs_values.proofs.Opened.{exchange, pages_of, Open}
-use Rattle.bfs_dups_add.proofs.Scanning.{numbers-append}
-use Rattle.bfs_dups_add.proofs.Slotted.{decide, eq_no}
+use Rattle.bfs_dups.proofs.Scanning.{numbers-append}
+use Rattle.bfs_dups.proofs.Slotted.{decide, eq_no}
 use Rattle.bfs_dups_remove.specs.Shortened.{IsRenumbered, IsPassed}
 
 eq_true : (a d : ℕ) → a ≡ d → (a == d) ≡ true

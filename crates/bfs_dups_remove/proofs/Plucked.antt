@@ -11,10 +11,10 @@ use Rattle.bfs_values.specs.declared.link.Link.TheVariants.{Number, Fragment}
 use Rattle.bfs_values.specs.Links.{link_in}
 use Rattle.bfs_values.specs.Values.{fragment_numbers, numbers_in, values_in}
 use Rattle.bfs_values.specs.Stored.{Stored, IsRevalued}
-use Rattle.bfs_dups_add.specs.Written.{IsVacated, IsFilled}
-use Rattle.bfs_dups_add.proofs.Answered.{revalued, linked-open}
-use Rattle.bfs_dups_add.proofs.Composed.{vacated}
-use Rattle.bfs_dups_add.proofs.Slotted.{refilled}
+use Rattle.bfs_dups.specs.Written.{IsVacated, IsFilled}
+use Rattle.bfs_dups.proofs.Answered.{revalued, linked-open}
+use Rattle.bfs_dups.proofs.Composed.{vacated}
+use Rattle.bfs_dups.proofs.Slotted.{refilled}
 use Rattle.bfs_dups_remove.specs.Lessened.{without_number, IsLessened}
 use Rattle.bfs_dups_remove.proofs.Folded.{unchanged-row}
 use Rattle.bfs_dups_remove.proofs.Lesser.{find-in, lessened-none, lessened-some, means-also}

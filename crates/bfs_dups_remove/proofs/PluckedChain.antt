@@ -11,8 +11,8 @@ use Rattle.bfs_values.specs.declared.link.Link.TheVariants.{Chain}
 use Rattle.bfs_values.specs.Links.{link_in}
 use Rattle.bfs_values.specs.Values.{page_numbers, chain_of, numbers_of_pages, numbers_in, values_in}
 use Rattle.bfs_values.specs.Stored.{IsRevalued}
-use Rattle.bfs_dups_add.proofs.Answered.{ChainFacts}
-use Rattle.bfs_dups_add.proofs.Ordered.{order-times}
+use Rattle.bfs_dups.proofs.Answered.{ChainFacts}
+use Rattle.bfs_dups.proofs.Ordered.{order-times}
 use Rattle.bfs_dups_remove.specs.Lessened.{IsLessened}
 use Rattle.bfs_dups_remove.specs.Shortened.{IsLocated}
 use Rattle.bfs_dups_remove.proofs.Lesser.{lessened-some, revalued-twice}

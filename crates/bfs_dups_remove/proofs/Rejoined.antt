@@ -15,9 +15,9 @@ use Rattle.bfs_values.specs.Chained.{Chained, IsLinked}
 use Rattle.bfs_values.specs.Stored.{Stored}
 use Rattle.bfs_values.proofs.Beside.{both-sides, pair-of, links_in, chain-small, Closer, linked-past}
 use Rattle.bfs_values.proofs.Chaining.{chain-is}
-use Rattle.bfs_dups_add.proofs.Answered.{linked-numbers}
-use Rattle.bfs_dups_add.proofs.Composed.{first-small}
-use Rattle.bfs_dups_add.proofs.Slotted.{decide, eq_no}
+use Rattle.bfs_dups.proofs.Answered.{linked-numbers}
+use Rattle.bfs_dups.proofs.Composed.{first-small}
+use Rattle.bfs_dups.proofs.Slotted.{decide, eq_no}
 use Rattle.bfs_dups_remove.specs.Shortened.{IsRenumbered}
 use Rattle.bfs_dups_remove.proofs.Lesser.{stored-row, chain-there, tail-chain}
 use Rattle.bfs_dups_remove.proofs.Passed.{IsPast, chained-same, not-equal}

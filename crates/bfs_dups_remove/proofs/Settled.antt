@@ -16,14 +16,14 @@ use Rattle.bfs_values.specs.Links.{link_in}
 use Rattle.bfs_values.specs.Values.{IsFragment, fragment_count, fragment_numbers, page_numbers, chain_of, numbers_of_pages, in_order, HasNumbers, HasValues, numbers_in, values_in, IsDuplicates}
 use Rattle.bfs_values.specs.Reached.{times_named}
 use Rattle.bfs_values.specs.Named.{IsNamedIn}
-use Rattle.bfs_dups_add.specs.Slots.{SameBut}
+use Rattle.bfs_dups.specs.Slots.{SameBut}
 use Rattle.bfs_values.specs.Stored.{Stored, SameNumbers, IsRevalued}
-use Rattle.bfs_dups_add.specs.Written.{IsLone, IsFilled}
-use Rattle.bfs_dups_add.proofs.Answered.{revalued, linked-open, named-rest}
-use Rattle.bfs_dups_add.proofs.Holding.{set, reached-child, reached-once}
+use Rattle.bfs_dups.specs.Written.{IsLone, IsFilled}
+use Rattle.bfs_dups.proofs.Answered.{revalued, linked-open, named-rest}
+use Rattle.bfs_dups.proofs.Holding.{set, reached-child, reached-once}
 use Rattle.bfs_values.proofs.Opened.{own, pages_of, Open, Keeps, keep-all, rows-kept}
-use Rattle.bfs_dups_add.proofs.Ordered.{order-up, up-of}
-use Rattle.bfs_dups_add.proofs.Slotted.{decide, eq_no, own-self, own-page, slot-taken}
+use Rattle.bfs_dups.proofs.Ordered.{order-up, up-of}
+use Rattle.bfs_dups.proofs.Slotted.{decide, eq_no, own-self, own-page, slot-taken}
 use Rattle.bfs_dups_remove.proofs.Lesser.{same-numbers-twice, good-in}
 use Rattle.bfs_dups_remove.proofs.Passed.{dropped}
 

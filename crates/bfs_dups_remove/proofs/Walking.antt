@@ -6,7 +6,7 @@ use Rattle.bfs_pages.specs.Trees.{page_in}
 use Rattle.bfs_pages.proofs.Splice.{times-append}
 use Rattle.bfs_values.specs.Values.{page_numbers, next_of, AreDuplicates, numbers_of_pages}
 use Rattle.bfs_values.specs.Chained.{Chained}
-use Rattle.bfs_dups_add.proofs.Scanning.{numbers-append}
+use Rattle.bfs_dups.proofs.Scanning.{numbers-append}
 use Rattle.bfs_dups_remove.specs.Shortened.{IsBehind, IsLocated}
 
 -- the pages in front of this one haven't the number, and this one and those behind it are the rest of the chain

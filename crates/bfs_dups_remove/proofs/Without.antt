@@ -6,8 +6,8 @@ use Rattle.bfs_bytes.specs.Fields.{unsigned_at}
 use Rattle.bfs_pages.proofs.Splice.{times-append}
 use Rattle.bfs_values.specs.Values.{numbers_from, is_ascending, placed, in_order}
 use Rattle.bfs_values.proofs.Stacked.{from-first}
-use Rattle.bfs_dups_add.proofs.Moved.{numbers-from}
-use Rattle.bfs_dups_add.proofs.Ordered.{Up, up-of, of-up, up-once, With, with-placed, with-back, with-times, with-order, order-times}
+use Rattle.bfs_dups.proofs.Moved.{numbers-from}
+use Rattle.bfs_dups.proofs.Ordered.{Up, up-of, of-up, up-once, With, with-placed, with-back, with-times, with-order, order-times}
 use Rattle.bfs_dups_remove.specs.Lessened.{without_number}
 
 eq_is : (a b : ℕ) → (a == b) ≡ true → a ≡ b

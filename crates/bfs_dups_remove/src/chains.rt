@@ -4,7 +4,7 @@ ghost use Rattle.bfs_base.specs.Lists.{times, IsOnce};
 ghost use Rattle.bfs_pages.specs.Trees.{neighbours_in};
 ghost use Rattle.bfs_values.specs.Values.{IsDuplicates, page_count, page_numbers, in_order};
 
-use bfs_dups_add::{copy_numbers, find_number, put_number, widen_page};
+use bfs_dups::{copy_numbers, find_number, put_number, widen_page};
 use bfs_values::number_at;
 
 /// Adds the numbers of a duplicate page to those of another.

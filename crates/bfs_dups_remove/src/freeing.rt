@@ -11,7 +11,7 @@ ghost use Rattle.bfs_values.specs.Values.{IsDuplicates, page_numbers};
 ghost use Rattle.bfs_dups_remove.specs.Shortened.{IsRenumbered, IsPassed};
 
 use crate::chains::{link_past, set_left};
-use bfs_dups_add::read_page;
+use bfs_dups::read_page;
 use bfs_node::{KeyKind, PAGE, TreeFault};
 use bfs_pages::{read_header, write_page};
 use bfs_remove::give_back;

@@ -3,10 +3,10 @@ ghost use Rattle.std.specs.Prelude.{◌≡◌, ◌≤◌, ◌<◌, ◌+◌, ◌*
 ghost use Rattle.bfs_bytes.specs.Fields.{unsigned_at};
 ghost use Rattle.bfs_pages.specs.Trees.{neighbours_in};
 ghost use Rattle.bfs_values.specs.Values.{IsFragment, fragment_count, fragment_numbers, IsDuplicates, page_count, page_numbers, numbers_from};
-ghost use Rattle.bfs_dups_add.specs.Slots.{list_count, SameBut};
+ghost use Rattle.bfs_dups.specs.Slots.{list_count, SameBut};
 ghost use Rattle.bfs_dups_remove.specs.Lessened.{without_number};
 
-use bfs_dups_add::{copy_numbers, remove_number};
+use bfs_dups::{copy_numbers, remove_number};
 use bfs_node::PAGE;
 use bfs_values::number_at;
 

@@ -9,7 +9,7 @@ ghost use Rattle.bfs_values.specs.Values.{IsDuplicates, page_count, page_numbers
 ghost use Rattle.bfs_values.specs.Chained.{Chained};
 ghost use Rattle.bfs_dups_remove.specs.Shortened.{IsLocated};
 
-use bfs_dups_add::look_at;
+use bfs_dups::look_at;
 use bfs_node::{KeyKind, PageKind, TreeFault};
 use bfs_txn::{Pages, Steps};
 use std::sync::ledger::Ledger;

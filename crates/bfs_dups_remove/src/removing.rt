@@ -22,7 +22,7 @@ use crate::locating::locate;
 use crate::settling::settle;
 use crate::shrinking::fold_all;
 use crate::unlinking::lessen;
-use bfs_dups_add::{find_number, number_value, read_page, vacate};
+use bfs_dups::{find_number, number_value, read_page, vacate};
 use bfs_node::{KeyKind, PAGE, PageKind, TreeFault};
 use bfs_pages::{is_child, write_page};
 use bfs_txn::{Pages, Steps};

@@ -20,7 +20,7 @@ ghost use Rattle.bfs_dups_remove.specs.Shortened.{IsFolded};
 
 use crate::freeing::free_page;
 use crate::lessening::{copy_list, lone_number};
-use bfs_dups_add::{Slot, find_vacant, fragment_value, free_all, look_at, number_value};
+use bfs_dups::{Slot, find_vacant, fragment_value, free_all, look_at, number_value};
 use bfs_node::{KeyKind, PAGE, TreeFault};
 use bfs_pages::write_page;
 use bfs_txn::{Pages, Steps};

@@ -17,7 +17,7 @@ ghost use Rattle.bfs_dups_remove.specs.Shortened.{IsFolded};
 
 use crate::chains::absorb;
 use crate::unlinking::{Gone, pass_page};
-use bfs_dups_add::look_at;
+use bfs_dups::look_at;
 use bfs_node::{KeyKind, PAGE, TreeFault};
 use bfs_txn::{Pages, Steps};
 use std::sync::ledger::Ledger;

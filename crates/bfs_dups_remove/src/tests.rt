@@ -1,8 +1,9 @@
-// Numbers added to the keys of one leaf and taken out again, in memory, beside plain tables.
+// Numbers taken out of those of the only key of a leaf, in memory. Byte 1024 is the leaf, and bytes 2048 and 3072 begin the pages
+// of its chain.
 ghost use Rattle.std.specs.Prelude.{◌≡◌, ◌<◌, ◌^◌, length};
 
 use crate::dups_remove;
-use bfs_dups_add::dups_add;
+use bfs_dups::{chain_value, put_number};
 use bfs_node::{
     Header, KeyKind, PAGE, TreeFault, blank, check, has_room, insert_row, row_count, row_value,
 };
@@ -17,8 +18,29 @@ use std::test::Fail;
 /// Where the only leaf of a test's tree begins.
 const LEAF: u64 = 1024;
 
-/// A tree of one leaf with so many keys of one letter, each with a plain number of its own.
-fn make_tree(bytes: &mut Vec<u8>, keys: u8) -> Result<(), AllocError> {
+/// A duplicate page with so many numbers from one on, behind a page and before another.
+fn add_page(
+    bytes: &mut Vec<u8>,
+    left: u64,
+    right: u64,
+    first: u64,
+    count: usize,
+) -> Result<(), AllocError> {
+    let mut page = [0u8; PAGE];
+    put_number(&mut page, 0, left);
+    put_number(&mut page, 8, right);
+    put_number(&mut page, 16, count as u64);
+    for i in 0..count {
+        if i < 125 {
+            put_number(&mut page, 24 + 8 * i, first.wrapping_add(i as u64));
+        }
+    }
+    bytes.extend_from_slice(&page)?;
+    Ok(())
+}
+
+/// A tree of one leaf with one key, whose value names a chain of two pages with the numbers from 0 to 129.
+fn make_tree(bytes: &mut Vec<u8>) -> Result<(), AllocError> {
     let mut page = [0u8; PAGE];
     let header = Header {
         magic: 0x69f6c2e8,
@@ -27,19 +49,17 @@ fn make_tree(bytes: &mut Vec<u8>, keys: u8) -> Result<(), AllocError> {
         data_type: 0,
         root_pointer: 1024,
         free_pointer: -1,
-        maximum_size: 2048,
+        maximum_size: 4096,
     };
     header.print(&mut page);
     bytes.extend_from_slice(&page)?;
     blank(&mut page);
-    for i in 0..keys {
-        if i < 64 && has_room(&page, &[b'A' + i]) {
-            let count = row_count(&page);
-            insert_row(&mut page, count, &[b'A' + i], i as i64);
-        }
+    if has_room(&page, b"A") {
+        insert_row(&mut page, 0, b"A", chain_value(2048));
     }
     bytes.extend_from_slice(&page)?;
-    Ok(())
+    add_page(bytes, u64::MAX, 3072, 0, 125)?;
+    add_page(bytes, 2048, u64::MAX, 125, 5)
 }
 
 /// Whole pages, as a stream.
@@ -49,21 +69,6 @@ fn stream_of(bytes: Vec<u8>) -> Option<MemPages> {
     } else {
         None
     }
-}
-
-fn added<L: Ledger>(
-    pages: &mut MemPages,
-    value: i64,
-    number: u64,
-    ledger: Blank,
-) -> Result<i64, TreeFault<AllocError>>
-    requires number { number < 2 ^ 62 }
-    requires name { ledger.name ≡ L.name }
-    requires parts { ledger.parts ≡ L.parts }
-    requires some { L.parts ≡ 1 }
-{
-    let mut steps = Steps::<L>::begin(ledger);
-    dups_add(pages, KeyKind::Text, LEAF, value, number, &mut steps)
 }
 
 fn meant<L: Ledger>(
@@ -136,21 +141,6 @@ fn writes(pages: &mut MemPages, row: usize, value: i64) -> bool {
     write_value::<Brand>(pages, row, value, Blank::new(1))
 }
 
-/// Adds a number to a row of the leaf.
-fn adds(pages: &mut MemPages, row: usize, number: u64) -> bool {
-    if number >= 1_000_000_000 {
-        return false;
-    }
-    let value = match value_at(pages, row) {
-        Some(value) => value,
-        None => return false,
-    };
-    match added::<Brand>(pages, value, number, Blank::new(1)) {
-        Ok(new) => writes(pages, row, new),
-        Err(_) => false,
-    }
-}
-
 /// Whether a row means the numbers from one on up to another, without a step.
 fn has_all(alloc: Global, pages: &mut MemPages, row: usize, first: u64, last: u64) -> bool {
     let value = match value_at(pages, row) {
@@ -185,38 +175,6 @@ fn form_of(pages: &mut MemPages, row: usize) -> u8 {
         },
         None => 0,
     }
-}
-
-/// Whether a row means the numbers that stand in its part of a table, and no others.
-fn is_table(alloc: Global, pages: &mut MemPages, table: &[bool], row: usize) -> bool {
-    let value = match value_at(pages, row) {
-        Some(value) => value,
-        None => return false,
-    };
-    let found = match meant::<Brand>(alloc, pages, value, Blank::new(1)) {
-        Ok(found) => found,
-        Err(_) => return false,
-    };
-    let numbers = found.as_slice();
-    let mut next = 0;
-    for number in 0..64usize {
-        if row >= 32 || row * 64 + number >= table.len() {
-            return false;
-        }
-        if table[row * 64 + number] {
-            if next >= numbers.len() || numbers[next] != number as u64 {
-                return false;
-            }
-            next += 1;
-        }
-    }
-    next == numbers.len()
-}
-
-/// The next number of a sequence that a seed begins.
-fn next_seed(seed: u64) -> u64 {
-    seed.wrapping_mul(6364136223846793005)
-        .wrapping_add(1442695040888963407)
 }
 
 fn removed<L: Ledger>(
@@ -266,10 +224,8 @@ fn is_last(pages: &mut MemPages, row: usize, number: u64) -> bool {
 
 /// Numbers 0 to 129 of one key, taken out from the greatest down: the form of the value after each, and no page more.
 fn back_to_one(alloc: Global, pages: &mut MemPages) -> bool {
-    for number in 1..130u64 {
-        if !adds(pages, 0, number) {
-            return false;
-        }
+    if form_of(pages, 0) != 3 || !has_all(alloc, pages, 0, 0, 129) {
+        return false;
     }
     for taken in 0..129u64 {
         let number = 129 - taken;
@@ -297,112 +253,9 @@ fn back_to_one(alloc: Global, pages: &mut MemPages) -> bool {
 fn numbers_go_until_one_is_plain(rt: HostRuntime) -> Result<(), Fail> {
     let alloc = rt.alloc();
     let mut bytes = Vec::new(alloc);
-    make_tree(&mut bytes, 1)?;
+    make_tree(&mut bytes)?;
     match stream_of(bytes) {
         Some(mut pages) => assert!(rt; back_to_one(alloc, &mut pages)),
-        None => assert!(rt; false),
-    }
-    Ok(())
-}
-
-/// From eight numbers to seven and back, so often, without a page more.
-fn to_and_fro(alloc: Global, pages: &mut MemPages, times: u64) -> bool {
-    for number in 1..8u64 {
-        if !adds(pages, 0, number) {
-            return false;
-        }
-    }
-    let size = pages.length();
-    for n in 0..times {
-        let number = n % 8;
-        if form_of(pages, 0) != 3 || !takes(pages, 0, number) || form_of(pages, 0) != 2 {
-            return false;
-        }
-        if !adds(pages, 0, number) || !has_all(alloc, pages, 0, 0, 7) || pages.length() != size {
-            return false;
-        }
-    }
-    true
-}
-
-#[test]
-fn a_hundred_times_from_eight_to_seven_takes_no_page(rt: HostRuntime) -> Result<(), Fail> {
-    let alloc = rt.alloc();
-    let mut bytes = Vec::new(alloc);
-    make_tree(&mut bytes, 1)?;
-    match stream_of(bytes) {
-        Some(mut pages) => assert!(rt; to_and_fro(alloc, &mut pages, 100)),
-        None => assert!(rt; false),
-    }
-    Ok(())
-}
-
-/// Whether the part of a table that is a row's has no number but this one.
-fn is_only(table: &[bool], row: usize, number: u64) -> bool {
-    for other in 0..64usize {
-        if row >= 32 || row * 64 + other >= table.len() {
-            return false;
-        }
-        if table[row * 64 + other] && other as u64 != number {
-            return false;
-        }
-    }
-    true
-}
-
-/// So many random additions and removals; after each forty all numbers are read back.
-fn agrees_throughout(alloc: Global, pages: &mut MemPages, table: &mut [bool], calls: u32) -> bool {
-    for row in 0..20usize {
-        if row * 64 + row >= table.len() {
-            return false;
-        }
-        table[row * 64 + row] = true;
-    }
-    let mut seed = 11;
-    for n in 0..calls {
-        seed = next_seed(seed);
-        let row = ((seed >> 33) % 20) as usize;
-        let number = (seed >> 50) % 64;
-        let at = row * 64 + number as usize;
-        if at >= table.len() {
-            return false;
-        }
-        let good = if (seed >> 40) % 2 == (n as u64 / 600) % 2 {
-            table[at] = true;
-            adds(pages, row, number)
-        } else if table[at] && is_only(table, row, number) {
-            is_last(pages, row, number)
-        } else {
-            table[at] = false;
-            takes(pages, row, number)
-        };
-        if !good {
-            return false;
-        }
-        if n % 40 == 0 {
-            for row in 0..20usize {
-                if !is_table(alloc, pages, table, row) {
-                    return false;
-                }
-            }
-        }
-    }
-    for row in 0..20usize {
-        if !is_table(alloc, pages, table, row) {
-            return false;
-        }
-    }
-    true
-}
-
-#[test]
-fn random_calls_leave_the_numbers_of_a_table(rt: HostRuntime) -> Result<(), Fail> {
-    let alloc = rt.alloc();
-    let mut bytes = Vec::new(alloc);
-    make_tree(&mut bytes, 20)?;
-    let mut table = vec![in alloc; false; 1280]?;
-    match stream_of(bytes) {
-        Some(mut pages) => assert!(rt; agrees_throughout(alloc, &mut pages, &mut table, 2400)),
         None => assert!(rt; false),
     }
     Ok(())

@@ -21,7 +21,7 @@ use crate::chains::take_numbers;
 use crate::freeing::{free_page, mend_left, pass_by};
 use crate::lessening::narrow_page;
 use crate::locating::Located;
-use bfs_dups_add::{find_number, look_at, read_page};
+use bfs_dups::{find_number, look_at, read_page};
 use bfs_node::{KeyKind, PAGE, TreeFault};
 use bfs_pages::write_page;
 use bfs_txn::{Pages, Steps};

@@ -12,7 +12,7 @@ use Rattle.bfs_values.specs.Reached.{pairs_of}
 use Rattle.bfs_values.specs.Stored.{SameNumbers, with_number}
 use Rattle.bfs_values.specs.Values.{values_in, placed}
 use Rattle.bfs_values.proofs.ValuedRows.{keyed}
-use Rattle.bfs_dups_add.proofs.Ordered.{with-placed, with-times}
+use Rattle.bfs_dups.proofs.Ordered.{with-placed, with-times}
 use Rattle.bfs_dups_remove.specs.Lessened.{without_number}
 
 pub contains_in : {A : Type 0} (xs : List A) (x : A) → Contains xs x → In x xs

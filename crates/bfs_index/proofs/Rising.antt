@@ -27,7 +27,7 @@ use Rattle.bfs_values.specs.Rows.{rows_in}
 use Rattle.bfs_values.specs.Values.{in_order, HasNumbers, numbers_in, values_in}
 use Rattle.bfs_values.proofs.RowLists.{rows-up}
 use Rattle.bfs_values.proofs.Rows.{rows_those}
-use Rattle.bfs_dups_add.proofs.Ordered.{Up, up-of, placed-up, order-times}
+use Rattle.bfs_dups.proofs.Ordered.{Up, up-of, placed-up, order-times}
 use Rattle.bfs_index.specs.Indices.{pairs_in, HasWith, HasWithout}
 use Rattle.bfs_index.proofs.PairLists.{contains_in, in_contains, in_cases, in_row, pairs_by}
 

@@ -17,7 +17,8 @@ ghost use Rattle.bfs_maps.specs.NumberTrees.{IsTold};
 ghost use Rattle.bfs_index.specs.Indices.{HasWith};
 ghost use Rattle.bfs_index.specs.Refused.{IsUnpaired};
 
-use bfs_dups_add::{dups_add, number_value};
+use bfs_dups::number_value;
+use bfs_dups_add::dups_add;
 use bfs_insert::insert;
 use bfs_node::{KeyKind, PAGE, PageKind, TreeFault, row_value, search};
 use bfs_pages::{Found, leaf_for};

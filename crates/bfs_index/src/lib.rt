@@ -14,4 +14,6 @@ pub use index::Index;
 pub use laws::{added_is_written, pairs_ascend, taken_is_written, written_is_unique};
 
 #[cfg(test)]
+mod number_tests;
+#[cfg(test)]
 mod tests;

@@ -9,9 +9,10 @@ use Rattle.bfs_values.specs.Values.{IsDuplicates, page_count, page_numbers, numb
 use Rattle.bfs_dups_add.specs.Rooms.{IsRoom}
 use Rattle.bfs_values.specs.Stored.{with_number}
 use Rattle.bfs_dups_add.specs.declared.scan.Room.{Room}
-use Rattle.bfs_dups_add.proofs.Answered.{match-none, match-some, with-new, unchanged, revalued, linked-open, chain-facts, chain-times, linked-numbers, room-there}
+use Rattle.bfs_dups.proofs.Answered.{match-none, match-some, revalued, linked-open, chain-facts, chain-times, linked-numbers}
+use Rattle.bfs_dups_add.proofs.Answered.{with-new, unchanged, room-there}
 use Rattle.bfs_dups_add.proofs.Causes.{pages-scant}
-use Rattle.bfs_dups_add.proofs.Composed.{told-whole, told-some, linked-row, first-small}
+use Rattle.bfs_dups.proofs.Composed.{told-whole, told-some, linked-row, first-small}
 use Rattle.bfs_dups_add.proofs.Lengthened.{widened, extended}
 use Rattle.bfs_dups_add.proofs.Forms.{formed-chain}
 use Rattle.bfs_values.specs.Chained.{IsLinked}

@@ -6,12 +6,14 @@ use Rattle.bfs_values.specs.Kinds.{IsValueOf}
 use Rattle.bfs_values.specs.declared.link.Link.TheVariants.{Fragment, Chain}
 use Rattle.bfs_values.specs.Links.{link_in}
 use Rattle.bfs_values.specs.Values.{IsFragment, fragment_count, fragment_numbers, numbers_from, is_ascending, numbers_in, placed, values_in}
-use Rattle.bfs_dups_add.specs.Slots.{SameBut}
+use Rattle.bfs_dups.specs.Slots.{SameBut}
 use Rattle.bfs_values.specs.Stored.{with_number}
-use Rattle.bfs_dups_add.specs.Written.{IsFilled, IsLast}
-use Rattle.bfs_dups_add.proofs.Answered.{with-new, unchanged, revalued, linked-open, fragment-cut, eighth, vacated-whole, eighth-linked}
-use Rattle.bfs_dups_add.proofs.Composed.{told-whole, told-some, some-any, linked-row}
-use Rattle.bfs_dups_add.proofs.Slotted.{refilled}
+use Rattle.bfs_dups.specs.Written.{IsFilled}
+use Rattle.bfs_dups_add.specs.Written.{IsLast}
+use Rattle.bfs_dups_add.proofs.Answered.{with-new, unchanged, eighth, eighth-linked}
+use Rattle.bfs_dups.proofs.Answered.{revalued, linked-open, fragment-cut, vacated-whole}
+use Rattle.bfs_dups.proofs.Composed.{told-whole, told-some, some-any, linked-row}
+use Rattle.bfs_dups.proofs.Slotted.{refilled}
 use Rattle.bfs_dups_add.proofs.Forms.{formed-same, formed-more, formed-eighth}
 use Rattle.bfs_values.specs.Chained.{IsLinked}
 use Rattle.bfs_dups_add.proofs.adding.add_to_fragment.Goals as goal

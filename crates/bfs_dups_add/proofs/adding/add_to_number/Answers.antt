@@ -9,15 +9,16 @@ use Rattle.bfs_values.specs.declared.link.Link.TheVariants.{Number, Fragment}
 use Rattle.bfs_values.specs.Links.{link_in}
 use Rattle.bfs_values.specs.Values.{fragment_count, numbers_in, values_in}
 use Rattle.bfs_values.specs.Named.{IsNamedIn, IsCrowded}
-use Rattle.bfs_dups_add.specs.Slots.{SameBut}
+use Rattle.bfs_dups.specs.Slots.{SameBut}
 use Rattle.bfs_values.specs.Stored.{with_number}
-use Rattle.bfs_dups_add.specs.Written.{IsFilled}
-use Rattle.bfs_dups_add.specs.declared.vacant.Slot.{Slot}
-use Rattle.bfs_dups_add.proofs.Answered.{with-new, unchanged, revalued, linked-open, named-other, pair-new}
+use Rattle.bfs_dups.specs.Written.{IsFilled}
+use Rattle.bfs_dups.specs.declared.vacant.Slot.{Slot}
+use Rattle.bfs_dups_add.proofs.Answered.{with-new, unchanged, named-other}
+use Rattle.bfs_dups.proofs.Answered.{revalued, linked-open, pair-new}
 use Rattle.bfs_dups_add.proofs.Causes.{pages-scant}
-use Rattle.bfs_dups_add.proofs.Composed.{told-whole, linked-row}
+use Rattle.bfs_dups.proofs.Composed.{told-whole, linked-row}
 use Rattle.bfs_dups_add.proofs.Gained.{gained}
-use Rattle.bfs_dups_add.proofs.Slotted.{slot-taken}
+use Rattle.bfs_dups.proofs.Slotted.{slot-taken}
 use Rattle.bfs_dups_add.proofs.Forms.{formed-pair}
 use Rattle.bfs_dups_add.proofs.adding.add_to_number.Goals as goal
 

@@ -8,9 +8,9 @@ use Rattle.bfs_values.specs.declared.link.Link.TheVariants.{Fragment, Chain, Not
 use Rattle.bfs_values.specs.Links.{link_in}
 use Rattle.bfs_values.specs.Values.{values_in}
 use Rattle.bfs_values.specs.Stored.{Stored, IsRevalued, with_number}
-use Rattle.bfs_dups_add.proofs.Answered.{linked-open, leaf-cut}
-use Rattle.bfs_dups_add.proofs.Crowding.{same-number}
-use Rattle.bfs_dups_add.proofs.Composed.{some-any}
+use Rattle.bfs_dups.proofs.Answered.{linked-open, leaf-cut}
+use Rattle.bfs_dups.proofs.Crowding.{same-number}
+use Rattle.bfs_dups.proofs.Composed.{some-any}
 use Rattle.bfs_values.specs.Chained.{IsLinked}
 use Rattle.bfs_dups_add.proofs.adding.dups_add.Goals as goal
 

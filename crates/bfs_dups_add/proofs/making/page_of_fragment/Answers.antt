@@ -1,8 +1,8 @@
 use Rattle.std.proofs.Common.{◌+◌, inl, sym, ◌∙◌, arith}
 use Rattle.bfs_values.specs.Values.{fragment_count, fragment_numbers, placed}
-use Rattle.bfs_dups_add.proofs.Linked.{right-none, left-none}
-use Rattle.bfs_dups_add.proofs.Ordered.{placed-ascends}
-use Rattle.bfs_dups_add.proofs.Pages.{paged}
+use Rattle.bfs_dups.proofs.Linked.{right-none, left-none}
+use Rattle.bfs_dups.proofs.Ordered.{placed-ascends}
+use Rattle.bfs_dups.proofs.Pages.{paged}
 use Rattle.bfs_dups_add.proofs.making.page_of_fragment.Goals as goal
 
 pub returns-clause-page : goal.returns-clause-page

@@ -1,6 +1,6 @@
 use Rattle.std.proofs.Common.{ℕ, [], ◌∷◌, inl, refl, ap, ◌∙◌, arith}
-use Rattle.bfs_dups_add.proofs.Linked.{right-none, left-some}
-use Rattle.bfs_dups_add.proofs.Pages.{paged}
+use Rattle.bfs_dups.proofs.Linked.{right-none, left-some}
+use Rattle.bfs_dups.proofs.Pages.{paged}
 use Rattle.bfs_dups_add.proofs.making.page_of_number.Goals as goal
 
 pub returns-clause-page : goal.returns-clause-page

@@ -1,5 +1,5 @@
 use Rattle.std.proofs.Common.{◌∙◌}
-use Rattle.bfs_dups_add.proofs.Pages.{other-count}
+use Rattle.bfs_dups.proofs.Pages.{other-count}
 use Rattle.bfs_dups_add.proofs.making.page_of_pair.Goals as goal
 
 pub returns-clause-page : goal.returns-clause-page

@@ -1,7 +1,7 @@
 use Rattle.std.proofs.Common.{◌≡◌, ◌+◌, ◌*◌, ◌-◌, ◌++◌, ◌∷◌, ℕ, List, ap, subst, sym, ◌∙◌, arith}
 use Rattle.bfs_values.specs.Values.{fragment_count, fragment_numbers, numbers_from, placed}
-use Rattle.bfs_dups_add.proofs.Ordered.{placed-ascends}
-use Rattle.bfs_dups_add.proofs.Pages.{filled}
+use Rattle.bfs_dups.proofs.Ordered.{placed-ascends}
+use Rattle.bfs_dups.proofs.Pages.{filled}
 use Rattle.bfs_dups_add.proofs.making.widen_fragment.Goals as goal
 
 pub returns-clause-good : goal.returns-clause-good

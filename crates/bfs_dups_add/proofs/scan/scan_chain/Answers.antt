@@ -10,7 +10,8 @@ use Rattle.bfs_values.proofs.Chains.{first-page, last-page}
 use Rattle.bfs_values.proofs.Ending.{ends-soon}
 use Rattle.bfs_values.proofs.Lasting.{none-cut}
 use Rattle.bfs_values.proofs.Chaining.{chained-ends}
-use Rattle.bfs_dups_add.proofs.Scanning.{scanned-first, scanned-there, scanned-last, scanned-next, scanned-link, noted-room, roomy-next, link-child}
+use Rattle.bfs_dups_add.proofs.Scanning.{scanned-first, scanned-there, scanned-last, scanned-next, scanned-link, noted-room, roomy-next}
+use Rattle.bfs_dups.proofs.Scanning.{link-child}
 use Rattle.bfs_dups_add.proofs.scan.scan_chain.Goals as goal
 
 pub loop-seen-init : goal.loop-seen-init

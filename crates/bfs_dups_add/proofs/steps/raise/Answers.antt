@@ -1,5 +1,5 @@
 use Rattle.bfs_dups_add.proofs.Causes.{pages-scant}
-use Rattle.bfs_dups_add.proofs.Composed.{told-whole, vacated}
+use Rattle.bfs_dups.proofs.Composed.{told-whole, vacated}
 use Rattle.bfs_dups_add.proofs.steps.raise.Goals as goal
 
 pub returns-in-Err-clause-raised : goal.returns-in-Err-clause-raised

@@ -1,7 +1,7 @@
 use Rattle.std.proofs.Common.{◌≡◌, ◌≤◌, ◌+◌, ◌*◌, ◌-◌, ◌++◌, ℕ, suc, List, refl, ap, sym, subst, ◌∙◌, arith}
 use Rattle.bfs_base.specs.Lists.{times}
 use Rattle.bfs_values.specs.Values.{page_count, page_numbers, numbers_from, is_ascending, in_order}
-use Rattle.bfs_dups_add.proofs.Ordered.{order-up, up-of}
+use Rattle.bfs_dups.proofs.Ordered.{order-up, up-of}
 use Rattle.bfs_dups_remove.proofs.Merged.{count-more, merged-next, merged-twice}
 use Rattle.bfs_dups_remove.proofs.chains.absorb.Goals as goal
 

@@ -1,7 +1,7 @@
 use Rattle.std.proofs.Common.{inl, inr, ◌+◌, ap, ◌∙◌, arith}
 use Rattle.bfs_values.specs.Values.{page_count, numbers_from}
-use Rattle.bfs_dups_add.proofs.Linked.{left-same}
-use Rattle.bfs_dups_add.proofs.Moved.{kept-numbers}
+use Rattle.bfs_dups.proofs.Linked.{left-same}
+use Rattle.bfs_dups.proofs.Moved.{kept-numbers}
 use Rattle.bfs_dups_remove.proofs.Righted.{right-same}
 use Rattle.bfs_dups_remove.proofs.chains.link_past.Goals as goal
 

@@ -1,5 +1,5 @@
 use Rattle.std.proofs.Common.{inl, arith}
-use Rattle.bfs_dups_add.proofs.Linked.{same-links}
+use Rattle.bfs_dups.proofs.Linked.{same-links}
 use Rattle.bfs_dups_remove.proofs.chains.take_numbers.Goals as goal
 
 pub returns-clause-links : goal.returns-clause-links

@@ -2,7 +2,7 @@ use Rattle.std.proofs.Common.{◌≡◌, List, ℕ, ap, sym, subst, ◌∙◌}
 use Rattle.bfs_pages.specs.Trees.{page_in, neighbours_in}
 use Rattle.bfs_pages.proofs.OfKind.{if_some}
 use Rattle.bfs_values.specs.Values.{IsDuplicates, page_numbers}
-use Rattle.bfs_dups_add.proofs.Composed.{told-some}
+use Rattle.bfs_dups.proofs.Composed.{told-some}
 use Rattle.bfs_dups_remove.proofs.Righted.{still-good, page-here}
 use Rattle.bfs_dups_remove.proofs.freeing.mend_left.Goals as goal
 

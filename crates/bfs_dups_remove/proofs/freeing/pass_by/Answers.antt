@@ -1,8 +1,8 @@
 use Rattle.std.proofs.Common.{List, ℕ, ap, ◌∙◌, ◌≡◌}
 use Rattle.bfs_pages.specs.Trees.{neighbours_in, page_in}
-use Rattle.bfs_dups_add.proofs.Holding.{set}
+use Rattle.bfs_dups.proofs.Holding.{set}
 use Rattle.bfs_dups_remove.proofs.Righted.{still-good, page-here}
-use Rattle.bfs_dups_add.proofs.Composed.{told-some}
+use Rattle.bfs_dups.proofs.Composed.{told-some}
 use Rattle.bfs_dups_remove.proofs.freeing.pass_by.Goals as goal
 
 pub returns-in-Ok-free_page-clause-passed : goal.returns-in-Ok-free_page-clause-passed

@@ -1,7 +1,7 @@
 use Rattle.std.proofs.Common.{◌≡◌, ◌+◌, ◌*◌, ◌-◌, ◌++◌, ℕ, List, refl, ap, subst, sym, ◌∙◌, arith}
 use Rattle.bfs_bytes.specs.Fields.{unsigned_at}
 use Rattle.bfs_values.specs.Values.{fragment_count, fragment_numbers, numbers_from}
-use Rattle.bfs_dups_add.proofs.Pages.{filled}
+use Rattle.bfs_dups.proofs.Pages.{filled}
 use Rattle.bfs_dups_remove.specs.Lessened.{without_number}
 use Rattle.bfs_dups_remove.proofs.Without.{cut-without}
 use Rattle.bfs_dups_remove.proofs.lessening.narrow_fragment.Goals as goal

@@ -1,8 +1,8 @@
 use Rattle.std.proofs.Common.{◌≡◌, ◌+◌, ◌*◌, ◌-◌, ◌++◌, ℕ, List, inl, refl, ap, subst, sym, ◌∙◌, arith}
 use Rattle.bfs_bytes.specs.Fields.{unsigned_at}
 use Rattle.bfs_values.specs.Values.{page_count, page_numbers, numbers_from}
-use Rattle.bfs_dups_add.proofs.Linked.{same-links}
-use Rattle.bfs_dups_add.proofs.Pages.{paged}
+use Rattle.bfs_dups.proofs.Linked.{same-links}
+use Rattle.bfs_dups.proofs.Pages.{paged}
 use Rattle.bfs_dups_remove.specs.Lessened.{without_number}
 use Rattle.bfs_dups_remove.proofs.Without.{cut-without}
 use Rattle.bfs_dups_remove.proofs.lessening.narrow_page.Goals as goal

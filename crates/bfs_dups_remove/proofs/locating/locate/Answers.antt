@@ -10,7 +10,7 @@ use Rattle.bfs_values.proofs.Chains.{first-page, last-page}
 use Rattle.bfs_values.proofs.Ending.{ends-soon}
 use Rattle.bfs_values.proofs.Lasting.{none-cut}
 use Rattle.bfs_values.proofs.Chaining.{chained-ends}
-use Rattle.bfs_dups_add.proofs.Scanning.{link-child}
+use Rattle.bfs_dups.proofs.Scanning.{link-child}
 use Rattle.bfs_dups_remove.proofs.Walking.{walked-first, walked-there, walked-last, walked-next, walked-link, child-some}
 use Rattle.bfs_dups_remove.proofs.locating.locate.Goals as goal
 

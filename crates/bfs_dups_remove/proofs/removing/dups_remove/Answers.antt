@@ -11,8 +11,8 @@ use Rattle.bfs_values.specs.Values.{numbers_in, values_in}
 use Rattle.bfs_values.specs.Formed.{IsFormed}
 use Rattle.bfs_values.specs.Named.{IsNamedIn, IsCrowded}
 use Rattle.bfs_values.specs.Stored.{Stored}
-use Rattle.bfs_dups_add.proofs.Answered.{linked-open, leaf-cut, pair-new}
-use Rattle.bfs_dups_add.proofs.Composed.{told-whole, link-small, page-of, told-some, some-both}
+use Rattle.bfs_dups.proofs.Answered.{linked-open, leaf-cut, pair-new}
+use Rattle.bfs_dups.proofs.Composed.{told-whole, link-small, page-of, told-some, some-both}
 use Rattle.bfs_dups_remove.specs.Lessened.{without_number, IsLessened}
 use Rattle.bfs_dups_remove.proofs.Forms.{never-there}
 use Rattle.bfs_dups_remove.proofs.Plucked.{untouched, plain-gone}

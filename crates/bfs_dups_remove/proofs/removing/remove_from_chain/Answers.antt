@@ -10,8 +10,8 @@ use Rattle.bfs_values.specs.Links.{link_in}
 use Rattle.bfs_values.specs.Values.{IsDuplicates, page_count, page_numbers, numbers_of_pages, HasValues, values_in}
 use Rattle.bfs_values.specs.Formed.{IsFormed}
 use Rattle.bfs_values.specs.Stored.{Stored, IsRevalued}
-use Rattle.bfs_dups_add.proofs.Answered.{match-none, match-some, linked-numbers, chain-facts, chain-times}
-use Rattle.bfs_dups_add.proofs.Composed.{told-whole, told-some, linked-row}
+use Rattle.bfs_dups.proofs.Answered.{match-none, match-some, linked-numbers, chain-facts, chain-times}
+use Rattle.bfs_dups.proofs.Composed.{told-whole, told-some, linked-row}
 use Rattle.bfs_dups_remove.specs.Lessened.{without_number, IsLessened}
 use Rattle.bfs_dups_remove.specs.Shortened.{IsLocated, IsFolded}
 use Rattle.bfs_dups_remove.specs.declared.locating.Located.{Located}

@@ -7,11 +7,11 @@ use Rattle.bfs_values.specs.declared.link.Link.TheVariants.{Fragment, Number}
 use Rattle.bfs_values.specs.Links.{link_in}
 use Rattle.bfs_values.specs.Values.{IsFragment, fragment_count, fragment_numbers, numbers_from, is_ascending, numbers_in, values_in}
 use Rattle.bfs_values.specs.Formed.{AreFew}
-use Rattle.bfs_dups_add.specs.Slots.{SameBut}
-use Rattle.bfs_dups_add.specs.Written.{IsFilled}
-use Rattle.bfs_dups_add.proofs.Answered.{linked-open, fragment-cut, vacated-whole}
-use Rattle.bfs_dups_add.proofs.Composed.{told-whole, linked-row}
-use Rattle.bfs_dups_add.proofs.Moved.{length-numbers}
+use Rattle.bfs_dups.specs.Slots.{SameBut}
+use Rattle.bfs_dups.specs.Written.{IsFilled}
+use Rattle.bfs_dups.proofs.Answered.{linked-open, fragment-cut, vacated-whole}
+use Rattle.bfs_dups.proofs.Composed.{told-whole, linked-row}
+use Rattle.bfs_dups.proofs.Moved.{length-numbers}
 use Rattle.bfs_dups_remove.specs.Lessened.{without_number, IsLessened}
 use Rattle.bfs_dups_remove.proofs.Forms.{never-there, few-numbers, formed-number, formed-fragment}
 use Rattle.bfs_dups_remove.proofs.Lesser.{lessened-some}

@@ -3,8 +3,8 @@ use Rattle.bfs_pages.specs.Answers.{IsChild}
 use Rattle.bfs_remove.proofs.Giving.{told-size}
 use Rattle.bfs_values.specs.Links.{link_in}
 use Rattle.bfs_values.specs.Values.{fragment_count, page_numbers}
-use Rattle.bfs_dups_add.specs.Slots.{SameBut}
-use Rattle.bfs_dups_add.proofs.Composed.{told-whole}
+use Rattle.bfs_dups.specs.Slots.{SameBut}
+use Rattle.bfs_dups.proofs.Composed.{told-whole}
 use Rattle.bfs_dups_remove.proofs.Settled.{moved-row}
 use Rattle.bfs_dups_remove.proofs.settling.move_to_slot.Goals as goal
 

@@ -7,8 +7,8 @@ use Rattle.bfs_values.specs.Values.{page_count, page_numbers, next_of, values_in
 use Rattle.bfs_values.specs.Formed.{IsFormed}
 use Rattle.bfs_values.specs.Named.{IsNamedIn, IsCrowded}
 use Rattle.bfs_values.specs.Stored.{IsRevalued}
-use Rattle.bfs_dups_add.proofs.Answered.{linked-numbers}
-use Rattle.bfs_dups_add.proofs.Composed.{told-whole, page-of, told-some, some-any, linked-row}
+use Rattle.bfs_dups.proofs.Answered.{linked-numbers}
+use Rattle.bfs_dups.proofs.Composed.{told-whole, page-of, told-some, some-any, linked-row}
 use Rattle.bfs_dups_remove.proofs.Folded.{the-first, unchanged-row}
 use Rattle.bfs_dups_remove.proofs.Forms.{formed-pages, formed-full, formed-number, few-numbers, few-count}
 use Rattle.bfs_dups_remove.proofs.Lesser.{stored-row, second, only-page}

@@ -6,10 +6,10 @@ use Rattle.bfs_values.specs.Links.{link_in}
 use Rattle.bfs_values.specs.Values.{fragment_count, page_numbers, values_in}
 use Rattle.bfs_values.specs.Named.{IsNamedIn, IsCrowded}
 use Rattle.bfs_values.specs.Stored.{IsRevalued}
-use Rattle.bfs_dups_add.specs.Written.{IsLone}
-use Rattle.bfs_dups_add.specs.declared.vacant.Slot.{Slot}
-use Rattle.bfs_dups_add.proofs.Composed.{told-whole}
-use Rattle.bfs_dups_add.proofs.Pages.{other-count}
+use Rattle.bfs_dups.specs.Written.{IsLone}
+use Rattle.bfs_dups.specs.declared.vacant.Slot.{Slot}
+use Rattle.bfs_dups.proofs.Composed.{told-whole}
+use Rattle.bfs_dups.proofs.Pages.{other-count}
 use Rattle.bfs_dups_remove.proofs.Settled.{turned-row}
 use Rattle.bfs_dups_remove.proofs.settling.settle_few.Goals as goal
 

@@ -4,8 +4,8 @@ use Rattle.bfs_pages.specs.Trees.{page_in, neighbours_in}
 use Rattle.bfs_pages.proofs.OfKind.{if_some}
 use Rattle.bfs_values.specs.declared.link.Link.TheVariants.{Chain}
 use Rattle.bfs_values.specs.Values.{page_count, page_numbers, next_of, numbers_of_pages, in_order, values_in}
-use Rattle.bfs_dups_add.proofs.Answered.{linked-numbers}
-use Rattle.bfs_dups_add.proofs.Composed.{told-whole, told-some}
+use Rattle.bfs_dups.proofs.Answered.{linked-numbers}
+use Rattle.bfs_dups.proofs.Composed.{told-whole, told-some}
 use Rattle.bfs_dups_remove.proofs.Folded.{the-first, unchanged-row, two-once, folded-once, folded-means}
 use Rattle.bfs_dups_remove.specs.Shortened.{IsFolded}
 use Rattle.bfs_dups_remove.proofs.Forms.{folded-many, absorbed-more}

@@ -4,8 +4,8 @@ use Rattle.bfs_pages.specs.Trees.{page_in, neighbours_in}
 use Rattle.bfs_pages.proofs.OfKind.{if_some}
 use Rattle.bfs_values.specs.declared.link.Link.TheVariants.{Chain}
 use Rattle.bfs_values.specs.Values.{IsDuplicates, page_count, page_numbers, numbers_of_pages, in_order, values_in}
-use Rattle.bfs_dups_add.proofs.Answered.{linked-numbers}
-use Rattle.bfs_dups_add.proofs.Composed.{told-whole}
+use Rattle.bfs_dups.proofs.Answered.{linked-numbers}
+use Rattle.bfs_dups.proofs.Composed.{told-whole}
 use Rattle.bfs_dups_remove.specs.Lessened.{without_number, IsLessened}
 use Rattle.bfs_dups_remove.proofs.Lesser.{stored-row, ahead, ahead-in, lone, without-page, good-in, means-also, lessened-some}
 use Rattle.bfs_dups_remove.proofs.unlinking.leave_page.Goals as goal

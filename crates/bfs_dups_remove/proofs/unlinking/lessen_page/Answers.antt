@@ -2,7 +2,7 @@ use Rattle.std.proofs.Common.{◌≡◌, ◌≤◌, ◌%◌, ℕ, ℤ, List, Som
 use Rattle.bfs_base.specs.Lists.{times}
 use Rattle.bfs_pages.specs.Trees.{page_in, neighbours_in}
 use Rattle.bfs_values.specs.Values.{page_numbers, values_in}
-use Rattle.bfs_dups_add.proofs.Composed.{told-whole, told-some}
+use Rattle.bfs_dups.proofs.Composed.{told-whole, told-some}
 use Rattle.bfs_dups_remove.specs.Lessened.{without_number, IsLessened}
 use Rattle.bfs_dups_remove.specs.Shortened.{IsRenumbered}
 use Rattle.bfs_dups_remove.proofs.Lesser.{narrowed, lessened-some}

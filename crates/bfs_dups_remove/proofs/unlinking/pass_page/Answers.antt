@@ -3,8 +3,8 @@ use Rattle.bfs_base.specs.Lists.{times}
 use Rattle.bfs_pages.specs.Trees.{page_in, neighbours_in}
 use Rattle.bfs_pages.proofs.Splice.{times-append}
 use Rattle.bfs_values.specs.Values.{page_numbers, chain_of, numbers_of_pages, in_order, next_of}
-use Rattle.bfs_dups_add.proofs.Composed.{told-whole, told-some}
-use Rattle.bfs_dups_add.proofs.Answered.{linked-open, linked-numbers}
+use Rattle.bfs_dups.proofs.Composed.{told-whole, told-some}
+use Rattle.bfs_dups.proofs.Answered.{linked-open, linked-numbers}
 use Rattle.bfs_values.proofs.Opened.{own_pages, pages_of}
 use Rattle.bfs_values.specs.declared.link.Link.TheVariants.{Chain}
 use Rattle.bfs_dups_remove.proofs.Passed.{here-in}

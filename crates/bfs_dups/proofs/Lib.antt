@@ -1,0 +1,12 @@
+pub mod Answered
+pub mod Composed
+pub mod Crowding
+pub mod Emptied
+pub mod Holding
+pub mod Linked
+pub mod Moved
+pub mod Ordered
+pub mod Pages
+pub mod Relinked
+pub mod Scanning
+pub mod Slotted

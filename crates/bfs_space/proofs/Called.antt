@@ -36,6 +36,7 @@ use Rattle.bfs_shift.proofs.Counted.{count_is_reach}
 use Rattle.bfs_shift.proofs.Frees.{other_count}
 use Rattle.bfs_shift.specs.Work.{IsAtWork}
 use Rattle.bfs_moves.proofs.Ends.{work_ends}
+use Rattle.bfs_look.specs.Ready.{IsReady}
 use Rattle.bfs_core.specs.Spaces.{SpaceView, Entered, HasSet, IsFaceMetadata, IsFresh, IsHeld, IsSoundOver, StaysMarked, face}
 use Rattle.bfs_moves.specs.Laws.{IsApart}
 use Rattle.bfs_space.specs.Called.{StaysAs, IsCalled, IsFaceTold, is_changed, with_entry}
@@ -122,6 +123,15 @@ module _ (t0 : Mounted) (sp : SpaceView) (m : ℕ → Option (List ℕ)) (sound 
     },
     sound_agrees v tree sound.sound,
   )
+
+  pub face_is_ready : (r : Room) → IsFaceTold t0 sp m → IsOfVolume (sizes_of sp.sup) r → Fits r (over sp.group m) → r.tally.used ≡ sp.used → r.given ≡ sp.given → IsReady g r (over sp.group m) tree (lists_of v tree)
+  face_is_ready r told of fits used given = record {
+    work = (face_at_work r told of fits used).0;
+    agrees = (face_at_work r told of fits used).1;
+    plain = record { nodes = sound.sound.nodes.plain; indices = sound.sound.indices.plain };
+    root = sound.sound.nodes.stands.root;
+    reserved = λ k r' marked. sound.unmarked k (subst (λ (gs : List Given). is_reserved gs k ≡ true) given r') marked;
+  }
 
   -- a space that has none but this group counts what any bitmap of the volume does
   counts : (r : Room) → IsOfVolume (sizes_of sp.sup) r → sp.used ≡ marked_count r (over sp.group m) r.blocks
@@ -238,3 +248,7 @@ module _ (t0 : Mounted) (sp : SpaceView) (m : ℕ → Option (List ℕ)) (sound 
       );
       rest = λ k meta clear. (was_carried.metadata k).0 (called.set k ((now_carried.metadata k).1 meta) clear);
     }
+
+    -- the metadata of Face is told since
+    pub call_told : IsFaceTold t0 new m
+    call_told k meta apart = called.work.told k ((now_carried.metadata k).1 meta) apart

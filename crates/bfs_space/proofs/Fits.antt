@@ -4,9 +4,11 @@ use Rattle.std.proofs.Math.Seq.{take-length}
 use Rattle.std.specs.Prelude.{◌≢◌, ◌==◌, unwrap_or, is_some, cond}
 use Rattle.std.specs.Option.{option_map}
 use Rattle.std.proofs.lemmas.Bool.{true≢false}
-use Rattle.bfs_super.specs.Conditions.{ceil}
 use Rattle.bfs_super.specs.declared.geometry.Geometry.{Geometry}
-use Rattle.bfs_bitmap.specs.Runs.{Room}
+use Rattle.bfs_super.specs.Conditions.{ceil, natural}
+use Rattle.bfs_stream.specs.Grown.{IsOfVolume}
+use Rattle.bfs_stream.specs.Sizes.{sizes_of}
+use Rattle.bfs_bitmap.specs.Runs.{Room, Fits, IsCounted, marked, marked_count, per_block}
 use Rattle.bfs_txn.specs.Changed.{Ascends, AreOfSize, newest, number_at, or_else, over}
 use Rattle.bfs_tree.specs.declared.call.Call.{Call}
 use Rattle.bfs_tree.specs.declared.reply.Reply.{Reply}
@@ -20,7 +22,7 @@ use Rattle.bfs_shift.specs.Shifts.{volume_in}
 use Rattle.bfs_core.specs.Spaces.{IsFresh}
 use Rattle.bfs_core.proofs.Masks.{data_of, data_when}
 use Rattle.bfs_space.specs.declared.keep.Unkept.{Unkept}
-use Rattle.bfs_space.specs.declared.keep.Unkept.TheVariants.{Damaged, TooMany}
+use Rattle.bfs_space.specs.declared.keep.Unkept.TheVariants.{Damaged, TooMany, Overfull}
 use Rattle.bfs_space.specs.declared.calling.CallFault.TheVariants as calling
 use Rattle.bfs_space.specs.Books.{MayBeSealed}
 use Rattle.bfs_moves.specs.Laws.{IsApart}
@@ -115,14 +117,14 @@ module _ (l : Layout) (size mark : ℕ) (before now kept : List (ℕ × List ℕ
 
 -- a call that was answered is kept
 pub kept_of : (g : Geometry) (v room new : Room) (m : ℕ → Option (List ℕ)) (tree : Tree) (stamp : ℤ) (call : Call) (reply : Reply) (before now kept : List (ℕ × List ℕ)) (told : Option (ℕ → Option (List ℕ)))
-    → told ≡ Some m → ((k : ℕ) → newest kept k ≡ newest now k) → new ≡ room_kept room → IsAnswered g v room (over before m) tree stamp call reply (option_map (over now) told) (is_changed before) (is_changed now)
+    → told ≡ Some m → ((k : ℕ) → newest kept k ≡ newest now k) → new ≡ room_kept room → ((x : ℕ → Option (List ℕ)) → Fits room x → Fits new x) → IsAnswered g v room (over before m) tree stamp call reply (option_map (over now) told) (is_changed before) (is_changed now)
     → IsKept g v new m before kept tree stamp call reply
-kept_of g v room new m tree stamp call reply before now kept told is reads settled answered = record {
+kept_of g v room new m tree stamp call reply before now kept told is reads settled keeps answered = record {
   room = room;
   kept = settled;
   after = answered.after;
-  called = subst (λ (f : ℕ → Bool). IsCalled g v room (over before m) (over kept m) tree answered.after (is_changed before) f) (sym same_changed)
-      (subst (λ (map : ℕ → Option (List ℕ)). IsCalled g v room (over before m) map tree answered.after (is_changed before) (is_changed now)) (sym map_is ∙ sym same_over) answered.called);
+  called = called;
+  fits = keeps (over kept m) called.work.fits;
   by_tree = answered.by_tree;
 }
   where
@@ -138,6 +140,10 @@ kept_of g v room new m tree stamp call reply before now kept told is reads settl
     map_is : over now m ≡ answered.map
     map_is = ap (λ o. unwrap_or o (over now m)) some_map
 
+    called : IsCalled g v room (over before m) (over kept m) tree answered.after (is_changed before) (is_changed kept)
+    called = subst (λ (f : ℕ → Bool). IsCalled g v room (over before m) (over kept m) tree answered.after (is_changed before) f) (sym same_changed)
+        (subst (λ (map : ℕ → Option (List ℕ)). IsCalled g v room (over before m) map tree answered.after (is_changed before) (is_changed now)) (sym map_is ∙ sym same_over) answered.called)
+
 -- what a call has made of a volume has no block that no group may have
 pub no_stray : (sup : Super) (v room : Room) (m map : ℕ → Option (List ℕ)) (tree after : Tree) (before now : List (ℕ × List ℕ)) (mark block : ℕ) → MayBeSealed (layout_of sup) sup.block_size before
     → IsCalled (geometry_of sup) v room m map tree after (is_changed before) (is_changed now) → IsStray (layout_of sup) now mark block → ⊥
@@ -150,8 +156,23 @@ no_stray sup v room m map tree after before now mark block sealed called stray =
     by_change (inl old) = let r = found before block (is_there (newest before block) old) in stray.stray (subst (λ (x : ℕ). IsData (layout_of sup) x) r.is (sealed.places r.place r.inside))
     by_change (inr now_is) = stray.stray (data_when sup block now_is.0.0 0 now_is.0.1)
 
+-- a bitmap that counts the used blocks counts no more than there are
+marked_few : (v : Room) (m : ℕ → Option (List ℕ)) (n : ℕ) → marked_count v m n ≤ n
+marked_few v m zero = omega arith
+marked_few v m (suc n) = one (marked (per_block v) m n == 0) (marked_count v m n) (marked_few v m n)
+  where
+    one : (b : Bool) (x : ℕ) → x ≤ n → cond {A = ℕ} b 0 1 + x ≤ suc n
+    one true x le = omega (arith, le)
+    one false x le = omega (arith, le)
+
+used_few : (sup : Super) (v : Room) (m : ℕ → Option (List ℕ)) → IsOfVolume (sizes_of sup) v → IsCounted v m → v.tally.used ≤ natural sup.num_blocks
+used_few sup v m volume counted = let few = marked_few v m v.blocks in let same : v.blocks ≡ natural sup.num_blocks = volume.blocks in omega (arith, few, same, counted)
+
 -- so a call that is answered over a volume that is told is kept, but for want of room in the log
 pub kept_but : (sup : Super) (v room : Room) (m : ℕ → Option (List ℕ)) (tree : Tree) (stamp : ℤ) (call : Call) (reply : Reply) (told : Option (ℕ → Option (List ℕ))) (before now : List (ℕ × List ℕ)) (mark : ℕ) (why : Unkept) → MayBeSealed (layout_of sup) sup.block_size before
-    → IsAnswered (geometry_of sup) v room m tree stamp call reply told (is_changed before) (is_changed now) → IsUnfit (layout_of sup) now mark why → IsCallFault (calling.Unkept why)
+    → IsAnswered (geometry_of sup) v room m tree stamp call reply told (is_changed before) (is_changed now) → IsUnfit (layout_of sup) room.tally.used now mark why → IsCallFault (calling.Unkept why)
 kept_but sup v room m tree stamp call reply told before now mark (Damaged block) sealed answered unfit = no_stray sup v room m answered.map tree answered.after before now mark block sealed answered.called unfit
 kept_but sup v room m tree stamp call reply told before now mark TooMany sealed answered unfit = tt
+kept_but sup v room m tree stamp call reply told before now mark Overfull sealed answered unfit =
+    let few = used_few sup room answered.map answered.called.work.volume answered.called.work.counted in
+    let over : natural sup.num_blocks < room.tally.used = unfit in absurd (omega (arith, few, over))

@@ -26,6 +26,20 @@ ascending_once pairs up i j lt inside e = let less = up i j lt inside in omega (
 pub parts_with : (sup : Super) (v now : Room) (pairs : List (ℕ × List ℕ)) (sealed entries : ℕ) → HasParts sup v pairs sealed entries → IsOfVolume (sizes_of sup) now → IsSettled now → now.tally.used ≤ natural sup.num_blocks → now.last ≤ sealed → HasParts sup now pairs sealed entries
 parts_with sup v now pairs sealed entries p volume settled used closed = record { valid = p.valid; emptied = p.emptied; volume = volume; settled = settled; used = used; covered = p.covered; closed = closed; group = p.group }
 
+-- a call was kept: the bitmap and the open group are others, and there are more entries
+pub parts_kept : (sup : Super) (v now : Room) (pairs group : List (ℕ × List ℕ)) (sealed entries more : ℕ) → HasParts sup v pairs sealed entries → IsOfVolume (sizes_of sup) now → IsSettled now → now.tally.used ≤ natural sup.num_blocks → now.last ≡ v.last
+    → MayBeSealed (layout_of sup) sup.block_size group → entries ≤ more → HasParts sup now group sealed more
+parts_kept sup v now pairs group sealed entries more p volume settled used last fit le = record {
+  valid = p.valid;
+  emptied = p.emptied;
+  volume = volume;
+  settled = settled;
+  used = used;
+  covered = (let c = p.covered in omega (arith, c, le));
+  closed = (let c = p.closed in omega (arith, c, last));
+  group = fit;
+}
+
 -- there are more entries
 pub parts_longer : (sup : Super) (v : Room) (pairs : List (ℕ × List ℕ)) (sealed entries more : ℕ) → HasParts sup v pairs sealed entries → entries ≤ more → HasParts sup v pairs sealed more
 parts_longer sup v pairs sealed entries more p le = record { valid = p.valid; emptied = p.emptied; volume = p.volume; settled = p.settled; used = p.used; covered = (let c = p.covered in omega (arith, c, le)); closed = p.closed; group = p.group }

@@ -1,27 +1,24 @@
 -- What a call's answer makes of a volume, and when its changes may be kept.
-use Rattle.std.specs.Prelude.{◌≡◌, ◌≤◌, ◌<◌, ℕ, ℤ, List, [], length, map, Bool, Option, Some}
+use Rattle.std.specs.Prelude.{◌≡◌, ◌≤◌, ◌<◌, ℕ, ℤ, List, length, map, Bool, Option, Some}
 use Rattle.bfs_super.specs.declared.geometry.Geometry.{Geometry}
 use Rattle.bfs_bitmap.specs.Givens.{settled}
-use Rattle.bfs_bitmap.specs.Runs.{Room}
+use Rattle.bfs_bitmap.specs.Runs.{Room, Fits}
 use Rattle.bfs_txn.specs.Changed.{number_at, over}
 use Rattle.bfs_txn.specs.Faults.{Counts}
-use Rattle.bfs_node.specs.declared.fault.TreeFault.{TreeFault}
-use Rattle.bfs_node.specs.declared.fault.TreeFault.TheVariants as tree
-use Rattle.bfs_stream.specs.declared.fault.GrowFault.{GrowFault}
-use Rattle.bfs_stream.specs.declared.fault.GrowFault.TheVariants as grow
-use Rattle.bfs_stream.specs.Faults.{IsGrowCause}
-use Rattle.bfs_stream.specs.Scans.{IsDamage}
 use Rattle.bfs_tree.specs.declared.call.Call.{Call}
 use Rattle.bfs_tree.specs.declared.reply.Reply.{Reply}
 use Rattle.bfs_tree.specs.States.{State}
 use Rattle.bfs_tree.specs.Steps.{ByTree}
 use Rattle.bfs_tree.specs.Trees.{Tree}
 use Rattle.bfs_device.specs.Layouts.{Layout, IsData, ring_count}
+use Rattle.bfs_calls.specs.Done.{IsDoneSo, IsUnanswered, HasAnswerCause}
+use Rattle.bfs_look.specs.Ready.{IsReady}
+use Rattle.bfs_shift.specs.Lists.{Lists}
 use Rattle.bfs_space.specs.Called.{IsCalled, is_changed}
 use Rattle.bfs_space.specs.declared.calling.CallFault.{CallFault}
 use Rattle.bfs_space.specs.declared.calling.CallFault.TheVariants as calling
 use Rattle.bfs_space.specs.declared.keep.Unkept.{Unkept}
-use Rattle.bfs_space.specs.declared.keep.Unkept.TheVariants.{Damaged, TooMany}
+use Rattle.bfs_space.specs.declared.keep.Unkept.TheVariants.{Damaged, TooMany, Overfull}
 
 -- A call was answered: what is told now is what the call has made of the volume, and the answer and the tree since are those of the plain
 -- tree, in every state that has this tree.
@@ -32,31 +29,13 @@ pub record IsAnswered (g : Geometry) (v now : Room) (m : ℕ → Option (List �
   pub called : IsCalled g v now m map tree after old new
   pub by_tree : (s : State) (session : ℕ) → s.tree ≡ tree → (t : State) × (t.tree ≡ after) × ByTree session stamp call reply s t
 
--- Why a call isn't answered, of a volume that is told and stands for a tree: a block could not be had, or a run of blocks or a place in
--- the double indirect level of a stream, or there is no memory. No block is damaged.
-abbrev pub IsUnanswered : TreeFault GrowFault → Type 0
-IsUnanswered tree.Exists = ⊥
-IsUnanswered tree.Absent = ⊥
-IsUnanswered (tree.Damaged page sort) = ⊥
-IsUnanswered (tree.Pages (grow.NoRun wanted free)) = Unit {0}
-IsUnanswered (tree.Pages (grow.Full room)) = Unit {0}
-IsUnanswered (tree.Pages (grow.Block fault)) = ¬ IsDamage fault
-IsUnanswered tree.NoMemory = Unit {0}
-
--- the cause of it in what lies below
-abbrev pub HasAnswerCause : Counts → Counts → TreeFault GrowFault → Type 0
-HasAnswerCause old new tree.Exists = ⊥
-HasAnswerCause old new tree.Absent = ⊥
-HasAnswerCause old new (tree.Damaged page sort) = Unit {0}
-HasAnswerCause old new (tree.Pages fault) = IsGrowCause 1 old new fault
-HasAnswerCause old new tree.NoMemory = Unit {0}
-
--- the same of a call over an open group, whose changes may not be kept where a block is changed that no group may have, as never over a
--- volume that is told, or more than the log has room for
+-- Why a call isn't answered, or its changes may not be kept: over a volume that is told no block is changed that no group may have, and no
+-- more blocks are used than there are; but more may be changed than the log has room for
 abbrev pub IsCallFault : CallFault → Type 0
 IsCallFault (calling.Map fault) = IsUnanswered fault
 IsCallFault (calling.Unkept (Damaged block)) = ⊥
 IsCallFault (calling.Unkept TooMany) = Unit {0}
+IsCallFault (calling.Unkept Overfull) = ⊥
 
 abbrev pub HasCallCause : Counts → Counts → CallFault → Type 0
 HasCallCause old new (calling.Map fault) = HasAnswerCause old new fault
@@ -75,10 +54,11 @@ pub record IsStray (l : Layout) (pairs : List (ℕ × List ℕ)) (mark block : �
   pub is : number_at pairs place ≡ block
   pub stray : ¬ IsData l block
 
--- why they may not
-abbrev pub IsUnfit : Layout → List (ℕ × List ℕ) → ℕ → Unkept → Type 0
-IsUnfit l pairs mark (Damaged block) = IsStray l pairs mark block
-IsUnfit l pairs mark TooMany = l.len ≤ ring_count pairs
+-- why they may not, where so many blocks are used
+abbrev pub IsUnfit : Layout → ℕ → List (ℕ × List ℕ) → ℕ → Unkept → Type 0
+IsUnfit l used pairs mark (Damaged block) = IsStray l pairs mark block
+IsUnfit l used pairs mark TooMany = l.len ≤ ring_count pairs
+IsUnfit l used pairs mark Overfull = l.blocks < used
 
 -- the bitmap of a call that was kept
 abbrev pub room_kept : Room → Room
@@ -91,4 +71,10 @@ pub record IsKept (g : Geometry) (v new : Room) (m : ℕ → Option (List ℕ)) 
   pub kept : new ≡ room_kept room
   pub after : Tree
   pub called : IsCalled g v room (over before m) (over now m) tree after (is_changed before) (is_changed now)
+  pub fits : Fits new (over now m)
   pub by_tree : (s : State) (session : ℕ) → s.tree ≡ tree → (t : State) × (t.tree ≡ after) × ByTree session stamp call reply s t
+
+-- A call that gives nothing back and was answered is answered as a space asks it.
+abbrev pub DoneIsAnswered : Type 0
+DoneIsAnswered = (g : Geometry) (v now : Room) (m : ℕ → Option (List ℕ)) (tree : Tree) (lists : Lists) (stamp : ℤ) (call : Call) (reply : Reply) (told : Option (ℕ → Option (List ℕ))) (old new : ℕ → Bool)
+    → IsReady g v m tree lists → IsDoneSo g v now m tree stamp call reply told old new → IsAnswered g v now m tree stamp call reply told old new

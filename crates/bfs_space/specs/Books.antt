@@ -1,8 +1,10 @@
 -- A space as its calls see it, and what is true of its parts.
-use Rattle.std.specs.Prelude.{◌≡◌, ◌≤◌, ◌<◌, ◌+◌, ◌^◌, ◌==◌, ◌≤ℤ◌, ℕ, ℤ, pos, List, [], ◌∷◌, length, filter, not, Option, Some, None, if◌then◌else◌}
+use Rattle.std.specs.Prelude.{◌≡◌, ◌≤◌, ◌<◌, ◌+◌, ◌^◌, ◌==◌, ◌≤ℤ◌, ℕ, ℤ, pos, List, [], ◌∷◌, length, map, min, filter, not, Option, Some, None, if◌then◌else◌}
 use Rattle.bfs_super.specs.declared.sup.Super.{Super}
-use Rattle.bfs_super.specs.Conditions.{IsValid, natural}
+use Rattle.bfs_super.specs.Conditions.{IsValid, natural, group_blocks}
 use Rattle.bfs_bitmap.specs.Runs.{Room, IsSettled}
+use Rattle.bfs_bitmap.specs.Givens.{numbered, is_left}
+use Rattle.bfs_bitmap.specs.Tallies.{first_tally, lowered_by}
 use Rattle.bfs_txn.specs.Changed.{Ascends, AreOfSize, number_at}
 use Rattle.bfs_stream.specs.Sizes.{sizes_of}
 use Rattle.bfs_stream.specs.Grown.{IsOfVolume}
@@ -15,15 +17,35 @@ use Rattle.bfs_device.specs.declared.journal.Stop.{Stop}
 use Rattle.bfs_device.specs.Layouts.{Layout, IsData, layout_of, ring_count}
 use Rattle.bfs_core.specs.Spaces.{SpaceView, opened, noted}
 
--- The space itself; the sessions that are promised room for an entry; and the stop of the device, once an entry has told it.
+-- The space itself; what its bitmap knows beside the bits; the sessions that are promised room for an entry; and the stop of the device, once an entry has told it.
 pub record SpaceBooks : Type 0 where
   pub view : SpaceView
+  pub room : Room
   pub promised : List ℕ
   pub stop : Option Stop
 
+-- the bitmap of a volume before any call
+abbrev pub first_room : Super → Room
+first_room sup = record {
+  block_size = sup.block_size;
+  blocks = natural sup.num_blocks;
+  group_blocks = group_blocks sup;
+  given = [];
+  last = 0;
+  tally = first_tally (min (natural sup.used_blocks) (natural sup.num_blocks));
+  tally_kept = first_tally (min (natural sup.used_blocks) (natural sup.num_blocks));
+}
+
+-- the bitmap once the open group has a number, and once the groups up to one have left the log
+abbrev pub sealed_room : ℕ → Room → Room
+sealed_room group v = record v { given = map (numbered group) v.given; last = group }
+
+abbrev pub released_room : ℕ → Room → Room
+released_room group v = record v { given = filter (λ g. not (is_left group g)) v.given; tally = lowered_by group v.given v.tally; tally_kept = lowered_by group v.given v.tally_kept }
+
 -- a space that was opened: session 0 is promised one entry
 abbrev pub fresh : Super → SpaceBooks
-fresh sup = record { view = opened sup; promised = 0 ∷ []; stop = None }
+fresh sup = record { view = opened sup; room = first_room sup; promised = 0 ∷ []; stop = None }
 
 -- the promises without those to a session
 abbrev pub without : ℕ → List ℕ → List ℕ
@@ -44,7 +66,7 @@ entry_noted b session tag now call reply = record { session = session; tag = tag
 
 -- The books with an entry noted, which ends the session's promise.
 abbrev pub with_note : SpaceBooks → ℕ → Entry → ℕ → SpaceBooks
-with_note b session entry durable = record { view = noted b.view entry; promised = without session b.promised; stop = stop_after b.stop entry.reply durable }
+with_note b session entry durable = record b { view = noted b.view entry; promised = without session b.promised; stop = stop_after b.stop entry.reply durable }
 
 -- the changed blocks may be sealed as a group: each once, in order, a block of data with a block's bytes, and they fit the log
 pub record MayBeSealed (l : Layout) (size : ℕ) (pairs : List (ℕ × List ℕ)) : Type 0 where

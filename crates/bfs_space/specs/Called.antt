@@ -19,6 +19,8 @@ use Rattle.bfs_shift.specs.Laws.{lists_of}
 use Rattle.bfs_shift.specs.Shifts.{volume_in}
 use Rattle.bfs_shift.specs.Work.{IsAtWork}
 use Rattle.bfs_moves.specs.Laws.{IsApart}
+use Rattle.bfs_look.specs.Ready.{IsReady}
+use Rattle.bfs_calls.specs.Done.{IsDone}
 use Rattle.bfs_core.specs.Spaces.{SpaceView, Entered, HasSet, IsFaceMetadata, IsFresh, IsSoundOver, face}
 
 -- a block that was marked is, and is metadata just where it was
@@ -67,3 +69,14 @@ CallIsEntered = (t0 : Mounted) (sp : SpaceView) (m : ℕ → Option (List ℕ)) 
     → v.given ≡ sp.given → AreOfSize sp.sup.block_size group → Follows t0 sp.history e
     → IsCalled (geometry_of sp.sup) v now (over sp.group m) (over group m) (after t0 sp.history) (after t0 (with_entry sp now group e).history) (is_changed sp.group) (is_changed group)
     → Entered t0 sp (with_entry sp now group e) m e × HasSet t0 sp (with_entry sp now group e) m (is_changed group)
+
+-- The Face of a space is ready for a call, where the bitmap has the runs that the space has given back.
+abbrev pub FaceIsReady : Type 0
+FaceIsReady = (t0 : Mounted) (sp : SpaceView) (m : ℕ → Option (List ℕ)) (v : Room) → IsSoundOver t0 sp m → IsFaceTold t0 sp m → IsOfVolume (sizes_of sp.sup) v → 0 < sp.sup.block_size
+    → Fits v (over sp.group m) → v.tally.used ≡ sp.used → v.given ≡ sp.given
+    → IsReady (geometry_of sp.sup) v (over sp.group m) (after t0 sp.history) (lists_of (face sp m) (after t0 sp.history))
+
+-- What a call has done that gives nothing back is what a space asks of a call.
+abbrev pub DoneIsCalled : Type 0
+DoneIsCalled = (g : Geometry) (v now : Room) (m : ℕ → Option (List ℕ)) (tree after : Tree) (lists : Lists) (told : Option (ℕ → Option (List ℕ))) (old new : ℕ → Bool)
+    → IsReady g v m tree lists → (done : IsDone g v now m tree after told old new) → IsCalled g v now m done.step.map tree after old new

@@ -1,3 +1,4 @@
 pub mod Books
 pub mod Called
 pub mod Answered
+pub mod Faces

@@ -6,10 +6,12 @@ ghost use Rattle.bfs_bitmap.specs.Runs.{as_kept};
 ghost use Rattle.bfs_txn.specs.Faults.{AreLater};
 ghost use Rattle.bfs_stream.specs.Grown.{IsOfVolume};
 ghost use Rattle.bfs_stream.specs.Sizes.{sizes_of};
+ghost use Rattle.bfs_tree.specs.Answers.{KeepsRanges};
 ghost use Rattle.bfs_tree.specs.Trees.{Tree};
 ghost use Rattle.bfs_shift.specs.Lists.{Lists};
 ghost use Rattle.bfs_look.specs.Ready.{IsReady, HasReady};
-ghost use Rattle.bfs_space.specs.Answered.{IsAnswered, IsUnanswered, HasAnswerCause};
+ghost use Rattle.bfs_space.specs.Answered.{IsAnswered};
+ghost use Rattle.bfs_calls.specs.Done.{IsUnanswered, HasAnswerCause};
 
 use bfs_bitmap::Bitmap;
 use bfs_stream_pages::MapFault;
@@ -33,6 +35,7 @@ pub trait Answers {
         requires valid { IsValid sup.now }
         requires size { E.size edits.old ≡ sup.now.block_size }
         requires volume { IsOfVolume (sizes_of sup.now) bitmap.old }
+        requires ranges { KeepsRanges call.now }
         requires ready { (m : ℕ → Option (List ℕ)) → E.told edits.old ≡ Some m → HasReady (geometry_of sup.now) bitmap.old m }
         ensures answered { (m : ℕ → Option (List ℕ)) (tree : Tree) (lists : Lists) → E.told edits.old ≡ Some m → IsReady (geometry_of sup.now) bitmap.old m tree lists → IfOk result (λ reply. IsAnswered (geometry_of sup.now) bitmap.old bitmap.new m tree stamp call.now reply (E.told edits.new) (E.changed edits.old) (E.changed edits.new)) }
         ensures unanswered { (m : ℕ → Option (List ℕ)) (tree : Tree) (lists : Lists) → E.told edits.old ≡ Some m → IsReady (geometry_of sup.now) bitmap.old m tree lists → IfErr result IsUnanswered }

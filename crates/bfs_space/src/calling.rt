@@ -1,13 +1,14 @@
 // One call over an open group and what lies below: it is answered, and what it changed is kept, or given up.
 ghost use Rattle.std.specs.Prelude.{◌≡◌, ◌≤◌, ◌<◌, ℕ, List, Option, Some, OnOk, OnErr, IfOk, IfErr, length, take};
 ghost use Rattle.std.specs.Option.{option_map};
-ghost use Rattle.bfs_super.specs.Conditions.{IsValid};
+ghost use Rattle.bfs_super.specs.Conditions.{IsValid, natural};
 ghost use Rattle.bfs_super.specs.Geometry.{geometry_of};
 ghost use Rattle.bfs_bitmap.specs.Runs.{IsSettled, as_kept};
 ghost use Rattle.bfs_txn.specs.Changed.{Ascends, AreOfSize, over};
 ghost use Rattle.bfs_txn.specs.Faults.{AreLater};
 ghost use Rattle.bfs_stream.specs.Grown.{IsOfVolume};
 ghost use Rattle.bfs_stream.specs.Sizes.{sizes_of};
+ghost use Rattle.bfs_tree.specs.Answers.{KeepsRanges};
 ghost use Rattle.bfs_tree.specs.Trees.{Tree};
 ghost use Rattle.bfs_device.specs.Layouts.{layout_of};
 ghost use Rattle.bfs_shift.specs.Lists.{Lists};
@@ -49,11 +50,13 @@ fn answer_over<A: Answers, B: Blocks>(
     requires mark { mark ≡ overlay.old.mark }
     requires begun { mark ≡ length overlay.old.group.now }
     requires open { MayBeSealed (layout_of sup.now) sup.now.block_size overlay.old.group.now }
+    requires ranges { KeepsRanges call.now }
     requires ready { (m : ℕ → Option (List ℕ)) → B.told overlay.old.under.now ≡ Some m → HasReady (geometry_of sup.now) bitmap.old (over overlay.old.group.now m) }
     ensures answered { (m : ℕ → Option (List ℕ)) (tree : Tree) (lists : Lists) → B.told overlay.old.under.now ≡ Some m → IsReady (geometry_of sup.now) bitmap.old (over overlay.old.group.now m) tree lists → IfOk result (λ reply. IsAnswered (geometry_of sup.now) bitmap.old bitmap.new (over overlay.old.group.now m) tree stamp call.now reply (option_map (over overlay.new.group.now) (B.told overlay.new.under.now)) (is_changed overlay.old.group.now) (is_changed overlay.new.group.now)) }
     ensures unanswered { (m : ℕ → Option (List ℕ)) (tree : Tree) (lists : Lists) → B.told overlay.old.under.now ≡ Some m → IsReady (geometry_of sup.now) bitmap.old (over overlay.old.group.now m) tree lists → IfErr result IsCallFault }
     ensures cause { IfErr result (HasCallCause (B.counts overlay.old.under.now) (B.counts overlay.new.under.now)) }
     ensures fit { OnOk result (AreFit (layout_of sup.now) overlay.new.group.now overlay.new.mark) }
+    ensures used { OnOk result (bitmap.new.tally.used ≤ natural sup.now.num_blocks) }
     ensures undone { as_kept bitmap.new ≡ as_kept bitmap.old }
     ensures volume { IsOfVolume (sizes_of sup.now) bitmap.new }
     ensures last { bitmap.new.last ≡ bitmap.old.last }
@@ -64,7 +67,7 @@ fn answer_over<A: Answers, B: Blocks>(
     ensures told { B.told overlay.new.under.now ≡ B.told overlay.old.under.now }
 {
     match answers.answer(alloc, sup, bitmap, overlay, call, stamp) {
-        Ok(reply) => match may_be_kept(overlay, sup, mark) {
+        Ok(reply) => match may_be_kept(overlay, sup, bitmap, mark) {
             Ok(()) => Ok(reply),
             Err(why) => Err(CallFault::Unkept(why)),
         },
@@ -88,11 +91,13 @@ pub fn answer_call<A: Answers, B: Blocks>(
     requires volume { IsOfVolume (sizes_of sup.now) bitmap.old }
     requires settled { IsSettled bitmap.old }
     requires group { MayBeSealed (layout_of sup.now) sup.now.block_size group.old }
+    requires ranges { KeepsRanges call.now }
     requires ready { (m : ℕ → Option (List ℕ)) → B.told under.old ≡ Some m → HasReady (geometry_of sup.now) bitmap.old (over group.old m) }
     ensures kept { (m : ℕ → Option (List ℕ)) (tree : Tree) (lists : Lists) → B.told under.old ≡ Some m → IsReady (geometry_of sup.now) bitmap.old (over group.old m) tree lists → IfOk result (λ reply. IsKept (geometry_of sup.now) bitmap.old bitmap.new m group.old group.new tree stamp call.now reply) }
     ensures unanswered { (m : ℕ → Option (List ℕ)) (tree : Tree) (lists : Lists) → B.told under.old ≡ Some m → IsReady (geometry_of sup.now) bitmap.old (over group.old m) tree lists → IfErr result IsCallFault }
     ensures cause { IfErr result (HasCallCause (B.counts under.old) (B.counts under.new)) }
     ensures group { MayBeSealed (layout_of sup.now) sup.now.block_size group.new }
+    ensures used { OnOk result (bitmap.new.tally.used ≤ natural sup.now.num_blocks) }
     ensures settled { IsSettled bitmap.new }
     ensures volume { IsOfVolume (sizes_of sup.now) bitmap.new }
     ensures last { bitmap.new.last ≡ bitmap.old.last }

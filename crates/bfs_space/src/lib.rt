@@ -13,7 +13,7 @@ mod stamp;
 pub use answers::Answers;
 pub use calling::{CallFault, answer_call};
 pub use keep::Unkept;
-pub use laws::{call_is_entered, face_is_at_work};
+pub use laws::{call_is_entered, done_is_answered, done_is_called, face_is_at_work, face_is_ready};
 pub use space::Space;
 
 #[cfg(test)]

@@ -1,17 +1,25 @@
 // A space: the history, the open group, the free space and the promises of one mount.
-ghost use Rattle.std.specs.Prelude.{◌≡◌, ◌≤◌, ◌<◌, ◌^◌, ◌∷◌, ◌++◌, [], length, IfOk, OnOk, OnErr, MatchOption};
+ghost use Rattle.std.specs.Prelude.{◌≡◌, ◌≢◌, ◌≤◌, ◌<◌, ◌^◌, ◌∷◌, ◌++◌, [], ℕ, List, Option, Some, false, length, IfOk, IfErr, OnOk, OnErr, MatchOption};
 ghost use Rattle.std.specs.Vec.{vec_capacity};
 ghost use Rattle.bfs_base.specs.Lists.{times, Has};
 ghost use Rattle.bfs_super.specs.Conditions.{IsValid, natural};
+ghost use Rattle.bfs_tree.specs.declared.call.Call.TheVariants.{Sync};
+ghost use Rattle.bfs_tree.specs.Answers.{KeepsRanges};
+ghost use Rattle.bfs_tree.specs.Histories.{Mounted};
 ghost use Rattle.bfs_core.specs.Spaces.{IsGroupFor, sealed_space, released_space};
-ghost use Rattle.bfs_space.specs.Books.{fresh, without, with_note, entry_noted, stop_after};
+ghost use Rattle.bfs_space.specs.Answered.{IsCallFault, HasCallCause};
+ghost use Rattle.bfs_space.specs.Faces.{IsFaceOf, HasFace, HasEntered, HasNoted};
+ghost use Rattle.bfs_bitmap.specs.Runs.{Fits};
+ghost use Rattle.bfs_space.specs.Books.{fresh, without, with_note, entry_noted, stop_after, sealed_room, released_room};
 
+use crate::Answers;
+use crate::calling::{CallFault, answer_call};
 use crate::stamp::draw;
 use bfs_bitmap::Bitmap;
 use bfs_device::Stop;
 use bfs_super::Super;
 use bfs_tree::{Call, Entry, Reply};
-use bfs_txn::{Changed, Group};
+use bfs_txn::{Blocks, Changed, Group};
 use std::alloc::{AllocError, Global};
 use std::marker::Model;
 use std::mem::replace;
@@ -43,7 +51,7 @@ impl Model for Space {
 
     ghost Value = { SpaceBooks };
 
-    ghost view = { λ s. record { view = record { sup = s.sup; used = s.bitmap.tally.used; group = s.group; history = s.history.items; sealed = s.sealed; sealed_used = s.sealed_used; given = s.bitmap.given }; promised = s.promised.items; stop = s.stop } };
+    ghost view = { λ s. record { view = record { sup = s.sup; used = s.bitmap.tally.used; group = s.group; history = s.history.items; sealed = s.sealed; sealed_used = s.sealed_used; given = s.bitmap.given }; room = s.bitmap; promised = s.promised.items; stop = s.stop } };
 
     ghost invariant = { λ s. HasParts s.sup s.bitmap s.group s.sealed (length s.history.items) × IsLastStamp s.history.items s.last × (length s.history.items + length s.promised.items ≤ vec_capacity s.history) × (length s.history.items + length s.promised.items ≤ 2 ^ 60) };
 }
@@ -146,10 +154,67 @@ impl Space {
         append(&mut self.history, entry);
     }
 
+    /// Answers a call over what lies below the open group, by the session's promise, which ends. The entry is appended with the reply and a
+    /// stamp drawn from the clock's seconds, and what the call changed is in the open group. Where the call has no answer nothing has
+    /// changed.
+    pub fn answer<A: Answers, B: Blocks>(
+        &mut self,
+        answers: &A,
+        under: &mut B,
+        session: u32,
+        tag: u32,
+        now: u64,
+        call: Call,
+    ) -> Result<(), CallFault>
+        requires promised { Has self.old.promised session }
+        requires now { now < 2 ^ 40 }
+        requires session { session ≢ 0 }
+        requires call { call ≢ Sync }
+        requires ranges { KeepsRanges call }
+        requires size { B.size under.old ≡ self.old.view.sup.block_size }
+        requires faced { (m : ℕ → Option (List ℕ)) → B.told under.old ≡ Some m → HasFace self.old m }
+        ensures entered { (t0 : Mounted) (m : ℕ → Option (List ℕ)) → B.told under.old ≡ Some m → IsFaceOf t0 self.old m → OnOk result (HasEntered t0 self.old self.new m session tag now call) }
+        ensures noted { OnOk result (HasNoted self.old self.new session tag now call) }
+        ensures unanswered { (t0 : Mounted) (m : ℕ → Option (List ℕ)) → B.told under.old ≡ Some m → IsFaceOf t0 self.old m → IfErr result IsCallFault }
+        ensures cause { IfErr result (HasCallCause (B.counts under.old) (B.counts under.new)) }
+        ensures refused { OnErr result (self.new ≡ self.old) }
+        ensures told { B.told under.new ≡ B.told under.old }
+        ensures size { B.size under.new ≡ B.size under.old }
+    {
+        let stamp = draw(self.last, now);
+        let alloc = self.alloc;
+        match answer_call(
+            alloc,
+            &self.sup,
+            answers,
+            &mut self.bitmap,
+            &mut self.group,
+            under,
+            &call,
+            stamp,
+        ) {
+            Ok(reply) => {
+                self.last = stamp;
+                drop_promise(&mut self.promised, session);
+                let entry = Entry {
+                    session,
+                    tag,
+                    stamp,
+                    call,
+                    reply,
+                };
+                append(&mut self.history, entry);
+                Ok(())
+            }
+            Err(fault) => Err(without_call(call, fault)),
+        }
+    }
+
     /// The entries since the last seal as one group, with the blocks that they changed; None where there are none. Takes no
     /// memory.
     pub fn seal(&mut self) -> Option<Group>
-        ensures { MatchOption result ((self.old.view.sealed ≡ length self.old.view.history) × (self.new ≡ self.old)) (λ g. IsGroupFor self.old.view g × (self.new ≡ record self.old { view = sealed_space self.old.view })) }
+        ensures fits { (m : ℕ → Option (List ℕ)) → Fits self.old.room m → Fits self.new.room m }
+        ensures sealed { MatchOption result ((self.old.view.sealed ≡ length self.old.view.history) × (self.new ≡ self.old)) (λ g. IsGroupFor self.old.view g × (self.new ≡ record self.old { view = sealed_space self.old.view; room = sealed_room (length self.old.view.history) self.old.room })) }
     {
         let last = self.history.len() as u64;
         if last == self.sealed {
@@ -171,7 +236,8 @@ impl Space {
 
     /// Frees the runs that were given back in groups up to this number. Takes no memory.
     pub fn released(&mut self, group: u64)
-        ensures { self.new ≡ record self.old { view = released_space group self.old.view } }
+        ensures released { self.new ≡ record self.old { view = released_space group self.old.view; room = released_room group self.old.room } }
+        ensures fits { (m : ℕ → Option (List ℕ)) → Fits self.old.room m → Fits self.new.room m }
     {
         self.bitmap.release(group);
     }
@@ -182,6 +248,13 @@ fn drop_promise(promised: &mut Vec<u32>, session: u32)
     ensures { promised.new.items ≡ without session promised.old.items }
 {
     promised.retain(|other| *other != session);
+}
+
+/// Gives a call up that has no answer.
+fn without_call(_call: Call, fault: CallFault) -> CallFault
+    ensures { result ≡ fault }
+{
+    fault
 }
 
 /// Appends an entry, for which there is room.

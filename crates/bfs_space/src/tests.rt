@@ -1,7 +1,7 @@
-// A space without calls: what it is promised, what is noted and what is sealed; and a call that fails over an open group. The volume
-// is the one that `mk --blocks 4096` makes, with 529 used blocks.
-ghost use Rattle.std.specs.Prelude.{◌≡◌, ◌<◌, ◌^◌, IfOk};
-ghost use Rattle.bfs_base.specs.Lists.{times};
+// A space without calls: what it is promised, what is noted and what is sealed; a call that fails over an open group; and calls of a
+// space, over blocks that tell nothing. The volume is the one that `mk --blocks 4096` makes, with 529 used blocks.
+ghost use Rattle.std.specs.Prelude.{◌≡◌, ◌<◌, ◌^◌, true, IfOk};
+ghost use Rattle.bfs_base.specs.Lists.{times, Has};
 ghost use Rattle.bfs_super.specs.Conditions.{IsValid};
 
 use crate::{Answers, CallFault, Space, answer_call};
@@ -10,7 +10,7 @@ use bfs_bytes::{Run, put_run, put_u32};
 use bfs_node::TreeFault;
 use bfs_stream_pages::MapFault;
 use bfs_super::{Super, SuperFault};
-use bfs_tree::{Call, Reply};
+use bfs_tree::{Bytes, Call, MakeKind, Reply, is_bad_name};
 use bfs_txn::{BlockFault, Blocks, Changed, Edits, MemBlocks};
 use std::alloc::{AllocError, Global};
 use std::test::Fail;
@@ -196,5 +196,139 @@ fn what_a_failed_call_changed_is_given_up(rt: HostRuntime) -> Result<(), Fail> {
     assert!(rt; is_refused(&answer));
     assert_eq!(rt; group.len(), 0);
     assert_eq!(rt; bitmap.used(), 529);
+    Ok(())
+}
+
+/// Answers only a call that would make a node of a bad name in the root.
+#[derive(Drop)]
+struct Naming {}
+
+impl Answers for Naming {
+    fn answer<E: Edits>(
+        &self,
+        _alloc: Global,
+        sup: &Super,
+        _bitmap: &mut Bitmap,
+        _edits: &mut E,
+        call: &Call,
+        _stamp: i64,
+    ) -> Result<Reply, MapFault> {
+        let geometry = sup.geometry();
+        match call {
+            Call::Make { dir, name, .. } => {
+                if *dir != geometry.root {
+                    return Err(TreeFault::NoMemory);
+                }
+                if !is_bad_name(name.as_slice()) {
+                    return Err(TreeFault::NoMemory);
+                }
+                Ok(Reply::NameBad)
+            }
+            _ => Err(TreeFault::NoMemory),
+        }
+    }
+}
+
+/// Blocks of 1024 bytes, all of them zeros, which tell nothing.
+fn no_blocks(alloc: Global) -> Silent
+    ensures { result.blocks.block_size ≡ 1024 }
+{
+    Silent {
+        blocks: MemBlocks::new(Vec::new(alloc), 1024),
+    }
+}
+
+/// Whether a call without an answer was refused. Then the space is as it was.
+fn is_left_alone(space: &mut Space, under: &mut Silent) -> bool
+    requires promised { Has space.old.promised 1 }
+    requires size { under.old.blocks.block_size ≡ space.old.view.sup.block_size }
+    ensures same { result ≡ true → space.new ≡ space.old }
+    ensures sup { space.new.view.sup ≡ space.old.view.sup }
+    ensures size { under.new.blocks.block_size ≡ under.old.blocks.block_size }
+{
+    let answers = Failing { block: 600 };
+    match space.answer(&answers, under, 1, 6, 1000, Call::IndexList) {
+        Ok(()) => false,
+        Err(_) => true,
+    }
+}
+
+/// Whether the call for a node of this name in the root is an entry.
+fn is_entered(space: &mut Space, under: &mut Silent, root: u64, name: Bytes, now: u64) -> bool
+    requires promised { Has space.old.promised 1 }
+    requires size { under.old.blocks.block_size ≡ space.old.view.sup.block_size }
+    requires now { now < 2 ^ 40 }
+    ensures sup { space.new.view.sup ≡ space.old.view.sup }
+    ensures size { under.new.blocks.block_size ≡ under.old.blocks.block_size }
+{
+    let answers = Naming {};
+    let call = Call::Make {
+        dir: root,
+        name,
+        kind: MakeKind::File,
+        mode: 0o644,
+    };
+    match space.answer(&answers, under, 1, 7, now, call) {
+        Ok(()) => true,
+        Err(_) => false,
+    }
+}
+
+/// Makes two calls of session 1: one has no answer, and the other is for a node without a name in the root. Whether this one is an
+/// entry, and how many there were before it.
+fn asks(
+    alloc: Global,
+    space: &mut Space,
+    under: &mut Silent,
+    root: u64,
+    now: u64,
+) -> Result<(bool, usize), AllocError>
+    requires none { times 1 space.old.promised ≡ 0 }
+    requires size { under.old.blocks.block_size ≡ space.old.view.sup.block_size }
+    requires now { now < 2 ^ 40 }
+    ensures none { times 1 space.new.promised ≡ 0 }
+    ensures size { under.new.blocks.block_size ≡ space.new.view.sup.block_size }
+{
+    space.promise(1)?;
+    if !is_left_alone(space, under) {
+        space.unpromise(1);
+        return Ok((false, 0));
+    }
+    let before = space.history().len();
+    let entered = is_entered(space, under, root, Bytes::new(Vec::new(alloc)), now);
+    space.unpromise(1);
+    Ok((entered, before))
+}
+
+#[test]
+fn a_call_that_is_answered_is_an_entry_and_one_that_is_refused_is_none(
+    rt: HostRuntime,
+) -> Result<(), Fail> {
+    let alloc = rt.alloc();
+    let mut under = no_blocks(alloc);
+    let sup = superblock()?;
+    let geometry = sup.geometry();
+    assert_eq!(rt; sup.block_size, 1024);
+    assert_eq!(rt; sup.log_start, 0);
+    assert_eq!(rt; sup.log_end, 0);
+    assert_eq!(rt; sup.used_blocks, 529);
+    assert_eq!(rt; sup.num_blocks, 4096);
+    let mut space = Space::open(alloc, sup)?;
+    let first = asks(alloc, &mut space, &mut under, geometry.root, 1000)?;
+    assert_eq!(rt; first, (true, 0));
+    let second = asks(alloc, &mut space, &mut under, geometry.root, 999)?;
+    assert_eq!(rt; second, (true, 1));
+    let history = space.into_history();
+    assert_eq!(rt; history.len(), 2);
+    let mut stamps = [0i64; 2];
+    let mut named = [false; 2];
+    for i in 0..history.len().min(2) {
+        stamps[i] = history[i].stamp;
+        named[i] = history[i].session == 1
+            && history[i].tag == 7
+            && matches!(history[i].reply, Reply::NameBad);
+    }
+    assert_eq!(rt; stamps, [65536000, 65536001]);
+    assert_eq!(rt; named, [true, true]);
     Ok(())
 }

@@ -23,7 +23,7 @@ returns-in-Ok-clause-kept g c = λ m tree lists told ready.
     (c.in-Ok.ensures.answered m tree lists under (subst (λ (ps : List (ℕ × List ℕ)). IsReady (geometry_of c.args.sup.now) c.args.bitmap.now (over ps m) tree lists) (sym c.begin-overlay.ensures.open_now) ready)) in
     let answered = subst (λ (ps : List (ℕ × List ℕ)). IsAnswered (geometry_of c.args.sup.now) c.args.bitmap.now c.answer_over.new.bitmap (over ps m) tree c.args.stamp c.args.call.now c.in-Ok.reply (option_map (over c.answer_over.new.overlay.group.now) (g.B.Blocks.told c.answer_over.new.overlay.under.now)) (is_changed ps) (is_changed c.answer_over.new.overlay.group.now)) c.begin-overlay.ensures.open_now first in
     subst (λ (ps : List (ℕ × List ℕ)). IsKept (geometry_of c.args.sup.now) c.args.bitmap.now c.keep-in-Ok.new.self m c.args.group.now ps tree c.args.stamp c.args.call.now c.in-Ok.reply) (search rules)
-    (kept_of (geometry_of c.args.sup.now) c.args.bitmap.now c.answer_over.new.bitmap c.keep-in-Ok.new.self m tree c.args.stamp c.args.call.now c.in-Ok.reply c.args.group.now c.answer_over.new.overlay.group.now c.keep.new.self.0 (g.B.Blocks.told c.answer_over.new.overlay.under.now) below c.keep.ensures.reads c.keep-in-Ok.ensures.given answered)
+    (kept_of (geometry_of c.args.sup.now) c.args.bitmap.now c.answer_over.new.bitmap c.keep-in-Ok.new.self m tree c.args.stamp c.args.call.now c.in-Ok.reply c.args.group.now c.answer_over.new.overlay.group.now c.keep.new.self.0 (g.B.Blocks.told c.answer_over.new.overlay.under.now) below c.keep.ensures.reads c.keep-in-Ok.ensures.given c.keep-in-Ok.ensures.fits answered)
 
 pub returns-in-Ok-clause-group : goal.returns-in-Ok-clause-group
 returns-in-Ok-clause-group g c =

@@ -1,4 +1,4 @@
-use Rattle.std.proofs.Common.{rules, ◌≡◌, ◌∙◌, ◌++◌, ◌∷◌, [], ℕ, List, ap, sym, subst}
+use Rattle.std.proofs.Common.{◌≡◌, ◌∙◌, ◌++◌, ◌∷◌, [], ℕ, List, ap, sym, subst}
 use Rattle.bfs_base.specs.Lists.{times, Has}
 use Rattle.bfs_space.specs.Books.{SpaceBooks, without}
 use Rattle.bfs_space.proofs.Stamps.{has_last, none_without}

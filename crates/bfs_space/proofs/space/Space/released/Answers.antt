@@ -1,10 +1,10 @@
 use Rattle.std.proofs.Common.{◌≤◌, ◌∙◌, ap, sym, subst}
 use Rattle.bfs_super.specs.Conditions.{natural}
-use Rattle.bfs_bitmap.specs.Runs.{Room}
+use Rattle.bfs_bitmap.specs.Runs.{Room, Fits}
 use Rattle.bfs_stream.specs.Sizes.{sizes_of}
 use Rattle.bfs_stream.specs.Grown.{IsOfVolume}
 use Rattle.bfs_core.specs.Spaces.{released_space}
-use Rattle.bfs_space.specs.Books.{SpaceBooks}
+use Rattle.bfs_space.specs.Books.{SpaceBooks, released_room}
 use Rattle.bfs_space.proofs.Groups.{parts_with, released_used}
 use Rattle.bfs_space.proofs.space.Space.released.Goals as goal
 
@@ -25,11 +25,14 @@ invariant_of-self c =
       c.self.invariant.3,
     )
 
-pub returns : goal.returns
-returns c =
+pub returns-clause-released : goal.returns-clause-released
+returns-clause-released c =
     let i = c.self.inside in
     let is = c.release.ensures.given in
     let used = ap (λ (v : Room). v.tally.used) is ∙ released_used c.args.group i.bitmap.given i.bitmap.tally in
     let given = ap (λ (v : Room). v.given) is in
-    (λ j. record { view = record { sup = i.sup; used = used j; group = i.group; history = i.history.items; sealed = i.sealed; sealed_used = i.sealed_used; given = given j }; promised = i.promised.items; stop = i.stop })
-    ∙ ap (λ (b : SpaceBooks). record b { view = released_space c.args.group b.view }) c.self.view_is
+    (λ j. record { view = record { sup = i.sup; used = used j; group = i.group; history = i.history.items; sealed = i.sealed; sealed_used = i.sealed_used; given = given j }; room = is j; promised = i.promised.items; stop = i.stop })
+    ∙ ap (λ (b : SpaceBooks). record b { view = released_space c.args.group b.view; room = released_room c.args.group b.room }) c.self.view_is
+
+pub returns-clause-fits : goal.returns-clause-fits
+returns-clause-fits c m fits = c.release.ensures.fits m (subst (λ (b : SpaceBooks). Fits b.room m) (sym c.self.view_is) fits)

@@ -6,3 +6,4 @@ pub mod Marked
 pub mod Back
 pub mod Counts
 pub mod Settled
+pub mod Counting

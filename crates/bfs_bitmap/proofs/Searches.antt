@@ -8,7 +8,7 @@ use Rattle.bfs_bitmap.specs.declared.search.Search.{Search}
 use Rattle.bfs_bitmap.specs.declared.search.Search.TheVariants.{Found, Full}
 use Rattle.bfs_bitmap.proofs.Looks.{remainder_is}
 
-split : (j n : ℕ) → (j < n) ⊎ (n ≤ j)
+pub split : (j n : ℕ) → (j < n) ⊎ (n ≤ j)
 split j n = grind arith
 
 true_not_false : (b : Bool) → b ≡ true → b ≡ false → ⊥
@@ -18,11 +18,11 @@ true_not_false b p q = bad (sym p ∙ q)
     bad z = cc
 
 -- the volume's end isn't free
-past : (v : Room) (m : ℕ → Option (List ℕ)) (k : ℕ) → v.blocks ≤ k → is_free v m k ≡ false
+pub past : (v : Room) (m : ℕ → Option (List ℕ)) (k : ℕ) → v.blocks ≤ k → is_free v m k ≡ false
 past v m k h = let test : nat_lt k v.blocks ≡ false = grind (arith, h) in rw test refl
 
 -- a run that would reach over a block that isn't free
-no_run_over : (v : Room) (m : ℕ → Option (List ℕ)) (wanted g k : ℕ) → g ≤ k → k < g + wanted → is_free v m k ≡ false → ¬ IsFreeRun v m g wanted
+pub no_run_over : (v : Room) (m : ℕ → Option (List ℕ)) (wanted g k : ℕ) → g ≤ k → k < g + wanted → is_free v m k ≡ false → ¬ IsFreeRun v m g wanted
 no_run_over v m wanted g k low high not_free run = true_not_false (is_free v m k) (run.free k low high) not_free
 
 -- none begins where nothing is free
@@ -49,7 +49,7 @@ in_group G at g some le h =
     ap (λ (n : ℕ). n % G) f ∙ remainder_is G (at / G) (at % G + (g - at)) h
 
 -- what ends a stretch keeps a longer run from beginning in it
-stops : (v : Room) (m : ℕ → Option (List ℕ)) (at longest limit end n g : ℕ) → 0 < v.group_blocks → IsLimit v at longest limit → end ≤ limit → IsNext v m (at + 1) limit false end → at ≤ g → g < end → end < g + n → (end - at ≡ longest → ⊥) → ¬ IsFreeRun v m g n
+pub stops : (v : Room) (m : ℕ → Option (List ℕ)) (at longest limit end n g : ℕ) → 0 < v.group_blocks → IsLimit v at longest limit → end ≤ limit → IsNext v m (at + 1) limit false end → at ≤ g → g < end → end < g + n → (end - at ≡ longest → ⊥) → ¬ IsFreeRun v m g n
 stops v m at longest limit end n g some lim inside next low high over short run = by_end (split end limit)
   where
     by_why : end ≡ limit → (limit ≡ v.blocks) ⊎ ((at % v.group_blocks + (limit - at) ≡ v.group_blocks) ⊎ (limit - at ≡ longest)) → ⊥

@@ -5,3 +5,4 @@ pub mod Searches
 pub mod Fills
 pub mod Givens
 pub mod Tallies
+pub mod Counted

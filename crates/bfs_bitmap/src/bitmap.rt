@@ -1,5 +1,5 @@
 // What a bitmap keeps beside the disk.
-ghost use Rattle.std.specs.Prelude.{◌≡◌, ◌≤◌, [], ◌*◌, ◌^◌, min};
+ghost use Rattle.std.specs.Prelude.{◌≡◌, ◌≤◌, [], ◌*◌, ◌^◌, min, ◌≢◌, ◌↔◌, IsTrue};
 ghost use Rattle.bfs_super.specs.Conditions.{IsValid, natural, group_blocks};
 ghost use Rattle.bfs_bitmap.specs.Tallies.{first_tally};
 
@@ -65,9 +65,18 @@ impl Bitmap {
 
     /// The number of used blocks.
     pub fn used(&self) -> u64
-        ensures { result ≡ self.now.tally.used }
+        ensures value { result ≡ self.now.tally.used }
+        ensures few { result ≤ self.now.blocks }
     {
+        self.sizes();
         self.tally.used
+    }
+
+    /// Whether runs were given back that aren't released yet.
+    pub fn has_given(&self) -> bool
+        ensures { IsTrue result ↔ (self.now.given ≢ []) }
+    {
+        !self.given.is_empty()
     }
 
     /// What is known of the free space beside the bits.

@@ -9,6 +9,7 @@ mod fill;
 mod give;
 mod given;
 mod laws;
+mod runs;
 mod search;
 mod take;
 mod tally;

@@ -20,7 +20,7 @@ impl Bitmap {
     ghost use Rattle.bfs_bitmap.specs.Searches.{IsSound, IsAnswer, IsAnswerFrom, BeginsFrom, IsLimit};
 
     /// Where a run that begins here has to end.
-    fn limit(&self, at: u64, longest: u16) -> u64
+    pub(crate) fn limit(&self, at: u64, longest: u16) -> u64
         requires inside { at < self.now.blocks }
         requires some { 1 ≤ longest }
         ensures { IsLimit self.now at longest result }

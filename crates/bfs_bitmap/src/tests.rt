@@ -104,3 +104,18 @@ fn where_no_run_is_free_the_free_blocks_are_counted(rt: HostRuntime) -> Result<(
     assert_eq!(rt; short, Err(RunFault::NoRun { wanted: 3, free: 4 }));
     Ok(())
 }
+
+#[test]
+fn free_runs_are_counted_that_share_no_block(rt: HostRuntime) -> Result<(), Fail> {
+    let alloc = rt.alloc();
+    let sup = superblock()?;
+    assert_eq!(rt; sup.block_size, 1024);
+    let bitmap = Bitmap::of(alloc, &sup);
+    // Of the last eight blocks the third, fifth, sixth and eighth stay free.
+    let mut under = memory(alloc, 2, 511, 0b0100_1011)?;
+    assert_eq!(rt; bitmap.free_runs(&mut under, 1, 9), Ok(4));
+    assert_eq!(rt; bitmap.free_runs(&mut under, 2, 9), Ok(1));
+    assert_eq!(rt; bitmap.free_runs(&mut under, 3, 9), Ok(0));
+    assert_eq!(rt; bitmap.free_runs(&mut under, 1, 3), Ok(3));
+    Ok(())
+}

@@ -1,8 +1,9 @@
 -- What a read gives of a block, and that some image is left.
-use Rattle.std.proofs.Common.{◌≡◌, ℕ, ◌+◌, ◌*◌, ◌<◌, ◌≤◌, List, length, drop, sym, ◌∙◌, subst, arith, length-drop}
+use Rattle.std.proofs.Common.{◌≡◌, ℕ, zero, suc, ◌+◌, ◌*◌, ◌<◌, ◌≤◌, List, ◌++◌, length, drop, refl, sym, ◌∙◌, ap, subst, arith, Option, Some, None, IfSome, length-drop}
 use Rattle.std.proofs.lemmas.List.{length-take-le}
 use Rattle.bfs_disk.specs.State.{State, Filled, IsImage, IsOneOf, IsQuiet, ReadsAs, newest}
-use Rattle.bfs_disk.specs.Blocks.{IsRead, Known, contents_of}
+use Rattle.bfs_disk.specs.Disk.{InRange, ReadsSectors}
+use Rattle.bfs_disk.specs.Blocks.{AreRead, IsRead, Known, contents_of}
 use Rattle.bfs_disk.proofs.Images.{one_of_one}
 use Rattle.bfs_base.specs.Images.{block, joined, sector}
 use Rattle.bfs_base.proofs.Sectors.{sector_part, same_sectors, length-joined, sector-joined}
@@ -17,6 +18,29 @@ contents_read s r b whole fits =
 -- and only so
 pub read_once : (s : State) (r b : ℕ) (c d : List ℕ) → IsRead s r b c → IsRead s r b d → c ≡ d
 read_once s r b c d one two = same_sectors r c d (one.long ∙ sym two.long) (omega (arith, one.long)) (λ j lt. one.each j lt ∙ sym (two.each j lt))
+
+-- sectors that were read are a block as the disk reads it
+pub block_of_sectors : (told : Option State) (known : Option ℕ) (r b : ℕ) (bytes : List ℕ) → IfSome told Filled → IfSome told (λ s. known ≡ Some s.size) → InRange known (r * b) bytes → length bytes ≡ 512 * r
+    → ReadsSectors told (r * b) bytes → AreRead told r b bytes
+block_of_sectors None known r b bytes filled sized range long each = tt
+block_of_sectors (Some s) None r b bytes filled sized range long each = absurd range
+block_of_sectors (Some s) (Some size) r b bytes filled sized range long each =
+    let same : size ≡ s.size = cc in
+    let is : IsRead s r b bytes = record { long = long; each = λ j lt. each j (omega (arith, lt, long)) } in
+    read_once s r b bytes (contents_of s r b) is (contents_read s r b filled (omega (arith, same, range, long)))
+
+-- and the block's sectors are the disk's
+pub sectors_of_block : (told : Option State) (known : Option ℕ) (r b : ℕ) (bytes : List ℕ) → IfSome told Filled → IfSome told (λ s. known ≡ Some s.size) → InRange known (r * b) bytes → length bytes ≡ 512 * r
+    → AreRead told r b bytes → ReadsSectors told (r * b) bytes
+sectors_of_block None known r b bytes filled sized range long read = tt
+sectors_of_block (Some s) None r b bytes filled sized range long read = absurd range
+sectors_of_block (Some s) (Some size) r b bytes filled sized range long read = λ j lt.
+    let same : size ≡ s.size = cc in
+    ap (sector j) read ∙ (contents_read s r b filled (omega (arith, same, range, long))).each j (omega (arith, lt, long))
+
+pub joined_same : (n : ℕ) (f g : ℕ → List ℕ) → ((j : ℕ) → j < n → f j ≡ g j) → joined n f ≡ joined n g
+joined_same zero f g same = refl
+joined_same (suc n) f g same = ap (λ (x : List ℕ). x ++ joined n (λ j. f (suc j))) (same 0 (omega arith)) ∙ ap (λ (xs : List ℕ). g 0 ++ xs) (joined_same n (λ j. f (suc j)) (λ j. g (suc j)) (λ j lt. same (suc j) (omega arith)))
 
 -- a crash leaves some image
 pub some_image : (s : State) → Filled s → IsImage s (joined s.size (newest s))

@@ -1,5 +1,5 @@
 -- A disk as a volume sees it: the superblock's sector, and blocks of r sectors behind block 0.
-use Rattle.std.specs.Prelude.{◌≡◌, ◌<◌, ◌≤◌, ℕ, ◌+◌, ◌*◌, List, length}
+use Rattle.std.specs.Prelude.{◌≡◌, ◌<◌, ◌≤◌, ℕ, ◌+◌, ◌*◌, List, length, Option, IfSome}
 use Rattle.bfs_base.specs.Images.{sector, joined}
 use Rattle.bfs_disk.specs.State.{State, IsOneOf, newest}
 
@@ -23,3 +23,7 @@ pub record Known (state : State) (r : ℕ) (S T : List ℕ → Type 0) (P Q : �
 -- what a read gives of each block
 abbrev pub contents_of : State → ℕ → ℕ → List ℕ
 contents_of state r b = joined r (λ j. newest state (r * b + j))
+
+-- the bytes are those that the disk reads at this block, where it tells
+abbrev pub AreRead : Option State → ℕ → ℕ → List ℕ → Type 0
+AreRead told r b bytes = IfSome told (λ s. bytes ≡ contents_of s r b)

@@ -1,5 +1,5 @@
 // A disk over a file.
-ghost use Rattle.std.specs.Prelude.{◌≡◌, ◌≤◌, ◌<◌, ◌+◌, ◌-◌, ◌*◌, ◌^◌, min, ℕ, None, Some, IfOk};
+ghost use Rattle.std.specs.Prelude.{◌≡◌, ◌≤◌, ◌<◌, ◌+◌, ◌-◌, ◌*◌, ◌^◌, min, ℕ, None, Some, IfOk, option_copied};
 ghost use Rattle.std.specs.Option.{ForSome};
 ghost use Rattle.std.specs.String.{string_bytes};
 
@@ -62,7 +62,9 @@ impl<R: Files + AllocGlobal + Drop> FileDisk<R> {
 
 impl<R: Files + Drop> FileDisk<R> {
     /// The last call of the file that failed, for a message to who runs the program.
-    pub fn failure(&self) -> Option<&FileFailure> {
+    pub fn failure(&self) -> Option<&FileFailure>
+        ensures { option_copied result ≡ self.now.failure }
+    {
         self.failure.as_ref()
     }
 }

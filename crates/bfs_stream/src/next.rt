@@ -1,6 +1,6 @@
 // Finds room for a stream's next run, and adds it.
 ghost use Rattle.std.specs.Prelude.{◌≡◌, ◌<◌, ◌≤◌, ◌⊎◌, ◌+◌, ◌-◌, ◌*◌, ◌/◌, ◌^◌, ℕ, List, [], length, Option, Some, OnOk, IfOk, IfErr, true};
-ghost use Rattle.bfs_txn.specs.Faults.{AreLater};
+ghost use Rattle.bfs_txn.specs.Faults.{AreLater, IsCaused};
 ghost use Rattle.bfs_inode.specs.Inode.{stream_at};
 ghost use Rattle.bfs_bitmap.specs.Fills.{IsBitmapBlock};
 ghost use Rattle.bfs_stream.specs.Sizes.{IsInVolume, IsWhole, runs_per_block, array_length, table_length};
@@ -414,6 +414,28 @@ impl Stream {
         let ends = self.ends(bytes);
         let runs = self.table_length() * self.table_length();
         less(self.array_length() * runs, less(ends.double, ends.indirect))
+    }
+
+    /// How many blocks more the double indirect level can take. It reads the inode.
+    pub fn room_left<B: Blocks>(&mut self, under: &mut B) -> Result<u64, BlockFault>
+        requires { B.size under.old ≡ self.old.sizes.block_size }
+        ensures room { (m : ℕ → Option (List ℕ)) → B.told under.old ≡ Some m → Stands self.old m → IfOk result (λ room. room ≡ room_at self.old.sizes (contents m) self.old.id) }
+        ensures same { self.new ≡ self.old }
+        ensures told { B.told under.new ≡ B.told under.old }
+        ensures changed { B.changed under.new ≡ B.changed under.old }
+        ensures size { B.size under.new ≡ B.size under.old }
+        ensures frame { B.frame under.new ≡ B.frame under.old }
+        ensures cause { IsCaused (B.counts under.old) (B.counts under.new) result }
+    {
+        self.sizes();
+        let mut bytes = match vec![in self.alloc; 0u8; self.block_size as usize] {
+            Ok(bytes) => bytes,
+            Err(_) => return Err(BlockFault::NoMemory),
+        };
+        match under.get(self.inode, &mut bytes) {
+            Ok(()) => Ok(self.room(&bytes)),
+            Err(fault) => Err(fault),
+        }
     }
 
     /// Adds blocks at the stream's end, as few as hold so many more; under double indirect the last run stays whole. It

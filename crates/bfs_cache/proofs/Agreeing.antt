@@ -1,30 +1,32 @@
 -- What is kept stays what the disk reads.
-use Rattle.std.proofs.Common.{◌≡◌, ◌≢◌, ⊎_elim, ℕ, ◌+◌, ◌*◌, ◌<◌, ◌≤◌, List, [], ◌∷◌, length, take, get_or, sym, ◌∙◌, ap, subst, arith, false, nat_eq, Option, Some, None}
+use Rattle.std.proofs.Common.{◌≡◌, ◌≢◌, ⊎_elim, ℕ, ◌+◌, ◌*◌, ◌/◌, ◌<◌, ◌≤◌, List, [], ◌∷◌, length, take, get_or, sym, ◌∙◌, ap, subst, arith, false, nat_eq, Option, Some, None}
 use Rattle.std.proofs.lemmas.Bool.{cases_eq, cases_lt, cond-false, true≢false}
 use Rattle.std.proofs.Math.Nat.{mul-le-mul_left}
 use Rattle.std.specs.List.{IsDistinct}
 use Rattle.std.specs.Map.{keys_of}
 use Rattle.std.specs.Option.{IfSome}
 use Rattle.bfs_disk.specs.State.{State, newest, written, settled, names, IsHalfWritten}
-use Rattle.bfs_disk.specs.Disk.{HalfWritten, ReadsSectors, told_written}
+use Rattle.bfs_disk.specs.Blocks.{AreRead}
+use Rattle.bfs_disk.specs.Disk.{HalfWritten, InRange, told_written}
 use Rattle.bfs_disk.proofs.Names.{names_before, names_after}
 use Rattle.bfs_disk.proofs.Calls.{first_same}
+use Rattle.bfs_disk.proofs.Joined.{joined_same}
 use Rattle.bfs_cache.specs.Kept.{kept_of, without}
 use Rattle.bfs_cache.specs.Agreement.{AgreesAt, Agrees, IsInside, WriteKeeps, FailedWriteKeeps, BarrierKeeps}
 use Rattle.bfs_cache.proofs.Entries.{first_at, others_stay, is_gone}
 
 -- what agrees of a block's kept bytes
 abbrev Good : Option State → ℕ → ℕ → Option (List ℕ) → Type 0
-Good told r k o = IfSome o (λ bytes. (length bytes ≡ 512 * r) × ReadsSectors told (r * k) bytes)
+Good told r k o = IfSome o (λ bytes. (length bytes ≡ 512 * r) × AreRead told r k bytes)
 
-pub agrees_with : (told : Option State) (r b : ℕ) (es : List (ℕ × List ℕ)) (bytes : List ℕ) → kept_of es b ≡ Some bytes → Agrees told r es → (length bytes ≡ 512 * r) × ReadsSectors told (r * b) bytes
+pub agrees_with : (told : Option State) (r b : ℕ) (es : List (ℕ × List ℕ)) (bytes : List ℕ) → kept_of es b ≡ Some bytes → Agrees told r es → (length bytes ≡ 512 * r) × AreRead told r b bytes
 agrees_with told r b es bytes is all = subst (Good told r b) is (all b)
 
-pub agrees_first : (told : Option State) (r n b : ℕ) (bytes : List ℕ) (es : List (ℕ × List ℕ)) → length bytes ≡ 512 * r → ReadsSectors told (r * b) bytes → Agrees told r es → Agrees told r (take n ((b, bytes) ∷ without b es))
+pub agrees_first : (told : Option State) (r n b : ℕ) (bytes : List ℕ) (es : List (ℕ × List ℕ)) → length bytes ≡ 512 * r → AreRead told r b bytes → Agrees told r es → Agrees told r (take n ((b, bytes) ∷ without b es))
 agrees_first told r n b bytes es long reads all = λ k. ⊎_elim
     (λ gone. subst (Good told r k) (sym gone) tt)
     (λ some. ⊎_elim
-    (λ here. subst (Good told r k) (sym here.1) (long, subst (λ (i : ℕ). ReadsSectors told (r * i) bytes) (sym here.0) reads))
+    (λ here. subst (Good told r k) (sym here.1) (long, subst (λ (i : ℕ). AreRead told r i bytes) (sym here.0) reads))
     (λ same. subst (Good told r k) (sym same) (all k))
     some)
     (first_at n b k bytes es)
@@ -35,6 +37,11 @@ agrees_without told r b es once others = λ k. ⊎_elim
     (λ other. subst (Good told r k) (sym (others_stay b k es other)) (others k other))
     (cases_eq k b)
 
+-- other bytes, as many
+pub range_of : (size : Option ℕ) (at : ℕ) (bytes other : List ℕ) → length other ≡ length bytes → InRange size at bytes → InRange size at other
+range_of None at bytes other same range = range
+range_of (Some n) at bytes other same range = omega (arith, range, ap (λ (m : ℕ). m / 512) same)
+
 -- ---- calls of the disk
 
 -- a write inside of a block names no sector of another
@@ -44,12 +51,12 @@ unnamed r b k at bytes j within other lt =
     (λ ge. names_after at (r * k + j) bytes (let le : r * (b + 1) ≤ r * k = mul-le-mul_left r (let l : b + 1 ≤ k = omega (arith, ge, other) in l) in omega (arith, le, within.1)))
     (cases_lt k b)
 
-reads_on : (r k : ℕ) (old new : State) (bytes : List ℕ) → length bytes ≡ 512 * r → ((j : ℕ) → j < r → newest new (r * k + j) ≡ newest old (r * k + j)) → ReadsSectors (Some old) (r * k) bytes → ReadsSectors (Some new) (r * k) bytes
-reads_on r k old new bytes long same reads = λ j lt. reads j lt ∙ sym (same j (omega (arith, lt, long)))
+reads_on : (r k : ℕ) (old new : State) (bytes : List ℕ) → ((j : ℕ) → j < r → newest new (r * k + j) ≡ newest old (r * k + j)) → AreRead (Some old) r k bytes → AreRead (Some new) r k bytes
+reads_on r k old new bytes same read = read ∙ joined_same r (λ j. newest old (r * k + j)) (λ j. newest new (r * k + j)) (λ j lt. sym (same j lt))
 
 good_on : (r k : ℕ) (old new : State) (o : Option (List ℕ)) → ((j : ℕ) → j < r → newest new (r * k + j) ≡ newest old (r * k + j)) → Good (Some old) r k o → Good (Some new) r k o
 good_on r k old new None same good = tt
-good_on r k old new (Some bytes) same good = (good.0, reads_on r k old new bytes good.0 same good.1)
+good_on r k old new (Some bytes) same good = (good.0, reads_on r k old new bytes same good.1)
 
 -- a block that isn't kept, or another
 by_block : (told new : Option State) (r b : ℕ) (kept : List (ℕ × List ℕ)) → kept_of kept b ≡ None → ((k : ℕ) → k ≢ b → Good told r k (kept_of kept k) → Good new r k (kept_of kept k)) → Agrees told r kept → Agrees new r kept

@@ -3,7 +3,7 @@ use Rattle.std.proofs.Common.{◌≡◌, ◌⊎◌, inl, inr, ⊎_elim, ℕ, ◌
 use Rattle.std.proofs.lemmas.List.{length-take}
 use Rattle.lru.specs.LruCache.{LruCache, lru_cache, promoted, put_entries}
 use Rattle.bfs_disk.specs.State.{State}
-use Rattle.bfs_disk.specs.Disk.{ReadsSectors}
+use Rattle.bfs_disk.specs.Blocks.{AreRead}
 use Rattle.bfs_cache.specs.Kept.{View, kept_of, without, with_first, counted}
 use Rattle.bfs_cache.specs.Agreement.{Agrees}
 use Rattle.bfs_cache.proofs.Entries.{promoted_is, promoted_none, put_is, fewer}
@@ -62,7 +62,7 @@ miss_invariant n b old new moved none cap fits =
 
 -- what is kept after a read agrees with the disk
 pub agrees_after : {E : Type 0} (result : Result (Unit {0}) E) (told : Option State) (r b : ℕ) (bytes : List ℕ) (old new : View) → length bytes ≡ 512 * r
-    → OnOk result (ReadsSectors told (r * b) bytes) → OnOk result ((new ≡ with_first b bytes old) ⊎ (new ≡ counted old)) → OnErr result (new ≡ old) → Agrees told r old.kept → Agrees told r new.kept
+    → OnOk result (AreRead told r b bytes) → OnOk result ((new ≡ with_first b bytes old) ⊎ (new ≡ counted old)) → OnErr result (new ≡ old) → Agrees told r old.kept → Agrees told r new.kept
 agrees_after (Ok x) told r b bytes old new long reads first failed all = ⊎_elim
     (λ is. subst (λ (w : View). Agrees told r w.kept) (sym is) (agrees_first told r old.bound b bytes old.kept long reads all))
     (λ is. subst (λ (w : View). Agrees told r w.kept) (sym is) all)

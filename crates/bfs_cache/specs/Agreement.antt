@@ -2,12 +2,13 @@
 use Rattle.std.specs.Prelude.{◌≡◌, ◌≤◌, ℕ, ◌+◌, ◌*◌, ◌/◌, List, length, Option, None, IfSome}
 use Rattle.std.specs.Option.{option_map}
 use Rattle.bfs_disk.specs.State.{State, settled}
-use Rattle.bfs_disk.specs.Disk.{HalfWritten, ReadsSectors, told_written}
+use Rattle.bfs_disk.specs.Blocks.{AreRead}
+use Rattle.bfs_disk.specs.Disk.{HalfWritten, told_written}
 use Rattle.bfs_cache.specs.Kept.{kept_of}
 
 -- what is kept of this block has a block's length, and is what the disk reads there, where it tells
 abbrev pub AgreesAt : Option State → ℕ → List (ℕ × List ℕ) → ℕ → Type 0
-AgreesAt told r kept block = IfSome (kept_of kept block) (λ bytes. (length bytes ≡ 512 * r) × ReadsSectors told (r * block) bytes)
+AgreesAt told r kept block = IfSome (kept_of kept block) (λ bytes. (length bytes ≡ 512 * r) × AreRead told r block bytes)
 
 -- so is what is kept of each block
 abbrev pub Agrees : Option State → ℕ → List (ℕ × List ℕ) → Type 0

@@ -1,12 +1,12 @@
 -- After a call that failed: what a read gives elsewhere, and what a crash leaves.
-use Rattle.std.proofs.Common.{◌≡◌, ◌≢◌, ⊎_elim, ℕ, zero, suc, ◌+◌, ◌*◌, ◌<◌, ◌≤◌, List, [], ◌∷◌, ◌++◌, length, refl, sym, ◌∙◌, ap, subst, arith, Bool, true, false, Some, get_or}
+use Rattle.std.proofs.Common.{◌≡◌, ◌≢◌, ⊎_elim, ℕ, ◌+◌, ◌*◌, ◌<◌, ◌≤◌, List, [], ◌∷◌, length, sym, ◌∙◌, ap, subst, arith, Bool, true, false, Some, get_or}
 use Rattle.std.proofs.lemmas.Bool.{cases_lt, cases_eq, cond-false, true≢false}
 use Rattle.std.proofs.Math.Nat.{mul-le-mul_left}
-use Rattle.bfs_base.specs.Images.{joined}
 use Rattle.bfs_disk.specs.State.{State, IsImage, IsHalfWritten, newest, written, names}
 use Rattle.bfs_disk.specs.Blocks.{contents_of}
 use Rattle.bfs_disk.proofs.Names.{names_before, names_after}
 use Rattle.bfs_disk.proofs.Calls.{half_image}
+use Rattle.bfs_disk.proofs.Joined.{joined_same}
 use Rattle.bfs_super.specs.Conditions.{natural, IsValid}
 use Rattle.bfs_log.specs.Replay.{Home, log_from, log_to}
 use Rattle.bfs_txn.specs.Changed.{number_at, bytes_at}
@@ -25,10 +25,6 @@ use Rattle.bfs_device.proofs.Phasing.{during_image, long_block, long_home}
 use Rattle.bfs_device.proofs.Right.{Reading, one_of, at, reading}
 
 -- ---- blocks that a write doesn't name
-
-pub joined_same : (n : ℕ) (f g : ℕ → List ℕ) → ((j : ℕ) → j < n → f j ≡ g j) → joined n f ≡ joined n g
-joined_same zero f g same = refl
-joined_same (suc n) f g same = ap (λ (x : List ℕ). x ++ joined n (λ j. f (suc j))) (same 0 (omega arith)) ∙ ap (λ (xs : List ℕ). g 0 ++ xs) (joined_same n (λ j. f (suc j)) (λ j. g (suc j)) (λ j lt. same (suc j) (omega arith)))
 
 pub block_others : (r a b j : ℕ) (bytes : List ℕ) → length bytes ≡ 512 * r → b ≢ a → j < r → names (r * a) bytes (r * b + j) ≡ false
 block_others r a b j bytes long other lt =

@@ -1,4 +1,3 @@
-pub mod Maps
 pub mod Ordered
 pub mod Homes
 pub mod Entries

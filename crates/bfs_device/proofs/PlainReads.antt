@@ -4,12 +4,11 @@ use Rattle.std.specs.Option.{IfSome}
 use Rattle.std.proofs.lemmas.Bool.{le-leb}
 use Rattle.bfs_disk.specs.State.{State, Filled}
 use Rattle.bfs_disk.specs.Disk.{HasSectors, ReadsSectors}
-use Rattle.bfs_disk.specs.Blocks.{IsRead, contents_of}
+use Rattle.bfs_disk.specs.Blocks.{AreRead, IsRead, contents_of}
 use Rattle.bfs_disk.proofs.Joined.{contents_read, read_once}
 use Rattle.bfs_super.specs.declared.sup.Super.{Super}
 use Rattle.bfs_super.specs.Conditions.{natural}
 use Rattle.bfs_device.specs.Books.{IsOnDisk}
-use Rattle.bfs_device.specs.Data.{AreRead}
 use Rattle.bfs_device.specs.Plain.{has_sectors, block_inside}
 
 pub plain_read : (size blocks place : ℕ) → size ≡ 512 * (size / 512) → (told : Option State) (known : Option ℕ) → IfSome told Filled → IfSome told (λ s. known ≡ Some s.size) → HasSectors known (size / 512 * blocks)

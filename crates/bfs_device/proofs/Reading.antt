@@ -1,5 +1,5 @@
 -- Blocks that are read, and one that is written.
-use Rattle.std.proofs.Common.{◌≡◌, ◌≢◌, inl, inr, ⊎_elim, ℕ, ◌+◌, ◌-◌, ◌*◌, ◌/◌, ◌<◌, ◌≤◌, ◌==◌, ◌||◌, List, [], ◌∷◌, ◌++◌, length, drop, get_or, refl, sym, ◌∙◌, ap, subst, arith, Bool, true, false, cond, nat_le, Option, Some, None, IfSome, Result, length-drop}
+use Rattle.std.proofs.Common.{◌≡◌, ◌≢◌, inl, inr, ⊎_elim, ℕ, ◌+◌, ◌-◌, ◌*◌, ◌<◌, ◌≤◌, ◌==◌, ◌||◌, List, [], ◌∷◌, ◌++◌, length, drop, get_or, refl, sym, ◌∙◌, ap, subst, arith, Bool, true, false, cond, nat_le, Option, Some, None, IfSome, Result, length-drop}
 use Rattle.std.proofs.lemmas.Bool.{cond-true, eq-eqb, le-leb, true≢false}
 use Rattle.std.proofs.lemmas.List.{length-take-le}
 use Rattle.bfs_base.specs.Images.{sector, joined}
@@ -8,9 +8,9 @@ use Rattle.bfs_base.proofs.Moments.{passed_one}
 use Rattle.bfs_base.proofs.Sectors.{same_sectors, length-joined, sector-joined}
 use Rattle.bfs_disk.specs.State.{State, IsImage, IsHalfWritten, Filled, Tells, newest as newest_sector, written, names}
 use Rattle.bfs_disk.specs.Disk.{MayLeave, ReadsSectors, told_written, HalfWritten}
-use Rattle.bfs_disk.specs.Blocks.{Known as Seen, IsRead, contents_of}
+use Rattle.bfs_disk.specs.Blocks.{AreRead, Known as Seen, contents_of}
 use Rattle.bfs_disk.proofs.Names.{names_inside}
-use Rattle.bfs_disk.proofs.Joined.{contents_read, read_once}
+use Rattle.bfs_disk.proofs.Joined.{block_of_sectors}
 use Rattle.bfs_disk.proofs.Known.{known_block_written}
 use Rattle.bfs_disk.proofs.Calls.{half_image}
 use Rattle.bfs_super.specs.declared.sup.Super.{Super}
@@ -26,10 +26,10 @@ use Rattle.bfs_device.specs.Layouts.{Layout, IsData, layout_of, homes_in, ring_c
 use Rattle.bfs_device.specs.Versions.{upto}
 use Rattle.bfs_device.specs.Phases.{IsHomeOf, none, Keeps, Plain, Rests, Stands}
 use Rattle.bfs_device.specs.Books.{Books, Follow, IsPhaseOf, IsSealed, IsOnDisk, IsRight, IsRightAs, RecoversOne, version, sealed_of, last_in}
-use Rattle.bfs_device.specs.Data.{newest_in, AreRead, touching, AreSameBut}
+use Rattle.bfs_device.specs.Data.{newest_in, touching, AreSameBut}
 use Rattle.bfs_device.specs.Steps.{halted}
 use Rattle.bfs_device.proofs.Homes.{over_same, over_out, over_joined, home_of}
-use Rattle.bfs_device.proofs.Sizes.{good, sizes, fits_sectors, from_low}
+use Rattle.bfs_device.proofs.Sizes.{good, sizes, from_low, in_range}
 use Rattle.bfs_device.proofs.Going.{slot_inside, log_not_data}
 use Rattle.bfs_device.proofs.Failing.{block_others, half_others, written_others}
 use Rattle.bfs_device.proofs.Right.{to_version}
@@ -37,18 +37,10 @@ use Rattle.bfs_device.proofs.Sealing.{last_behind}
 use Rattle.bfs_device.proofs.Stepping.{Known, on_state, filled_state, standing_of, now_as, now_right, again_one}
 
 -- what was read is what the disk reads
-read_as : (s : Super) (st : State) (b : ℕ) (bytes : List ℕ) → IsValid s → Filled st → (layout_of s).sectors * (layout_of s).blocks ≤ st.size → b < (layout_of s).blocks → length bytes ≡ s.block_size
-    → ((k : ℕ) → k < length bytes / 512 → sector k bytes ≡ newest_sector st ((layout_of s).sectors * b + k)) → bytes ≡ contents_of st (layout_of s).sectors b
-read_as s st b bytes valid filled sized lt long each =
-    let r : ℕ = (layout_of s).sectors in
-    let count : length bytes / 512 ≡ r = ap (λ (n : ℕ). n / 512) long in
-    let is : IsRead st r b bytes = record { long = long ∙ (sizes s valid).0; each = λ j below. each j (omega (arith, below, count)) } in
-    read_once st r b bytes (contents_of st r b) is (contents_read st r b filled (omega (arith, fits_sectors s valid b lt, sized)))
-
 pub reads_as : (s : Super) (told : Option State) (size : Option ℕ) (b : ℕ) (bytes : List ℕ) → IsValid s → IfSome told Filled → IfSome told (λ x. size ≡ Some x.size) → IsOnDisk size s → b < (layout_of s).blocks → length bytes ≡ s.block_size
     → ReadsSectors told ((layout_of s).sectors * b) bytes → AreRead told (layout_of s).sectors b bytes
-reads_as s None size b bytes valid filled law on lt long each = tt
-reads_as s (Some st) size b bytes valid filled law on lt long each = read_as s st b bytes valid filled (on_state s size (Some st) st law on refl) lt long each
+reads_as s told size b bytes valid filled law on lt long each =
+    block_of_sectors told size (layout_of s).sectors b bytes filled law (in_range s valid size b bytes on lt long) (long ∙ (sizes s valid).0) each
 
 -- ---- the newest bytes
 

@@ -1,8 +1,7 @@
 -- Reads and writes of single blocks beside the groups.
-use Rattle.std.specs.Prelude.{◌≡◌, ◌≢◌, ℕ, ◌==◌, ◌||◌, List, [], ◌∷◌, Bool, false, Option, Some, None, IfSome}
+use Rattle.std.specs.Prelude.{◌≡◌, ◌≢◌, ℕ, ◌==◌, ◌||◌, List, [], ◌∷◌, Bool, false, Option, Some, None}
 use Rattle.bfs_base.specs.Counts.{Rose}
 use Rattle.bfs_disk.specs.State.{State}
-use Rattle.bfs_disk.specs.Blocks.{contents_of}
 use Rattle.bfs_txn.specs.Changed.{or_else, newest}
 use Rattle.bfs_txn.specs.declared.group.Group.{Group}
 use Rattle.bfs_device.specs.declared.journal.DeviceFault.{DeviceFault}
@@ -23,10 +22,6 @@ moved_on b = record b { moment = counted b.moment }
 -- the books are as before, but for the count of calls
 abbrev pub IsRested : Books → Books → Type 0
 IsRested old new = new ≡ record old { moment = new.moment }
-
--- the bytes are those that the disk reads at this block
-abbrev pub AreRead : Option State → ℕ → ℕ → List ℕ → Type 0
-AreRead told sectors block bytes = IfSome told (λ s. bytes ≡ contents_of s sectors block)
 
 -- A fault of a read and its cause: the read failed, so that the count of faults rose, and the device goes on; or it had stopped
 -- before, and nothing has changed.

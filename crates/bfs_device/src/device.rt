@@ -3,7 +3,9 @@ ghost use Rattle.std.specs.Prelude.{◌≡◌, ◌⊎◌, ◌≤◌, ◌<◌, �
 ghost use Rattle.bfs_base.specs.Counts.{HasCause, Rose};
 ghost use Rattle.bfs_base.specs.Moments.{Elapses, Passed};
 ghost use Rattle.bfs_disk.specs.State.{State, Tells, Holds};
+ghost use Rattle.bfs_disk.specs.Blocks.{AreRead};
 ghost use Rattle.bfs_disk.specs.Disk.{MayLeave, HalfWritten, told_written};
+ghost use Rattle.bfs_cache.specs.Agreement.{Agrees};
 ghost use Rattle.bfs_super.specs.Conditions.{IsValid};
 ghost use Rattle.bfs_log.specs.Replay.{super_of, over};
 ghost use Rattle.bfs_device.specs.Layouts.{is_data, IsData, IsSameVolume, layout_of, homes_in};
@@ -11,22 +13,25 @@ ghost use Rattle.bfs_device.specs.Phases.{none};
 ghost use Rattle.bfs_device.specs.Books.{IsNext, IsOnDisk, IsRight, Ready, IsVersion, RecoversOne, AreSame, Books, View, durable_of, sealed_of, version, used_of};
 ghost use Rattle.bfs_device.specs.Steps.{told_front, FailedFront, still_touched, stepped, progress_to, calls_left, IsStepFault, IsUnmoved, HasMoved};
 ghost use Rattle.bfs_device.specs.Told.{HasCalled, HasMarked, HasCounted};
-ghost use Rattle.bfs_device.specs.Data.{newest_in, moved_on, IsRested, AreRead, IsReadFault, touching, AreSameBut};
+ghost use Rattle.bfs_device.specs.Data.{newest_in, moved_on, IsRested, IsReadFault, touching, AreSameBut};
 ghost use Rattle.bfs_device.specs.Seals.{adopted, with_room, sealed_with, last_used, calls_of_group};
 ghost use Rattle.bfs_device.specs.Ahead.{IsSteady, HasOrder, IsGroupOf, GoesOn};
-ghost use Rattle.bfs_device.specs.Kept.{KeptBut, kept_by, written_front};
+ghost use Rattle.bfs_device.specs.Kept.{IsOut, written_front};
 
 use crate::calls::written_block;
 use crate::data::{read_data, read_newest, write_data};
 use crate::journal::{DeviceFault, Journal, Mark, Phase, Progress, Stop};
-use crate::read_blocks::ReadBlocks;
 use crate::step::step_of;
 use crate::turn::{durable_number, take};
+use bfs_cache::Cache;
 use bfs_disk::Disk;
 use bfs_super::Super;
 use bfs_txn::Group;
 use std::alloc::{AllocError, Global};
 use std::marker::Model;
+
+// For how many blocks there is a cache, where no other is given.
+const CACHED: u32 = 1024;
 
 /// A disk with a journal: sealed groups of changed blocks wait here, go into the log, become durable, and are written home,
 /// one disk call a step. After a write or a barrier that failed it makes no disk call any more.
@@ -34,30 +39,31 @@ use std::marker::Model;
 pub struct Device<D: Disk> {
     disk: D,
     journal: Journal,
-    kept: ReadBlocks,
+    cache: Cache,
 }
 
 impl<D: Disk> Model for Device<D> {
     ghost use Rattle.bfs_device.specs.Books.{View, Ready, IsOnDisk, books_of};
-    ghost use Rattle.bfs_device.specs.Kept.{AreKept, kept_by};
+    ghost use Rattle.bfs_cache.specs.Agreement.{Agrees};
     ghost use Rattle.bfs_device.specs.Layouts.{layout_of};
 
     ghost Value = { View D };
 
     ghost view = { λ d. record { disk = d.disk; books = books_of d.journal } };
 
-    ghost invariant = { λ d. Ready d.journal × IsOnDisk (D.size d.disk) d.journal.sup × AreKept (D.state d.disk) (layout_of d.journal.sup).sectors (kept_by d.kept) };
+    ghost invariant = { λ d. Ready d.journal × IsOnDisk (D.size d.disk) d.journal.sup × Agrees (D.state d.disk) (layout_of d.journal.sup).sectors d.cache.kept };
 }
 
-// Takes the block that the next disk call writes out of those that are kept.
-fn forget_next(journal: &Journal, kept: &mut ReadBlocks)
+// Takes the block that the next disk call writes out of the cache.
+fn forget_next(journal: &Journal, cache: &mut Cache)
     requires { Ready journal.now }
-    ensures { KeptBut (written_front journal.now.sup journal.now.groups.items journal.now.phase) (kept_by kept.old) (kept_by kept.new) }
+    ensures out { IsOut (written_front journal.now.sup journal.now.groups.items journal.now.phase) cache.new.kept }
+    ensures agrees { (told : Option State) (r : ℕ) → Agrees told r cache.old.kept → Agrees told r cache.new.kept }
 {
     match journal.groups.as_slice() {
         [] => {}
         [group, ..] => match written_block(&journal.sup, group, journal.phase) {
-            Some(block) => kept.forget(block),
+            Some(block) => cache.forget(block),
             None => {}
         },
     }
@@ -76,8 +82,8 @@ fn is_data_of(sup: &Super, block: u64) -> bool
 }
 
 impl<D: Disk> Device<D> {
-    /// Takes a disk whose volume has this superblock, with an empty log. Room for 16 groups, a mark and a block is taken here;
-    /// for want of it the disk is handed back.
+    /// Takes a disk whose volume has this superblock, with an empty log. Room for 16 groups, a mark and a block is taken here,
+    /// and that of an empty cache for 1,024 blocks; for want of it the disk is handed back.
     pub fn adopt(alloc: Global, disk: D, sup: Super) -> Result<Device<D>, D>
         requires valid { IsValid sup }
         requires empty { sup.log_start ≡ sup.log_end }
@@ -107,12 +113,31 @@ impl<D: Disk> Device<D> {
             stop: None,
             buffer,
         };
-        let kept = ReadBlocks::new(alloc);
+        let Ok(cache) = Cache::new(alloc, CACHED) else {
+            return Err(disk);
+        };
         Ok(Device {
             disk,
             journal,
-            kept,
+            cache,
         })
+    }
+
+    /// The device with this cache, which is empty, in the place of the one that it had. Takes no memory.
+    pub fn cached(self, cache: Cache) -> Device<D>
+        requires { cache.kept ≡ [] }
+        ensures { result ≡ self }
+    {
+        let Device {
+            disk,
+            journal,
+            cache: _,
+        } = self;
+        Device {
+            disk,
+            journal,
+            cache,
+        }
     }
 
     /// Whether one group more may wait.
@@ -189,12 +214,12 @@ impl<D: Disk> Device<D> {
         ensures moments { (t : ℕ → Bool) → Tells (D.state self.old.disk) (IsRight self.old.books t)
             → Passed (D.clock self.old.disk) (D.clock self.new.disk) (D.since self.old.disk) (D.since self.new.disk) (λ c. Tells (D.state self.old.disk) (λ s. RecoversOne self.old.books t s c)) }
     {
-        forget_next(&self.journal, &mut self.kept);
+        forget_next(&self.journal, &mut self.cache);
         step_of(&mut self.disk, &mut self.journal)
     }
 
-    /// Reads a block with its newest bytes: those of the newest sealed group that has it, else those that an earlier read kept,
-    /// else the disk's, which are kept then where memory is found for them. Only the last takes a disk call. The slice has a
+    /// Reads a block with its newest bytes: those of the newest sealed group that has it, else the cache's, else the disk's,
+    /// which are kept then where memory is found for them. Only the last takes a disk call. The slice has a
     /// block's length. A read that fails leaves the device usable.
     pub fn block(&mut self, block: u64, into: &mut [u8]) -> Result<(), DeviceFault>
         requires below { block < (layout_of self.old.books.sup).blocks }
@@ -218,7 +243,7 @@ impl<D: Disk> Device<D> {
         read_newest(
             &mut self.disk,
             &mut self.journal,
-            &mut self.kept,
+            &mut self.cache,
             block,
             into,
         )
@@ -270,7 +295,7 @@ impl<D: Disk> Device<D> {
         ensures moments { (t : ℕ → Bool) → Tells (D.state self.old.disk) (IsRight self.old.books t)
             → Passed (D.clock self.old.disk) (D.clock self.new.disk) (D.since self.old.disk) (D.since self.new.disk) (λ c. Tells (D.state self.old.disk) (λ s. RecoversOne self.old.books (touching block t) s c)) }
     {
-        self.kept.forget(block);
+        self.cache.forget(block);
         write_data(&mut self.disk, &mut self.journal, block, from)
     }
 
@@ -335,7 +360,7 @@ impl<D: Disk> Device<D> {
         let Device {
             disk,
             journal: _,
-            kept: _,
+            cache: _,
         } = self;
         disk
     }

@@ -2,10 +2,10 @@
 ghost use Rattle.std.specs.Prelude.{◌≡◌, ◌≤◌, ◌<◌, ◌*◌, ◌/◌, ◌^◌, ℕ, length, take, true, OnOk, None};
 ghost use Rattle.bfs_base.specs.Counts.{HasCause};
 ghost use Rattle.bfs_base.specs.Moments.{Elapses};
+ghost use Rattle.bfs_disk.specs.Blocks.{AreRead};
 ghost use Rattle.bfs_disk.specs.Disk.{MayLeave, HasSectors};
 ghost use Rattle.bfs_super.specs.Conditions.{natural, IsValid};
 ghost use Rattle.bfs_device.specs.Books.{IsOnDisk};
-ghost use Rattle.bfs_device.specs.Data.{AreRead};
 ghost use Rattle.bfs_device.specs.Plain.{has_sectors};
 
 use bfs_disk::{Disk, Failed};

@@ -10,7 +10,6 @@ mod device;
 mod disk_blocks;
 mod journal;
 mod look_up;
-mod read_blocks;
 mod step;
 mod turn;
 

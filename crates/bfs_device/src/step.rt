@@ -8,12 +8,13 @@ ghost use Rattle.bfs_device.specs.Layouts.{IsSameVolume, layout_of};
 ghost use Rattle.bfs_device.specs.Books.{Ready, IsOnDisk, IsRight, IsVersion, RecoversOne, AreSame, Books, books_of, durable_of, version, used_of};
 ghost use Rattle.bfs_device.specs.Steps.{told_front, FailedFront, LeftFront, ReadFront, still_touched, halted, stepped, progress_to, IsStepFault, IsUnmoved, HasMoved, calls_left};
 ghost use Rattle.bfs_device.specs.Told.{HasCalled, HasMarked, HasCounted};
-ghost use Rattle.bfs_device.specs.Kept.{written_front, ReadsBut};
+ghost use Rattle.bfs_device.specs.Kept.{KeepsAgreed, written_front};
 ghost use Rattle.bfs_device.specs.Ahead.{GoesOn};
 
 use crate::calls::perform;
 use crate::journal::{DeviceFault, Journal, Progress, Stop};
 use crate::turn::{advance, durable_number};
+use bfs_cache::{barrier_keeps, failed_write_keeps, write_keeps};
 use bfs_disk::{Disk, Failed};
 
 // Makes the disk call of the first group's phase.
@@ -85,7 +86,7 @@ pub fn step_of<D: Disk>(disk: &mut D, journal: &mut Journal) -> Result<Progress,
     ensures marked { IfOk result (HasMarked (books_of journal.old) (books_of journal.new)) }
     ensures counted { IfOk result (HasCounted (calls_left (books_of journal.old)) (calls_left (books_of journal.new))) }
     ensures failed { journal.old.stop ≡ None → OnErr result (FailedFront journal.old.sup journal.old.groups.items journal.old.phase (D.state disk.old) (D.state disk.new)) }
-    ensures others { ReadsBut (written_front journal.old.sup journal.old.groups.items journal.old.phase) (layout_of journal.old.sup).sectors (D.state disk.old) (D.state disk.new) }
+    ensures agrees { KeepsAgreed (written_front journal.old.sup journal.old.groups.items journal.old.phase) (layout_of journal.old.sup).sectors (D.state disk.old) (D.state disk.new) }
     ensures fault { IfErr result (IsStepFault (books_of journal.old) (books_of journal.new) (D.faults disk.old) (D.faults disk.new) (D.stops disk.old) (D.stops disk.new)) }
     ensures unmoved { IsUnmoved (books_of journal.old) → disk.new ≡ disk.old }
     ensures faults { D.faults disk.old ≤ D.faults disk.new }
@@ -106,6 +107,9 @@ pub fn step_of<D: Disk>(disk: &mut D, journal: &mut Journal) -> Result<Progress,
     if journal.groups.is_empty() {
         return Ok(Progress::Idle);
     }
+    write_keeps();
+    failed_write_keeps();
+    barrier_keeps();
     let before = disk.faults();
     match act(disk, journal) {
         Ok(()) => Ok(advance(journal)),

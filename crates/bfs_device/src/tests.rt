@@ -10,6 +10,7 @@ ghost use Rattle.bfs_device.specs.Seals.{adopted, last_used};
 
 use crate::calls::log_blocks;
 use crate::{Device, DeviceFault, Mark, Progress};
+use bfs_cache::Cache;
 use bfs_disk::{Disk, MemDisk};
 use bfs_super::Super;
 use bfs_txn::{Changed, Edits, Group, MemBlocks, Overlay};
@@ -596,6 +597,75 @@ fn a_block_that_was_read_takes_no_disk_call_again(rt: HostRuntime) -> Result<(),
     Ok(())
 }
 
+// Gives each byte of blocks 14 to 16 the block's number.
+fn number_blocks(bytes: &mut [u8]) {
+    if bytes.len() >= 17_408 {
+        bytes[14_336..15_360].fill(14);
+        bytes[15_360..16_384].fill(15);
+        bytes[16_384..17_408].fill(16);
+    }
+}
+
+// A disk with the volume of the tests and such blocks, which fails at one of its calls, or at none.
+fn numbered(alloc: Global, call: u64) -> Result<MemDisk, AllocError> {
+    let mut bytes = volume(alloc, &fields(10, 32, 12, 10), 32_768)?;
+    number_blocks(bytes.as_mut_slice());
+    if bytes.len() != 512 * (bytes.len() / 512) {
+        return Err(AllocError);
+    }
+    Ok(MemDisk::failing(alloc, bytes, Vec::from_slice(alloc, &[call])?))
+}
+
+// The first bytes of blocks 14, 15, 14, 16, 14 and 15, read in this order.
+fn read_in_turn<D: Disk>(device: &mut Device<D>, into: &mut [u8; 1024]) -> Option<[u8; 6]>
+    requires below { 16 < (layout_of device.old.books.sup).blocks }
+    requires size { device.old.books.sup.block_size ≡ 1024 }
+{
+    let first = first_of(device, 14, into)?;
+    let second = first_of(device, 15, into)?;
+    let third = first_of(device, 14, into)?;
+    let fourth = first_of(device, 16, into)?;
+    let fifth = first_of(device, 14, into)?;
+    let sixth = first_of(device, 15, into)?;
+    Some([first, second, third, fourth, fifth, sixth])
+}
+
+// What `read_in_turn` answers on a device over this disk, with a cache for so many blocks; nothing where there is no device.
+fn in_turn_on(alloc: Global, disk: MemDisk, blocks: u32) -> Option<Option<[u8; 6]>> {
+    let Ok(cache) = Cache::new(alloc, blocks) else {
+        return None;
+    };
+    match opened_on(alloc, disk) {
+        Some((_, device)) => Some(read_in_turn(&mut device.cached(cache), &mut [9; 1024])),
+        None => None,
+    }
+}
+
+#[test]
+fn a_cache_for_few_blocks_lets_one_go_and_reads_it_again(rt: HostRuntime) -> Result<(), Fail> {
+    let alloc = rt.alloc();
+    let all = Some([14, 15, 14, 16, 14, 15]);
+    // The calls: the sectors, then a read for each block that isn't there. Of three blocks all stay; of two the second goes for
+    // the third, and is read again; none stays of none.
+    for (blocks, call, want) in [
+        (3, 2, None),
+        (3, 4, None),
+        (3, 5, all),
+        (2, 4, None),
+        (2, 5, None),
+        (2, 6, all),
+        (0, 7, None),
+        (0, 8, all),
+    ] {
+        assert_eq!(rt;
+            in_turn_on(alloc, numbered(alloc, call)?, blocks),
+            Some(want),
+            "{blocks} {call}"
+        );
+    }
+    Ok(())
+}
+
 // The first bytes of block 16: before its group is sealed, from the group, and twice once it is home.
 fn read_around<D: Disk>(
     device: &mut Device<D>,
@@ -732,45 +802,42 @@ fn sixteen_groups_may_wait(rt: HostRuntime) -> Result<(), Fail> {
     Ok(())
 }
 
-// Writes a block beside the groups, and reads it in both ways: its first bytes, and whether a group may be sealed.
-fn data_of<D: Disk + Drop>(alloc: Global, mut disk: D) -> Option<(u8, u8, bool)> {
-    let Ok(sup) = Super::parse(&fields(10, 32, 12, 10).print()) else {
+// Writes block 16 beside the groups, and reads it in both ways: its first bytes, and whether a group may be sealed.
+fn write_and_read<D: Disk>(
+    device: &mut Device<D>,
+    from: &[u8; 1024],
+    into: &mut [u8; 1024],
+) -> Option<(u8, u8, bool)>
+    requires place { IsData (layout_of device.old.books.sup) 16 }
+    requires size { device.old.books.sup.block_size ≡ 1024 }
+    requires none { device.old.books.groups ≡ [] }
+{
+    let Ok(()) = device.data_write(16, from) else {
         return None;
     };
-    let needed = u64::from(sup.block_size / 512).checked_mul(sup.geometry().blocks)?;
-    let Ok(sectors) = disk.sectors() else {
-        return None;
-    };
-    let data = is_data(&sup, 20);
-    if sectors < needed || sup.log_start != sup.log_end || !data {
-        return None;
-    }
-    let Ok(from) = vec![in alloc; 7u8; sup.block_size as usize] else {
-        return None;
-    };
-    let Ok(mut into) = vec![in alloc; 0u8; sup.block_size as usize] else {
-        return None;
-    };
-    let Ok(mut device) = Device::adopt(alloc, disk, sup) else {
-        return None;
-    };
-    let Ok(()) = device.data_write(20, &from) else {
-        return None;
-    };
-    let Ok(()) = device.data_read(20, into.as_mut_slice()) else {
+    let Ok(()) = device.data_read(16, into) else {
         return None;
     };
     let read = into.first().copied()?;
-    let Ok(()) = device.block(20, into.as_mut_slice()) else {
-        return None;
-    };
-    Some((read, into.first().copied()?, device.may_seal()))
+    let block = first_of(device, 16, into)?;
+    Some((read, block, device.may_seal()))
+}
+
+// What `write_and_read` answers on a device over this disk; nothing where there is no device.
+fn written_on(alloc: Global, disk: MemDisk) -> Option<Option<(u8, u8, bool)>> {
+    match opened_on(alloc, disk) {
+        Some((_, mut device)) => Some(write_and_read(&mut device, &[7; 1024], &mut [0; 1024])),
+        None => None,
+    }
 }
 
 #[test]
 fn a_block_that_was_written_is_read(rt: HostRuntime) -> Result<(), Fail> {
     let alloc = rt.alloc();
-    assert_eq!(rt; data_of(alloc, failing(alloc, 0)?), Some((7, 7, true)));
-    assert_eq!(rt; data_of(alloc, failing(alloc, 2)?), None);
+    assert_eq!(rt;
+        written_on(alloc, failing(alloc, 0)?),
+        Some(Some((7, 7, true)))
+    );
+    assert_eq!(rt; written_on(alloc, failing(alloc, 2)?), Some(None));
     Ok(())
 }

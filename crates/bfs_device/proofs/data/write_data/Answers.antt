@@ -1,10 +1,11 @@
-use Rattle.std.proofs.Common.{◌≡◌, None, sym, subst, rules}
+use Rattle.std.proofs.Common.{◌≡◌, None, Some, sym, subst, rules}
 use Rattle.bfs_disk.specs.State.{Tells}
+use Rattle.bfs_device.specs.Layouts.{layout_of}
 use Rattle.bfs_device.specs.Books.{Books, books_of, IsRight}
 use Rattle.bfs_device.specs.Data.{touching, AreSameBut}
 use Rattle.bfs_device.proofs.Stepping.{known_of}
 use Rattle.bfs_device.proofs.Reading.{write_right, write_failed, write_moments, still_stopped}
-use Rattle.bfs_device.proofs.Keeping.{data_done, data_failed, reads_same}
+use Rattle.bfs_device.proofs.Keeping.{data_done, data_failed, agrees_same}
 use Rattle.bfs_device.proofs.data.write_data.Goals as goal
 
 pub returns-in-Ok-clause-right : goal.returns-in-Ok-clause-right
@@ -39,11 +40,11 @@ returns-in-Err-clause-moments g c = λ t right.
 pub returns-in-Some-clause-still_right : goal.returns-in-Some-clause-still_right
 returns-in-Some-clause-still_right g c = λ t right. still_stopped (books_of c.args.journal.now) _ t c.args.block (g.D.Disk.state c.args.disk.now) c.in-Some.is right
 
-pub returns-in-Ok-clause-others : goal.returns-in-Ok-clause-others
-returns-in-Ok-clause-others g c = data_done c.args.journal.now.sup c.requires.ready.valid c.args.block c.args.from.now c.requires.long (g.D.Disk.state c.args.disk.now) (g.D.Disk.state c.write_block.new.disk) c.in-Ok.ensures.written
+pub returns-in-Ok-clause-agrees : goal.returns-in-Ok-clause-agrees
+returns-in-Ok-clause-agrees g c = data_done c.args.journal.now.sup c.requires.ready.valid c.args.block c.args.from.now c.requires.long c.write_keeps.ensures (g.D.Disk.state c.args.disk.now) (g.D.Disk.state c.write_block.new.disk) c.in-Ok.ensures.written
 
-pub returns-in-Err-clause-others : goal.returns-in-Err-clause-others
-returns-in-Err-clause-others g c = data_failed c.args.journal.now.sup c.requires.ready.valid c.args.block c.args.from.now c.requires.long (g.D.Disk.state c.args.disk.now) (g.D.Disk.state c.write_block.new.disk) c.in-Err.ensures.half
+pub returns-in-Err-clause-agrees : goal.returns-in-Err-clause-agrees
+returns-in-Err-clause-agrees g c = data_failed c.args.journal.now.sup c.requires.ready.valid c.args.block c.args.from.now c.requires.long c.failed_write_keeps.ensures (g.D.Disk.state c.args.disk.now) (g.D.Disk.state c.write_block.new.disk) c.in-Err.ensures.half
 
-pub returns-in-Some-clause-others : goal.returns-in-Some-clause-others
-returns-in-Some-clause-others g c = reads_same _ _ (g.D.Disk.state c.args.disk.now)
+pub returns-in-Some-clause-agrees : goal.returns-in-Some-clause-agrees
+returns-in-Some-clause-agrees g c = agrees_same (Some c.args.block) (layout_of c.args.journal.now.sup).sectors (g.D.Disk.state c.args.disk.now)

@@ -85,11 +85,11 @@ returns-in-Ok-clause-used g c =
     let j = c.args.journal.now in
     subst (λ (b : Books). (n : ℕ) → IsVersion b n → used_of b n ≡ used_of (books_of j) n) (sym (new_books g c)) (step_used (books_of j) (known_of j c.requires.ready))
 
-pub returns-in-Ok-clause-others : goal.returns-in-Ok-clause-others
-returns-in-Ok-clause-others g c = step_done (books_of c.args.journal.now) (known_of c.args.journal.now c.requires.ready) c.act.ensures.read (g.D.Disk.state c.args.disk.now) (g.D.Disk.state c.act.new.disk) c.in-Ok.ensures.done
+pub returns-in-Ok-clause-agrees : goal.returns-in-Ok-clause-agrees
+returns-in-Ok-clause-agrees g c = step_done c.write_keeps.ensures c.barrier_keeps.ensures (books_of c.args.journal.now) (known_of c.args.journal.now c.requires.ready) c.act.ensures.read (g.D.Disk.state c.args.disk.now) (g.D.Disk.state c.act.new.disk) c.in-Ok.ensures.done
 
-pub returns-in-Err-clause-others : goal.returns-in-Err-clause-others
-returns-in-Err-clause-others g c = step_failed (books_of c.args.journal.now) (known_of c.args.journal.now c.requires.ready) c.act.ensures.read (g.D.Disk.state c.args.disk.now) (g.D.Disk.state c.act.new.disk) c.in-Err.ensures.failed
+pub returns-in-Err-clause-agrees : goal.returns-in-Err-clause-agrees
+returns-in-Err-clause-agrees g c = step_failed c.failed_write_keeps.ensures (books_of c.args.journal.now) (known_of c.args.journal.now c.requires.ready) c.act.ensures.read (g.D.Disk.state c.args.disk.now) (g.D.Disk.state c.act.new.disk) c.in-Err.ensures.failed
 
 pub returns-in-Ok-clause-ahead : goal.returns-in-Ok-clause-ahead
 returns-in-Ok-clause-ahead g c =

@@ -1,11 +1,12 @@
 use Rattle.std.proofs.Common.{◌∙◌, ◌*◌, ◌/◌, ℕ, List, length, inl, sym, ap, subst, Option, Some}
-use Rattle.std.proofs.lemmas.Result.{on_err_weaker}
+use Rattle.std.proofs.lemmas.Result.{on_err_weaker, on_ok_weaker}
 use Rattle.lru.specs.LruCache.{LruCache}
 use Rattle.bfs_disk.specs.State.{State}
 use Rattle.bfs_disk.specs.Disk.{ReadsSectors}
+use Rattle.bfs_disk.proofs.Joined.{block_of_sectors, sectors_of_block}
 use Rattle.bfs_cache.specs.Kept.{View, kept_of}
 use Rattle.bfs_cache.specs.Agreement.{Agrees}
-use Rattle.bfs_cache.proofs.Agreeing.{agrees_with}
+use Rattle.bfs_cache.proofs.Agreeing.{agrees_with, range_of}
 use Rattle.bfs_cache.proofs.Views.{hit_view, hit_invariant, hit_agrees, miss_first, miss_same, miss_view, miss_invariant, agrees_after}
 use Rattle.bfs_cache.proofs.cache.Cache.read.Goals as goal
 
@@ -36,8 +37,11 @@ returns-in-Some-clause-bytes g c =
     let disk = c.args.disk.now in
     let r = length c.args.into.now / 512 in
     let found = ap (λ (v : View). kept_of v.kept c.args.block) (sym c.self.view_is) ∙ sym c.in-Some.ensures.value in
-    subst (ReadsSectors (g.D.Disk.state disk) (r * c.args.block)) (sym (c.copy_from_slice.ensures.after ∙ c.as_slice.ensures))
-    (agrees_with (g.D.Disk.state disk) r c.args.block c.args.self.now.kept c.in-Some.bytes.now found c.requires.agrees).1
+    let good = agrees_with (g.D.Disk.state disk) r c.args.block c.args.self.now.kept c.in-Some.bytes.now found c.requires.agrees in
+    let same = c.copy_from_slice.ensures.after ∙ c.as_slice.ensures in
+    subst (ReadsSectors (g.D.Disk.state disk) (r * c.args.block)) (sym same)
+    (sectors_of_block (g.D.Disk.state disk) (g.D.Disk.size disk) r c.args.block c.in-Some.bytes.now (g.met.D.Disk.filled disk) (g.met.D.Disk.sized disk)
+    (range_of (g.D.Disk.size disk) (r * c.args.block) c.args.into.now c.in-Some.bytes.now (good.0 ∙ sym c.requires.whole) c.requires.range) good.0 good.1)
 
 pub returns-in-Some-clause-agrees : goal.returns-in-Some-clause-agrees
 returns-in-Some-clause-agrees g c =
@@ -59,7 +63,10 @@ returns-in-None-clause-agrees g c =
     let r = length c.args.into.now / 512 in
     let before = miss_view i.bound i.unkept c.args.block i.blocks c.get.follows.lender-at-none c.args.self.now c.self.view_is c.get.follows.holds-at-none (sym c.in-None.ensures.value) in
     subst (λ (told : Option State). Agrees told r c.read_new.new.self.kept) (sym c.read_new.ensures.state)
-    (agrees_after c.read_new.result (g.D.Disk.state disk) r c.args.block c.read_new.new.into _ c.read_new.new.self (c.read_new.auto.into ∙ c.requires.whole) c.read_new.ensures.bytes c.read_new.ensures.first c.read_new.ensures.failed
+    (agrees_after c.read_new.result (g.D.Disk.state disk) r c.args.block c.read_new.new.into _ c.read_new.new.self (c.read_new.auto.into ∙ c.requires.whole)
+    (on_ok_weaker c.read_new.result (λ reads. block_of_sectors (g.D.Disk.state disk) (g.D.Disk.size disk) r c.args.block c.read_new.new.into (g.met.D.Disk.filled disk) (g.met.D.Disk.sized disk)
+    (range_of (g.D.Disk.size disk) (r * c.args.block) c.args.into.now c.read_new.new.into c.read_new.auto.into c.requires.range) (c.read_new.auto.into ∙ c.requires.whole) reads) c.read_new.ensures.bytes)
+    c.read_new.ensures.first c.read_new.ensures.failed
     (subst (λ (v : View). Agrees (g.D.Disk.state disk) r v.kept) (sym before) c.requires.agrees))
 
 pub returns-in-None-clause-first : goal.returns-in-None-clause-first

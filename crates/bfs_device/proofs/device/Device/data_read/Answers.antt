@@ -3,15 +3,14 @@ use Rattle.bfs_base.specs.Moments.{Passed}
 use Rattle.bfs_disk.specs.State.{State, Tells}
 use Rattle.bfs_device.specs.Books.{View, books_of, IsRight, RecoversOne, IsOnDisk}
 use Rattle.bfs_device.specs.Layouts.{Layout, layout_of}
-use Rattle.bfs_device.specs.Kept.{kept_by}
 use Rattle.bfs_device.proofs.Stepping.{on_layout}
-use Rattle.bfs_device.proofs.Keeping.{kept_as}
+use Rattle.bfs_device.proofs.Keeping.{agrees_as}
 use Rattle.bfs_device.proofs.device.Device.data_read.Goals as goal
 
 pub invariant_of-self : goal.invariant_of-self
 invariant_of-self g c =
     let inside = c.self.inside in
-    (c.read_data.ensures.ready, on_layout (g.D.Disk.size c.read_data.new.disk) inside.journal.sup c.read_data.new.journal.sup (ap layout_of c.read_data.ensures.sup) (subst (λ (o : Option ℕ). IsOnDisk o inside.journal.sup) (sym c.read_data.ensures.size) c.self.invariant.1), kept_as (layout_of inside.journal.sup).sectors (layout_of c.read_data.new.journal.sup).sectors (g.D.Disk.state inside.disk) (g.D.Disk.state c.read_data.new.disk) (kept_by inside.kept) (ap (λ (l : Layout). l.sectors) (ap layout_of c.read_data.ensures.sup)) c.read_data.ensures.state c.self.invariant.2)
+    (c.read_data.ensures.ready, on_layout (g.D.Disk.size c.read_data.new.disk) inside.journal.sup c.read_data.new.journal.sup (ap layout_of c.read_data.ensures.sup) (subst (λ (o : Option ℕ). IsOnDisk o inside.journal.sup) (sym c.read_data.ensures.size) c.self.invariant.1), agrees_as (layout_of inside.journal.sup).sectors (layout_of c.read_data.new.journal.sup).sectors (g.D.Disk.state inside.disk) (g.D.Disk.state c.read_data.new.disk) inside.cache.kept (ap (λ (l : Layout). l.sectors) (ap layout_of c.read_data.ensures.sup)) c.read_data.ensures.state c.self.invariant.2)
 
 pub returns-clause-right : goal.returns-clause-right
 returns-clause-right g c =

@@ -1,13 +1,11 @@
-use Rattle.std.proofs.Common.{ℕ, Bool, subst, sym, ap, refl, Option, Some, OnOk, OnErr}
+use Rattle.std.proofs.Common.{ℕ, Bool, subst, sym, ap, refl, Option, OnOk, OnErr}
 use Rattle.bfs_base.specs.Moments.{Passed}
 use Rattle.bfs_disk.specs.State.{Tells}
 use Rattle.bfs_device.specs.Books.{View, books_of, IsRight, RecoversOne, IsOnDisk}
 use Rattle.bfs_device.specs.Data.{touching, AreSameBut}
 use Rattle.bfs_device.specs.Layouts.{Layout, layout_of}
-use Rattle.bfs_device.specs.Kept.{kept_by}
 use Rattle.bfs_device.proofs.Stepping.{on_layout}
-use Rattle.bfs_device.proofs.Maps.{but_one}
-use Rattle.bfs_device.proofs.Keeping.{kept_as, kept_on}
+use Rattle.bfs_device.proofs.Keeping.{agrees_as}
 use Rattle.bfs_device.proofs.device.Device.data_write.Goals as goal
 
 pub invariant_of-self : goal.invariant_of-self
@@ -15,9 +13,8 @@ invariant_of-self g c =
     let inside = c.self.inside in (
       c.write_data.ensures.ready,
       on_layout (g.D.Disk.size c.write_data.new.disk) inside.journal.sup c.write_data.new.journal.sup (ap layout_of c.write_data.ensures.sup) (subst (λ (o : Option ℕ). IsOnDisk o inside.journal.sup) (sym c.write_data.ensures.size) c.self.invariant.1),
-      kept_as (layout_of inside.journal.sup).sectors (layout_of c.write_data.new.journal.sup).sectors (g.D.Disk.state c.write_data.new.disk) (g.D.Disk.state c.write_data.new.disk) (kept_by c.forget.new.self) (ap (λ (l : Layout). l.sectors) (ap layout_of c.write_data.ensures.sup)) refl
-          (kept_on (Some c.args.block) (layout_of inside.journal.sup).sectors (g.D.Disk.state inside.disk) (g.D.Disk.state c.write_data.new.disk) (kept_by inside.kept) (kept_by c.forget.new.self) c.write_data.ensures.others
-          (but_one c.args.block (kept_by inside.kept) (kept_by c.forget.new.self) c.forget.ensures.gone c.forget.ensures.others) c.self.invariant.2),
+      agrees_as (layout_of inside.journal.sup).sectors (layout_of c.write_data.new.journal.sup).sectors (g.D.Disk.state c.write_data.new.disk) (g.D.Disk.state c.write_data.new.disk) c.forget.new.self.kept (ap (λ (l : Layout). l.sectors) (ap layout_of c.write_data.ensures.sup)) refl
+          (c.write_data.ensures.agrees c.forget.new.self.kept c.forget.ensures.gone (c.forget.ensures.agrees (g.D.Disk.state inside.disk) (layout_of inside.journal.sup).sectors (λ k other. c.self.invariant.2 k))),
     )
 
 pub returns-clause-right : goal.returns-clause-right

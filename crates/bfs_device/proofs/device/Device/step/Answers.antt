@@ -2,12 +2,11 @@ use Rattle.std.proofs.Common.{ℕ, Bool, subst, sym, ap, refl, Option, OnOk, OnE
 use Rattle.bfs_base.specs.Moments.{Passed}
 use Rattle.bfs_disk.specs.State.{Tells}
 use Rattle.bfs_device.specs.Layouts.{IsSameVolume, Layout, layout_of}
-use Rattle.bfs_device.specs.Kept.{kept_by, written_front}
 use Rattle.bfs_device.specs.Books.{View, books_of, IsRight, RecoversOne, AreSame, IsOnDisk}
 use Rattle.bfs_device.specs.Steps.{still_touched}
 use Rattle.bfs_device.specs.Told.{HasCalled}
 use Rattle.bfs_device.proofs.Stepping.{on_layout}
-use Rattle.bfs_device.proofs.Keeping.{kept_as, kept_on}
+use Rattle.bfs_device.proofs.Keeping.{agrees_as}
 use Rattle.bfs_device.specs.Ahead.{GoesOn}
 use Rattle.bfs_device.proofs.device.Device.step.Goals as goal
 
@@ -16,9 +15,8 @@ invariant_of-self g c =
     let inside = c.self.inside in (
       c.step_of.ensures.ready,
       on_layout (g.D.Disk.size c.step_of.new.disk) inside.journal.sup c.step_of.new.journal.sup c.step_of.ensures.volume.layout (subst (λ (o : Option ℕ). IsOnDisk o inside.journal.sup) (sym c.step_of.ensures.size) c.self.invariant.1),
-      kept_as (layout_of inside.journal.sup).sectors (layout_of c.step_of.new.journal.sup).sectors (g.D.Disk.state c.step_of.new.disk) (g.D.Disk.state c.step_of.new.disk) (kept_by c.forget_next.new.kept) (ap (λ (l : Layout). l.sectors) c.step_of.ensures.volume.layout) refl
-          (kept_on (written_front inside.journal.sup inside.journal.groups.items inside.journal.phase) (layout_of inside.journal.sup).sectors (g.D.Disk.state inside.disk) (g.D.Disk.state c.step_of.new.disk) (kept_by inside.kept) (kept_by c.forget_next.new.kept) c.step_of.ensures.others
-          c.forget_next.ensures c.self.invariant.2),
+      agrees_as (layout_of inside.journal.sup).sectors (layout_of c.step_of.new.journal.sup).sectors (g.D.Disk.state c.step_of.new.disk) (g.D.Disk.state c.step_of.new.disk) c.forget_next.new.cache.kept (ap (λ (l : Layout). l.sectors) c.step_of.ensures.volume.layout) refl
+          (c.step_of.ensures.agrees c.forget_next.new.cache.kept c.forget_next.ensures.out (c.forget_next.ensures.agrees (g.D.Disk.state inside.disk) (layout_of inside.journal.sup).sectors c.self.invariant.2)),
     )
 
 pub returns-clause-right : goal.returns-clause-right

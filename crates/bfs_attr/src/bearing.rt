@@ -17,9 +17,9 @@ ghost use Rattle.bfs_attr.specs.Changed.{Holds, IsPutInSmall, IsTakenFromSmall};
 ghost use Rattle.bfs_attr.specs.Written.{IsPutInto, IsTakenFrom};
 
 use crate::area::{put_small, take_small};
-use crate::inode::{blocked, damaged, read_block};
+use crate::inode::{blocked, damaged};
 use bfs_inode::SMALL_DATA;
-use bfs_make::Site;
+use bfs_make::{Site, read_block};
 use bfs_node::TreeFault;
 use bfs_smalldata::list_end;
 use bfs_stream_pages::MapFault;

@@ -25,11 +25,11 @@ ghost use Rattle.bfs_make.specs.Sites.{stream_in};
 ghost use Rattle.bfs_attr.specs.SmallData.{item_rows};
 
 use crate::directory::{Directory, InodeRow, directory_of, named_inodes};
-use crate::inode::{blocked, damaged, read_block, size_in, stream_bytes};
+use crate::inode::{blocked, damaged, size_in};
 use crate::rows::{AttrItem, AttrRows};
 use crate::small::{Small, small_attribute, small_rows};
 use bfs_inode::{InodeView, SMALL_DATA};
-use bfs_make::Site;
+use bfs_make::{Site, read_block, stream_bytes};
 use bfs_node::TreeFault;
 use bfs_smalldata::list_end;
 use bfs_stream_pages::MapFault;

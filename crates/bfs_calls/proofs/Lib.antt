@@ -5,3 +5,5 @@ pub mod Refusing
 pub mod Newborn
 pub mod Indexed
 pub mod Answering
+pub mod Allowed
+pub mod Status

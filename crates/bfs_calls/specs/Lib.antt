@@ -1,3 +1,4 @@
+pub mod Allowances
 pub mod Done
 pub mod Faults
 pub mod Made

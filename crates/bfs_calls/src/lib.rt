@@ -2,15 +2,20 @@
 // volume stand for the tree since (specs/Done.antt), over blocks that can be changed.
 #![tactic(auto)]
 
+mod allowance;
 mod creating;
 mod entering;
 mod fault;
 mod indices;
 mod making;
 mod refusal;
+mod setting;
 
+pub use allowance::make_allowance;
 pub use indices::{BuiltIn, built_in_indices};
-pub use making::make;
+pub use making::{make, make_node};
+pub use refusal::make_refusal;
+pub use setting::{set_mode, set_mode_refusal};
 
 #[cfg(test)]
 mod tests;

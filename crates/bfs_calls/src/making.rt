@@ -27,8 +27,8 @@ use bfs_tree::{MakeKind, Reply};
 use bfs_txn::Edits;
 use std::alloc::Global;
 
-/// Makes a node that may be made, and enters it. Answers its id.
-fn make_node<E: Edits>(
+/// Makes a node where the call has no refusal of its own, and enters it: in its directory, and in each index that lists it. Answers its id.
+pub fn make_node<E: Edits>(
     alloc: Global,
     sup: &Super,
     bitmap: &mut Bitmap,

@@ -1,5 +1,5 @@
 // Whether a call that makes a node is refused.
-ghost use Rattle.std.specs.Prelude.{◌≡◌, ◌≤◌, ◌<◌, ℕ, List, Option, Some, None, false, IfOk, IfErr, MatchResult, length};
+ghost use Rattle.std.specs.Prelude.{◌≡◌, ◌≤◌, ◌<◌, ℕ, List, Option, Some, None, true, false, IfSome, IfOk, IfErr, MatchResult, length};
 ghost use Rattle.bfs_super.specs.Conditions.{IsValid, natural};
 ghost use Rattle.bfs_super.specs.Geometry.{geometry_of};
 ghost use Rattle.bfs_txn.specs.Faults.{AreLater};
@@ -11,7 +11,7 @@ ghost use Rattle.bfs_tree.specs.Trees.{Tree};
 ghost use Rattle.bfs_maps.specs.Refused.{IsUndone, HasReadCause};
 ghost use Rattle.bfs_shift.specs.Lists.{Lists};
 ghost use Rattle.bfs_look.specs.Ready.{IsReady, HasReady};
-ghost use Rattle.bfs_calls.specs.Refusals.{MayBeMade, taken_by};
+ghost use Rattle.bfs_calls.specs.Refusals.{MayBeMade, is_own, taken_by};
 
 use bfs_bitmap::Bitmap;
 use bfs_look::{lookup, node_at};
@@ -23,7 +23,8 @@ use std::alloc::Global;
 
 /// The refusal of a name that is taken, by what a look-up of it answers.
 fn refusal_by(found: &Reply) -> Option<Reply>
-    ensures { result ≡ taken_by found.now }
+    ensures reply { result ≡ taken_by found.now }
+    ensures own { IfSome result (λ reply. is_own reply ≡ true) }
 {
     match found {
         Reply::NotFound => None,
@@ -32,7 +33,7 @@ fn refusal_by(found: &Reply) -> Option<Reply>
 }
 
 /// The refusal that a call has of its own which makes a node, or None where it may be made.
-pub(crate) fn make_refusal<E: Edits>(
+pub fn make_refusal<E: Edits>(
     alloc: Global,
     sup: &Super,
     bitmap: &mut Bitmap,
@@ -45,6 +46,7 @@ pub(crate) fn make_refusal<E: Edits>(
     requires size { E.size edits.old ≡ sup.now.block_size }
     requires ready { (m : ℕ → Option (List ℕ)) → E.told edits.old ≡ Some m → HasReady (geometry_of sup.now) bitmap.old m }
     ensures refused { (m : ℕ → Option (List ℕ)) (tree : Tree) (lists : Lists) (s : State) (mode : ℕ) → E.told edits.old ≡ Some m → IsReady (geometry_of sup.now) bitmap.old m tree lists → s.tree ≡ tree → MatchResult result (λ o. o ≡ own_refusal (Make dir name.now kind.now mode) s) IsUndone }
+    ensures own { IfOk result (λ o. IfSome o (λ reply. is_own reply ≡ true)) }
     ensures may { IfOk result (λ o. o ≡ None → MayBeMade (natural sup.now.num_blocks) dir name.now kind.now) }
     ensures bitmap { bitmap.new ≡ bitmap.old }
     ensures told { E.told edits.new ≡ E.told edits.old }

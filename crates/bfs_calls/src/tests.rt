@@ -1,14 +1,14 @@
 // Nodes are made on the volume that `mk --blocks 4096` makes at 1,000 seconds, whose root is at block 514 and whose first 529 blocks are
-// used: what the calls that read answer then.
+// used, and one is given another mode: what the calls that read answer then.
 ghost use Rattle.std.specs.Prelude.{◌≡◌, ◌≤◌, IfSome, length};
 ghost use Rattle.bfs_super.specs.Conditions.{IsValid};
 ghost use Rattle.bfs_stream.specs.Sizes.{sizes_of};
 ghost use Rattle.bfs_stream.specs.Grown.{IsOfVolume};
 
-use crate::make;
+use crate::{make, set_mode, set_mode_refusal};
 use bfs_bitmap::Bitmap;
 use bfs_disk::{Disk, MemDisk};
-use bfs_look::{list, lookup, stat};
+use bfs_look::{list, lookup, read_link, stat};
 use bfs_mkfs::{format, layout_of};
 use bfs_stream_pages::MapFault;
 use bfs_super::Super;
@@ -21,6 +21,9 @@ const ROOT: u64 = 514;
 
 /// The stamp of the calls: 2,000 seconds.
 const STAMP: i64 = 131_072_000;
+
+/// The stamp of the call that sets a mode: 3,000 seconds.
+const LATER: i64 = 196_608_000;
 
 /// Blocks in memory, which tell nothing of what they hold, so that a test need not prove what stands there.
 #[derive(Drop)]
@@ -321,6 +324,107 @@ fn refusals(
     ])
 }
 
+/// Sets a node's mode to 04711, its user to 7 and its group to 8, and tells whether it was there.
+fn sets(
+    alloc: Global,
+    sup: &Super,
+    bitmap: &mut Bitmap,
+    edits: &mut Overlay<'_, Silent>,
+    id: u64,
+) -> Result<bool, MapFault>
+    requires valid { IsValid sup.now }
+    requires size { edits.old.under.now.blocks.block_size ≡ sup.now.block_size }
+    ensures size { edits.new.under.now.blocks.block_size ≡ sup.now.block_size }
+    ensures bitmap { bitmap.new ≡ bitmap.old }
+{
+    match set_mode_refusal(alloc, sup, bitmap, edits, id) {
+        Ok(None) => {}
+        Ok(Some(_)) => return Ok(false),
+        Err(fault) => return Err(fault),
+    }
+    match set_mode(alloc, sup, edits, id, 0o4711, 7, 8, LATER) {
+        Ok(()) => Ok(true),
+        Err(fault) => Err(fault),
+    }
+}
+
+/// Has a file that mode, user and group, and the stamp of their change beside those of its making?
+fn has_status(
+    alloc: Global,
+    sup: &Super,
+    bitmap: &mut Bitmap,
+    edits: &mut Overlay<'_, Silent>,
+    id: u64,
+) -> Result<bool, MapFault>
+    requires valid { IsValid sup.now }
+    requires size { edits.old.under.now.blocks.block_size ≡ sup.now.block_size }
+    ensures size { edits.new.under.now.blocks.block_size ≡ sup.now.block_size }
+    ensures bitmap { bitmap.new ≡ bitmap.old }
+{
+    let reply = stat(alloc, sup, bitmap, edits, id)?;
+    Ok(is_status(&reply))
+}
+
+/// Is it a file's record with that mode, user, group and stamps?
+fn is_status(reply: &Reply) -> bool {
+    match reply {
+        Reply::Info { info } => {
+            (info.kind, info.mode) == (Kind::File, 0o4711)
+                && (info.uid, info.gid) == (7, 8)
+                && (info.created, info.modified, info.changed) == (STAMP, STAMP, LATER)
+        }
+        _ => false,
+    }
+}
+
+/// Is this the target of a link?
+fn leads_to(
+    alloc: Global,
+    sup: &Super,
+    bitmap: &mut Bitmap,
+    edits: &mut Overlay<'_, Silent>,
+    id: u64,
+    want: &[u8],
+) -> Result<bool, MapFault>
+    requires valid { IsValid sup.now }
+    requires size { edits.old.under.now.blocks.block_size ≡ sup.now.block_size }
+    ensures size { edits.new.under.now.blocks.block_size ≡ sup.now.block_size }
+    ensures bitmap { bitmap.new ≡ bitmap.old }
+{
+    let reply = read_link(alloc, sup, bitmap, edits, id)?;
+    Ok(is_target(&reply, want))
+}
+
+/// Is it this target?
+fn is_target(reply: &Reply, want: &[u8]) -> bool {
+    match reply {
+        Reply::Target { bytes } => bytes.as_slice() == want,
+        _ => false,
+    }
+}
+
+/// The first file is given another status, and a block that is no node's is not; both links tell their targets, and the file is none.
+fn changes(
+    alloc: Global,
+    sup: &Super,
+    bitmap: &mut Bitmap,
+    edits: &mut Overlay<'_, Silent>,
+) -> Result<[bool; 6], MapFault>
+    requires valid { IsValid sup.now }
+    requires size { edits.old.under.now.blocks.block_size ≡ sup.now.block_size }
+    ensures size { edits.new.under.now.blocks.block_size ≡ sup.now.block_size }
+    ensures bitmap { bitmap.new ≡ bitmap.old }
+{
+    let set = sets(alloc, sup, bitmap, edits, 529)?;
+    let none = sets(alloc, sup, bitmap, edits, 517)?;
+    let status = has_status(alloc, sup, bitmap, edits, 529)?;
+    let short = leads_to(alloc, sup, bitmap, edits, 536, b"d/b")?;
+    let long = leads_to(alloc, sup, bitmap, edits, 537, &[b'x'; 200])?;
+    let file = read_link(alloc, sup, bitmap, edits, 529)?;
+    let refused = matches!(file, Reply::NotLink);
+    Ok([set, !none, status, short, long, refused])
+}
+
 /// A link with this target.
 fn link_to(alloc: Global, target: &[u8]) -> Result<MakeKind, AllocError> {
     let target = Bytes::from_slice(alloc, target)?;
@@ -358,6 +462,8 @@ fn nodes_are_made_at_the_lowest_free_blocks_and_found(rt: HostRuntime) -> Result
     let mut edits = Overlay::begin(&mut open, &mut under);
     let made = makes(alloc, &sup, &mut bitmap, &mut edits, &link, &long);
     let found = answers(alloc, &sup, &mut bitmap, &mut edits);
+    let before = edits.pairs();
+    let changed = changes(alloc, &sup, &mut bitmap, &mut edits);
     let written = edits.pairs();
     let refused = refusals(alloc, &sup, &mut bitmap, &mut edits);
     let since = edits.pairs();
@@ -365,6 +471,8 @@ fn nodes_are_made_at_the_lowest_free_blocks_and_found(rt: HostRuntime) -> Result
     assert_eq!(rt; made?, [529, 530, 533, 536, 537]);
     assert_eq!(rt; bitmap.used(), 539);
     assert_eq!(rt; found?, [true; 6]);
+    assert_eq!(rt; changed?, [true; 6]);
+    assert_eq!(rt; written, before);
     assert_eq!(rt; refused?, [1, 2, 3, 4]);
     assert_eq!(rt; since, written);
     Ok(())

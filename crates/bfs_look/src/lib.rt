@@ -9,12 +9,14 @@ mod listing;
 mod looking;
 mod node;
 mod rows;
+mod target;
 mod way;
 
 pub use info::stat;
 pub use listing::list;
 pub use looking::lookup;
 pub use node::node_at;
+pub use target::read_link;
 
 #[cfg(test)]
 mod tests;

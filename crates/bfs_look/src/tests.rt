@@ -3,7 +3,7 @@
 ghost use Rattle.std.specs.Prelude.{◌≡◌, IfOk, length};
 ghost use Rattle.bfs_super.specs.Conditions.{IsValid};
 
-use crate::{list, lookup, node_at, stat};
+use crate::{list, lookup, node_at, read_link, stat};
 use bfs_bitmap::Bitmap;
 use bfs_disk::{Disk, MemDisk};
 use bfs_mkfs::{format, layout_of};
@@ -119,13 +119,14 @@ fn is_root(reply: &Reply) -> bool {
     }
 }
 
-/// What is answered: the list of the root, a name that it hasn't, a directory that is none, and the record of the root.
+/// What is answered: the list of the root, a name that it hasn't, a directory that is none, the record of the root, and that it is no
+/// link.
 fn answers(
     alloc: Global,
     sup: &Super,
     bitmap: &mut Bitmap,
     edits: &mut Overlay<'_, Silent>,
-) -> Result<[bool; 4], MapFault>
+) -> Result<[bool; 5], MapFault>
     requires valid { IsValid sup.now }
     requires size { edits.old.under.now.blocks.block_size ≡ sup.now.block_size }
 {
@@ -133,11 +134,13 @@ fn answers(
     let absent = lookup(alloc, sup, bitmap, edits, ROOT, b"a")?;
     let nowhere = lookup(alloc, sup, bitmap, edits, 517, b"name")?;
     let record = stat(alloc, sup, bitmap, edits, ROOT)?;
+    let link = read_link(alloc, sup, bitmap, edits, ROOT)?;
     Ok([
         is_empty_list(&names),
         matches!(absent, Reply::NotFound),
         matches!(nowhere, Reply::NotFound),
         is_root(&record),
+        matches!(link, Reply::NotLink),
     ])
 }
 
@@ -162,6 +165,6 @@ fn the_root_of_a_new_volume_is_its_one_node(rt: HostRuntime) -> Result<(), Fail>
     let replies = answers(alloc, &sup, &mut bitmap, &mut edits);
     edits.drop_call();
     assert_eq!(rt; nodes?, [true; 5]);
-    assert_eq!(rt; replies?, [true; 4]);
+    assert_eq!(rt; replies?, [true; 5]);
     Ok(())
 }

@@ -9,3 +9,4 @@ pub mod Places
 pub mod Emptying
 pub mod Stripping
 pub mod Gone
+pub mod Pieces

@@ -6,12 +6,14 @@
 mod filling;
 mod giving;
 mod making;
+mod reading;
 mod site;
 mod storing;
 mod tree;
 
 pub use giving::{give_inode, run_of};
 pub use making::{InodeForm, NewInode, make_inode, new_inode, run_start, take_block};
+pub use reading::{read_block, stream_bytes};
 pub use site::{Site, blocks_in, has_long_blocks, has_short_blocks};
 pub use storing::{store, write_stream};
 pub use tree::{empty_tree, tree_header};

@@ -8,7 +8,7 @@ use Rattle.bfs_bitmap.specs.Runs.{Room, Fits, IsCounted, is_reserved}
 use Rattle.bfs_stream.specs.Told.{contents}
 use Rattle.bfs_stream.specs.Grown.{IsOfVolume}
 use Rattle.bfs_stream.proofs.Doubles.{times-append}
-use Rattle.bfs_tree.specs.Trees.{Tree, IsPlain}
+use Rattle.bfs_tree.specs.Trees.{Tree, IsPlain, is_file}
 use Rattle.bfs_sound.specs.Volumes.{Volume, sizes, IsMarked}
 use Rattle.bfs_sound.specs.Owners.{fixed_blocks, file_data, reach, IsMetadata}
 use Rattle.bfs_sound.specs.Whole.{IsSound}
@@ -26,7 +26,7 @@ pub goes_on_same : (g : Geometry) (v : Room) (m : ℕ → Option (List ℕ)) (tr
 goes_on_same g v m tree old = record {
   rest = refl;
   marked = λ k h. h;
-  files = λ id n is f. (is, refl);
+  files = λ id n is f. (record { node = n; there = is; kind = refl; size = refl }, refl);
   same_data = λ k. refl;
   bytes = λ k h. refl;
   written = λ k h. inl h;
@@ -40,7 +40,10 @@ module _ (g : Geometry) (v now later : Room) (m mid map : ℕ → Option (List �
   goes_on_twice = record {
     rest = two.rest ∙ ap (λ (r : Room). record r { tally = later.tally }) one.rest;
     marked = λ k h. two.marked k (one.marked k h);
-    files = λ id n is f. let a = one.files id n is f in let b = two.files id n a.0 f in (b.0, b.1 ∙ a.1);
+    files = λ id n is f.
+        let a = one.files id n is f in
+        let b = two.files id a.0.node a.0.there (ap is_file a.0.kind ∙ f) in
+        (record { node = b.0.node; there = b.0.there; kind = b.0.kind ∙ a.0.kind; size = b.0.size ∙ a.0.size }, b.1 ∙ a.1);
     same_data = λ k. one.same_data k ∙ two.same_data k;
     bytes = λ k h. two.bytes k (let some : 0 < times k (file_data (volume_in g m) tree) = h in let e = one.same_data k in let r : 0 < times k (file_data (volume_in g mid) between) = omega (arith, some, e) in r) ∙ one.bytes k h;
     written = λ k h. by_last k (two.written k h);

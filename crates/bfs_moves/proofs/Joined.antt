@@ -75,7 +75,7 @@ module _ (g : Geometry) (v : Room) (m : ℕ → Option (List ℕ)) (tree : Tree)
   joined_goes = record {
     rest = refl;
     marked = λ k h. h;
-    files = λ x y is f. (put_other tree.nodes id n x (other x y is) ∙ is, refl);
+    files = λ x y is f. (record { node = y; there = put_other tree.nodes id n x (other x y is) ∙ is; kind = refl; size = refl }, refl);
     same_data = same_data;
     bytes = λ k h. refl;
     written = λ k h. inl h;

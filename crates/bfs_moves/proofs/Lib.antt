@@ -1,5 +1,7 @@
 pub mod Taken
+pub mod Restated
 pub mod Restamped
+pub mod Statused
 pub mod Streamed
 pub mod Named
 pub mod Listed

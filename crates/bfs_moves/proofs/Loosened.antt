@@ -1,5 +1,5 @@
 -- Loose blocks were written, and have perhaps grown.
-use Rattle.std.proofs.Common.{◌≡◌, ◌≤◌, ◌<◌, ◌+◌, ◌⊎◌, inl, inr, ℕ, List, ◌++◌, sym, ap, subst, arith, Bool, true, Option, Some}
+use Rattle.std.proofs.Common.{◌≡◌, ◌≤◌, ◌<◌, ◌+◌, ◌⊎◌, inl, inr, ℕ, List, ◌++◌, refl, sym, ap, subst, arith, Bool, true, Option, Some}
 use Rattle.std.specs.Prelude.{IsSome}
 use Rattle.std.specs.List.{flat_map}
 use Rattle.std.specs.FinMap.{entries}
@@ -69,7 +69,7 @@ module _ (g : Geometry) (v now : Room) (m map : ℕ → Option (List ℕ)) (tree
   loose_goes = record {
     rest = same_room;
     marked = marks_stay was (contents map) xs ys shift kept;
-    files = λ id n is f. (is, stream_same was tree lists (xs ++ rest) work.stocked (contents map) xs ys shift apart id n is f);
+    files = λ id n is f. (record { node = n; there = is; kind = refl; size = refl }, stream_same was tree lists (xs ++ rest) work.stocked (contents map) xs ys shift apart id n is f);
     same_data = λ k. ap (times k) (sym same);
     bytes = bytes_same was tree lists (xs ++ rest) work.stocked (contents map) xs ys shift apart;
     written = λ k h. by_cause k (written k h);

@@ -97,7 +97,7 @@ module _ (s : Super) (v now : Room) (m : ℕ → Option (List ℕ)) (tree : Tree
   goes_on = record {
     rest = moved.rest;
     marked = marks_stay was (contents map) xs ys shift (λ k h. whole_moves o v now m map moved k h);
-    files = λ id x there f. (there, stream_same was tree lists loose work.stocked (contents map) xs ys shift apart id x there f);
+    files = λ id x there f. (record { node = x; there = there; kind = refl; size = refl }, stream_same was tree lists loose work.stocked (contents map) xs ys shift apart id x there f);
     same_data = λ k. ap (times k) (sym same);
     bytes = bytes_same was tree lists loose work.stocked (contents map) xs ys shift apart;
     written = λ k h. by_cause k (written k h);

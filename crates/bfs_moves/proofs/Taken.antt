@@ -1,5 +1,5 @@
 -- A block was taken from the bitmap.
-use Rattle.std.proofs.Common.{◌≡◌, ◌≤◌, ◌<◌, ◌+◌, ◌*◌, ◌⊎◌, inl, inr, ℕ, List, [], ◌∷◌, ◌++◌, sym, ap, ◌∙◌, subst, arith, Bool, true, Option, None}
+use Rattle.std.proofs.Common.{◌≡◌, ◌≤◌, ◌<◌, ◌+◌, ◌*◌, ◌⊎◌, inl, inr, ℕ, List, [], ◌∷◌, ◌++◌, refl, sym, ap, ◌∙◌, subst, arith, Bool, true, Option, None}
 use Rattle.std.specs.Prelude.{IsSome}
 use Rattle.std.specs.List.{flat_map}
 use Rattle.std.specs.FinMap.{entries, get}
@@ -92,7 +92,7 @@ module _ (s : Super) (v now : Room) (run : Run) (m : ℕ → Option (List ℕ)) 
   goes_on = record {
     rest = rest;
     marked = marks_stay was (contents mark.map) [] (first ∷ []) shift (λ k h. let bad : 0 < 0 = h in absurd (omega (arith, bad)));
-    files = λ id n is f. (is, stream_same was tree lists loose work.stocked (contents mark.map) [] (first ∷ []) shift apart id n is f);
+    files = λ id n is f. (record { node = n; there = is; kind = refl; size = refl }, stream_same was tree lists loose work.stocked (contents mark.map) [] (first ∷ []) shift apart id n is f);
     same_data = λ k. ap (times k) (sym same);
     bytes = bytes_same was tree lists loose work.stocked (contents mark.map) [] (first ∷ []) shift apart;
     written = λ k h. by_cause k (changed k h);

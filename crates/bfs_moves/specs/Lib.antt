@@ -2,3 +2,4 @@ pub mod Written
 pub mod Born
 pub mod Grown
 pub mod Laws
+pub mod Statuses

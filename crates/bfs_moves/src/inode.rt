@@ -45,7 +45,7 @@ pub(crate) fn has_few_bytes(sup: &Super)
 }
 
 /// The mode and the flags in a block of bytes take four bytes.
-fn note_words(block: &[u8])
+pub(crate) fn note_words(block: &[u8])
     requires { 1024 ≤ length block.now }
     ensures { HasWords block.now }
 {

@@ -13,6 +13,7 @@ mod node;
 mod pairs;
 mod rows;
 mod stamp;
+mod status;
 mod take;
 
 pub use find::find_index;
@@ -26,4 +27,5 @@ pub use node::{make_file, make_link};
 pub use pairs::{list_pair, unlist_pair};
 pub use rows::put_name;
 pub use stamp::stamp_directory;
+pub use status::{Status, set_status};
 pub use take::take_block;

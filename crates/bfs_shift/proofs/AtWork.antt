@@ -1,60 +1,31 @@
 -- What is known of a node, and of a directory's stream, of a volume at work.
-use Rattle.std.proofs.Common.{◌≡◌, ◌≢◌, ◌≤◌, ◌<◌, ◌+◌, ◌-◌, ◌*◌, ◌/◌, ◌%◌, ◌⊎◌, inl, inr, ℕ, zero, suc, ℤ, List, [], ◌∷◌, ◌++◌, refl, sym, ap, ◌∙◌, subst, arith, Bool, true, false, cond, Option, Some}
-use Rattle.std.specs.Prelude.{IsSome, unwrap_or}
-use Rattle.std.specs.Cmp.{nat_cmp_total}
-use Rattle.std.specs.List.{flat_map}
-use Rattle.std.specs.FinMap.{entries, get, insert, entries-insert, get-entries, entries_sorted}
-use Rattle.bfs_base.specs.Lists.{times, Has, AreSame, ChangesAt}
+use Rattle.std.proofs.Common.{◌≡◌, ◌≢◌, ◌≤◌, ◌<◌, ◌+◌, ℕ, zero, suc, List, [], ◌∷◌, ◌++◌, ap, subst, arith, Option}
+use Rattle.std.specs.Prelude.{IsSome}
+use Rattle.bfs_base.specs.Lists.{times, Has}
 use Rattle.bfs_super.specs.Conditions.{IsValid}
 use Rattle.bfs_super.specs.Geometry.{geometry_of}
 use Rattle.bfs_super.specs.declared.geometry.Geometry.{Geometry}
 use Rattle.bfs_super.specs.declared.sup.Super.{Super}
-use Rattle.bfs_bitmap.specs.Runs.{Room, per_block}
-use Rattle.bfs_inode.specs.Inode.{Inode, inode_at, stream_at}
-use Rattle.bfs_txn.specs.Told.{with_block, StaysChanged}
-use Rattle.bfs_stream.specs.Told.{contents, AreTold}
+use Rattle.bfs_bitmap.specs.Runs.{Room}
+use Rattle.bfs_stream.specs.Told.{AreTold}
 use Rattle.bfs_stream.proofs.Doubles.{times-append}
-use Rattle.bfs_stream.proofs.Finish.{counted_same, fits_same, marked_same}
-use Rattle.bfs_tree.specs.Changes.{touched}
 use Rattle.bfs_tree.specs.declared.call.Kind.TheVariants.{Dir}
-use Rattle.bfs_tree.specs.Trees.{Node, Tree, IsNode, is_file}
+use Rattle.bfs_tree.specs.Trees.{Node, Tree, IsNode}
 use Rattle.bfs_sound.specs.Volumes.{Volume, bitmap_blocks, IsMarked}
-use Rattle.bfs_sound.specs.Inodes.{mode_bits, stream_blocks, is_short, inode_blocks}
-use Rattle.bfs_sound.specs.Owners.{node_blocks, data_blocks, file_data, fixed_blocks, reach, In}
-use Rattle.bfs_sound.proofs.Nodes.{node_metadata, node_split, own_metadata, other_blocks}
-use Rattle.bfs_shift.specs.Lists.{Lists, with_rows}
-use Rattle.bfs_shift.specs.Stocked.{HasWords, Stocked, Shifts}
+use Rattle.bfs_sound.specs.Inodes.{is_short, inode_blocks}
+use Rattle.bfs_sound.specs.Owners.{file_data, fixed_blocks, reach}
+use Rattle.bfs_sound.proofs.Nodes.{node_metadata, own_metadata, other_blocks}
+use Rattle.bfs_shift.specs.Lists.{Lists}
 use Rattle.bfs_shift.specs.Shifts.{volume_in}
-use Rattle.bfs_shift.specs.Inodes.{KeepsPlace, HasBytes, HasStatus}
-use Rattle.bfs_shift.proofs.Bridge.{outside_bitmap}
-use Rattle.bfs_shift.proofs.Following.{same_or_not}
-use Rattle.bfs_shift.proofs.Made.{put_here, put_other}
-use Rattle.bfs_shift.proofs.Renewed.{same_test, other_test}
-use Rattle.bfs_shift.proofs.Replaced.{put_swapped}
-use Rattle.bfs_shift.proofs.Rewritten.{words_same}
-use Rattle.bfs_shift.proofs.Stamped.{status_changed, one_shift, only_d}
-use Rattle.bfs_shift.specs.Work.{IsAtWork, GoesOn, IsStepped, MayBeWritten}
+use Rattle.bfs_shift.specs.Work.{IsAtWork}
 use Rattle.bfs_shift.proofs.Basics.{some_bytes}
-use Rattle.bfs_shift.proofs.Files.{has_own, metadata_in, all_split, node_unfiled, not_loose, apart_of, stream_same, data_stays, bytes_same, marks_stay, told_since, entered_since, reserved_stays, unfiled}
+use Rattle.bfs_shift.proofs.Files.{has_own, metadata_in, all_split, not_loose}
 use Rattle.bfs_base.specs.declared.kind.KeyKind.TheVariants.{Text}
-use Rattle.bfs_node.specs.Page.{Row}
-use Rattle.bfs_node.specs.declared.fault.TreeFault.{TreeFault}
-use Rattle.bfs_node.specs.declared.fault.TreeFault.TheVariants as fault
-use Rattle.bfs_pages.specs.Order.{Key}
-use Rattle.bfs_stream.specs.Places.{arrays_at}
 use Rattle.bfs_stream.specs.Sizes.{Origin, sizes_of}
-use Rattle.bfs_stream.specs.declared.fault.GrowFault.{GrowFault}
-use Rattle.bfs_stream.specs.declared.fault.GrowFault.TheVariants as grow
-use Rattle.bfs_stream.proofs.Frames.{has_first}
-use Rattle.bfs_stream_pages.specs.Causes.{HasFailed}
-use Rattle.bfs_stream_pages.specs.Moves.{Moved}
-use Rattle.bfs_stream_pages.specs.Steps.{IsUndamaged}
 use Rattle.bfs_tree.specs.declared.call.Kind.{Kind}
 use Rattle.bfs_maps.specs.Mapped.{HasHeld, IsMap}
 use Rattle.bfs_maps.specs.NumberTrees.{AreNumbers}
-use Rattle.bfs_maps.specs.Refused.{IsUndone, IsPutFault}
 use Rattle.bfs_shift.proofs.Held.{owner_held, directory_is_map}
-use Rattle.bfs_shift.proofs.Maps.{directory_has_rows}
 use Rattle.bfs_shift.proofs.Owners.{directory_owns}
 
 pub not_one : (k d : ℕ) → k ≢ d → times k (d ∷ []) ≡ 0

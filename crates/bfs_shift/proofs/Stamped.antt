@@ -17,7 +17,7 @@ use Rattle.bfs_tree.specs.Trees.{Node, Tree, IsNode, is_link}
 use Rattle.bfs_values.specs.Rows.{rows_in}
 use Rattle.bfs_values.specs.Reached.{IsWholeTree}
 use Rattle.bfs_sound.specs.Volumes.{Volume, sizes, bitmap_blocks, IsMarked}
-use Rattle.bfs_sound.specs.Inodes.{inode_blocks, content, is_short}
+use Rattle.bfs_sound.specs.Inodes.{inode_blocks, stream_blocks, content, is_short}
 use Rattle.bfs_sound.specs.Nodes.{HasTarget, HasContent, HasNode}
 use Rattle.bfs_sound.specs.Owners.{node_blocks, reach}
 use Rattle.bfs_sound.specs.Laws.{with_blocks}
@@ -84,6 +84,9 @@ module _ (v : Volume) (new : ℕ → List ℕ) (d : ℕ) (changes : ChangesAt v.
 
     pub blocks_same : inode_blocks w d ≡ inode_blocks v d
     blocks_same = ap (λ (l : Levels). (d ∷ arrays_of s l) ++ places_of s l) levels_same
+
+    pub streams_same : stream_blocks w d ≡ stream_blocks v d
+    streams_same = ap (places_of s) levels_same
 
     stream_now : HasStream s v.blocks d → HasStream s new d
     stream_now h = subst (HasLevels s) (sym levels_same) h
@@ -176,6 +179,10 @@ module _ (v : Volume) (tree : Tree) (lists : Lists) (loose : List ℕ) (new : �
 
   own_same : own_all u d now.kind (is_short u d) ≡ own_all v d n.kind (is_short v d)
   own_same = ap₂ (λ (k : Kind) (t : Bool). own_all u d k t) same.kind short_is ∙ all_same_blocks v new d changes stream target n.kind (is_short v d) own_once
+
+  -- a file's bytes stand in the same blocks
+  pub file_stays : n.kind ≡ File → stream_blocks u d ≡ stream_blocks v d
+  file_stays file = streams_same v new d changes stream target (subst (λ (k : Kind). times d (own_all v d k (is_short v d)) ≤ 1) file own_once)
 
   blocks_now : (k : ℕ) → times k (node_blocks u (d, now)) ≡ times k (node_blocks v (d, n))
   blocks_now k = own_is u now k ∙ ap₂ (λ (a b : List ℕ). times k a + times k b) own_same others_same ∙ sym (own_is v n k)

@@ -29,15 +29,22 @@ pub record IsAtWork (g : Geometry) (v : Room) (m : ℕ → Option (List ℕ)) (t
 abbrev pub MayBeWritten : Volume → Tree → ℕ → Type 0
 MayBeWritten v tree k = IsMarked v k × ((times k (file_data v tree) ≡ 0) × (times k (fixed_blocks v) ≡ 0))
 
+-- a file is a file of the same size still, whatever else its record says
+pub record IsFileStill (after : Tree) (id : ℕ) (n : Node) : Type 0 where
+  pub node : Node
+  pub there : IsNode after id node
+  pub kind : node.kind ≡ n.kind
+  pub size : node.size ≡ n.size
+
 -- What steps that give nothing back have kept of a volume and of its tree, and what they have changed. The bitmap's view is the same
--- but for its tally. What was marked is. Each file is the same node on the same blocks, no other block is file data, and no file data was
--- written. What was changed may be written: where no block is loose, that is metadata. What was changed stays so, and each
+-- but for its tally. What was marked is. Each file is a file of the same size still, on the same blocks, no other block is file data, and
+-- no file data was written. What was changed may be written: where no block is loose, that is metadata. What was changed stays so, and each
 -- block that is metadata and was not is changed. No reserved block becomes marked.
 pub record GoesOn (g : Geometry) (v now : Room) (m map : ℕ → Option (List ℕ)) (tree after : Tree) (old new : ℕ → Bool) : Type 0 where
   pub rest : now ≡ record v { tally = now.tally }
   pub marked : (k : ℕ) → IsMarked (volume_in g m) k → IsMarked (volume_in g map) k
   pub files : (id : ℕ) (n : Node) → IsNode tree id n → is_file n.kind ≡ true
-      → IsNode after id n × (stream_blocks (volume_in g map) id ≡ stream_blocks (volume_in g m) id)
+      → IsFileStill after id n × (stream_blocks (volume_in g map) id ≡ stream_blocks (volume_in g m) id)
   pub same_data : AreSame (file_data (volume_in g m) tree) (file_data (volume_in g map) after)
   pub bytes : (k : ℕ) → Has (file_data (volume_in g m) tree) k → contents map k ≡ contents m k
   pub written : (k : ℕ) → new k ≡ true

@@ -61,7 +61,7 @@ returns-in-Ok-lookup-clause-refused g c m tree lists s mode told ready same =
     let isdir = ap is_dir n.2 ∙ sym c.is_dir.ensures ∙ c.if-not-is_dir.false in
     let r = subst (λ v. IsReady (geometry_of c.args.sup.now) v m tree lists) (sym c.in-Ok.ensures.bitmap) ready in
     let reads = c.in-Ok-lookup.ensures.reads m tree lists s (c.in-Ok.ensures.told ∙ told) r same in
-    c.refusal_by.ensures ∙ looked_up s c.args.dir c.args.name.now c.args.kind.now mode n.0 is isdir c.in-Ok-lookup.found reads
+    c.refusal_by.ensures.reply ∙ looked_up s c.args.dir c.args.name.now c.args.kind.now mode n.0 is isdir c.in-Ok-lookup.found reads
     ∙ sym (by_child s c.args.dir c.args.name.now c.args.kind.now mode n.0 is isdir
     (neither (is_bad_name c.args.name.now) (is_bad_target c.args.kind.now) (sym c.is_bad_name.ensures ∙ c.if-is_bad_name.false) (sym c.is_bad_target.ensures ∙ c.if-is_bad_target.false))
     (subst (λ k. nat_lt 1024 k ≡ false) c.target_len.ensures (le-ltb 1024 c.target_len.result c.if-target_len-gt1024.false)))

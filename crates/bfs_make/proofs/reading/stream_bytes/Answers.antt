@@ -4,8 +4,8 @@ use Rattle.bfs_stream.specs.Places.{places_at}
 use Rattle.bfs_stream.specs.Told.{contents}
 use Rattle.bfs_stream.proofs.Placed.{some_size}
 use Rattle.bfs_stream.proofs.Sized.{valid_sizes}
-use Rattle.bfs_attr.proofs.Pieces.{IsPartly, sized_at, told_all, partly_start, partly_inside, partly_next, partly_end}
-use Rattle.bfs_attr.proofs.inode.stream_bytes.Goals as goal
+use Rattle.bfs_make.proofs.Pieces.{IsPartly, sized_at, told_all, partly_start, partly_inside, partly_next, partly_end}
+use Rattle.bfs_make.proofs.reading.stream_bytes.Goals as goal
 
 pub loop-left-init : goal.loop-left-init
 loop-left-init g c = record {

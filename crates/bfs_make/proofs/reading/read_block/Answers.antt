@@ -1,7 +1,7 @@
 use Rattle.std.proofs.Common.{◌∙◌, arith}
 use Rattle.std.proofs.lemmas.List.{with_items_is}
 use Rattle.bfs_stream.proofs.Arrays.{read_is}
-use Rattle.bfs_attr.proofs.inode.read_block.Goals as goal
+use Rattle.bfs_make.proofs.reading.read_block.Goals as goal
 
 pub returns-in-Ok-get-clause-read : goal.returns-in-Ok-get-clause-read
 returns-in-Ok-get-clause-read g c m is some =

@@ -3,8 +3,8 @@ use Rattle.std.specs.Prelude.{slice_get}
 use Rattle.bfs_stream.specs.Sizes.{Origin, sizes_of}
 use Rattle.bfs_stream.specs.Places.{places_at}
 use Rattle.bfs_stream.specs.Told.{contents, Stands}
-use Rattle.bfs_attr.proofs.Pieces.{counted_at}
-use Rattle.bfs_attr.proofs.inode.block_at.Goals as goal
+use Rattle.bfs_make.proofs.Pieces.{counted_at}
+use Rattle.bfs_make.proofs.reading.block_at.Goals as goal
 
 pub returns-in-Ok-read_block-clause-found : goal.returns-in-Ok-read_block-clause-found
 returns-in-Ok-read_block-clause-found g c m is stands told =

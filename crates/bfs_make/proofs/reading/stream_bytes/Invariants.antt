@@ -4,8 +4,8 @@ use Rattle.bfs_stream.specs.Places.{places_at}
 use Rattle.bfs_stream.specs.Sizes.{sizes_of}
 use Rattle.bfs_stream.specs.Told.{contents, AreTold, Stands}
 use Rattle.bfs_make.specs.Sites.{stream_in}
-use Rattle.bfs_attr.proofs.Pieces.{IsPartly}
-use Rattle.bfs_attr.proofs.inode.stream_bytes.Given as goal
+use Rattle.bfs_make.proofs.Pieces.{IsPartly}
+use Rattle.bfs_make.proofs.reading.stream_bytes.Given as goal
 
 abbrev pub invariant-loop-left : goal.invariant-loop-left
 invariant-loop-left g l = record {

@@ -1,0 +1,31 @@
+-- A device that is lent to be read, and what its reads leave.
+use Rattle.std.specs.Prelude.{◌≡◌, ◌≤◌, ◌<◌, ◌+◌, ◌-◌, ◌^◌, ℕ, List, Bool, Option}
+use Rattle.bfs_base.specs.Moments.{Passed}
+use Rattle.bfs_disk.specs.State.{State, Tells}
+use Rattle.bfs_disk.specs.Disk.{MayLeave}
+use Rattle.bfs_tree.specs.Histories.{Mounted}
+use Rattle.bfs_device.specs.Books.{Books, View, IsRight, RecoversOne, durable_of}
+use Rattle.bfs_device.specs.Data.{IsRested}
+use Rattle.bfs_core.specs.Spaces.{SpaceView}
+use Rattle.bfs_core.specs.Cores.{Core}
+use Rattle.bfs_core.specs.Moments.{Kept}
+
+-- what is noted for the owner of a lent device: the device as it was lent, and the name of the reference to it
+pub record Lent (D : Type 0) : Type 0 where
+  pub start : View D
+  pub name : ℕ
+
+-- What any number of reads leaves of a device. Its books are as before, but for the count of calls, and the disk holds what it
+-- held, which a crash may leave so that it recovers to one of the versions. A crash meanwhile might have left what it might have
+-- left before, or what recovers to one of them too. And the disk's clock went no faster than the count of calls, until that has
+-- come to its end.
+pub record HasBeenRead (b new : Books) (told after_it : Option State) (clock later : ℕ) (past since : ℕ → List ℕ → Type 0) : Type 0 where
+  pub rests : IsRested b new
+  pub same : after_it ≡ told
+  pub recovers : (t : ℕ → Bool) (right : Tells told (IsRight b t)) (image : List ℕ) → MayLeave told image → RecoversOne b t right.0 image
+  pub meanwhile : (t : ℕ → Bool) → Tells told (IsRight b t) → Passed clock later past since (λ c. Tells told (λ s. RecoversOne b t s c))
+  pub slow : new.moment < 2 ^ 64 - 1 → (b.moment ≤ new.moment) × (later + b.moment ≤ clock + new.moment)
+
+-- Core from adoption on, where no more is said of what a crash since each mark might have left than that it is kept.
+abbrev pub HasCore : Mounted → ℕ → SpaceView → Books → Option State → ℕ → (ℕ → List ℕ → Type 0) → Type 0
+HasCore t0 adopted sp b told clock since = Tells told (λ st. (t : ℕ → Bool) × Core t0 sp b t st) × ∥ Kept t0 sp.history adopted b.marks (durable_of b) b.moment clock since ∥₁

@@ -1,0 +1,9 @@
+mod Wording
+mod Sorting
+mod Turns
+mod Faulty
+mod Meeting
+mod Chaining
+mod Rowing
+mod Reaching
+mod Pairing

@@ -1,0 +1,18 @@
+// Reads a whole tree whose values may mean several numbers, and answers its keys with their numbers, or what is wrong with it. What
+// the tree's pages are is read by bfs_tree_check; here are its values: plain numbers, fragments, and chains of duplicate pages.
+#![tactic(auto)]
+
+mod chain;
+mod leaves;
+mod naming;
+mod parts;
+mod rows;
+mod several;
+mod value;
+mod walk;
+mod words;
+
+pub use walk::walk_values;
+
+#[cfg(test)]
+mod tests;

@@ -5,10 +5,8 @@ use Rattle.std.specs.Prelude.{◌≢◌, ◌==◌, unwrap_or, is_some, cond}
 use Rattle.std.specs.Option.{option_map}
 use Rattle.std.proofs.lemmas.Bool.{true≢false}
 use Rattle.bfs_super.specs.declared.geometry.Geometry.{Geometry}
-use Rattle.bfs_super.specs.Conditions.{ceil, natural}
-use Rattle.bfs_stream.specs.Grown.{IsOfVolume}
-use Rattle.bfs_stream.specs.Sizes.{sizes_of}
-use Rattle.bfs_bitmap.specs.Runs.{Room, Fits, IsCounted, marked, marked_count, per_block}
+use Rattle.bfs_super.specs.Conditions.{ceil}
+use Rattle.bfs_bitmap.specs.Runs.{Room, Fits}
 use Rattle.bfs_txn.specs.Changed.{Ascends, AreOfSize, newest, number_at, or_else, over}
 use Rattle.bfs_tree.specs.declared.call.Call.{Call}
 use Rattle.bfs_tree.specs.declared.reply.Reply.{Reply}
@@ -22,12 +20,12 @@ use Rattle.bfs_shift.specs.Shifts.{volume_in}
 use Rattle.bfs_core.specs.Spaces.{IsFresh}
 use Rattle.bfs_core.proofs.Masks.{data_of, data_when}
 use Rattle.bfs_space.specs.declared.keep.Unkept.{Unkept}
-use Rattle.bfs_space.specs.declared.keep.Unkept.TheVariants.{Damaged, TooMany, Overfull}
+use Rattle.bfs_space.specs.declared.keep.Unkept.TheVariants.{Damaged, TooMany, Beyond}
 use Rattle.bfs_space.specs.declared.calling.CallFault.TheVariants as calling
 use Rattle.bfs_space.specs.Books.{MayBeSealed}
 use Rattle.bfs_moves.specs.Laws.{IsApart}
 use Rattle.bfs_space.specs.Called.{IsCalled, is_changed}
-use Rattle.bfs_space.specs.Answered.{IsAnswered, IsKept, IsStray, IsUnfit, IsCallFault, AreFit, room_kept}
+use Rattle.bfs_space.specs.Answered.{IsAnswered, IsKept, IsStray, IsUnfit, IsCallFault, IsCrowding, AreFit, room_kept}
 use Rattle.bfs_space.proofs.Called.{same_place, some_is, is_there, some_or}
 
 below_or_at : (j i : ℕ) → j < i + 1 → (j < i) ⊎ (i ≡ j)
@@ -156,23 +154,15 @@ no_stray sup v room m map tree after before now mark block sealed called stray =
     by_change (inl old) = let r = found before block (is_there (newest before block) old) in stray.stray (subst (λ (x : ℕ). IsData (layout_of sup) x) r.is (sealed.places r.place r.inside))
     by_change (inr now_is) = stray.stray (data_when sup block now_is.0.0 0 now_is.0.1)
 
--- a bitmap that counts the used blocks counts no more than there are
-marked_few : (v : Room) (m : ℕ → Option (List ℕ)) (n : ℕ) → marked_count v m n ≤ n
-marked_few v m zero = omega arith
-marked_few v m (suc n) = one (marked (per_block v) m n == 0) (marked_count v m n) (marked_few v m n)
-  where
-    one : (b : Bool) (x : ℕ) → x ≤ n → cond {A = ℕ} b 0 1 + x ≤ suc n
-    one true x le = omega (arith, le)
-    one false x le = omega (arith, le)
+-- so a call that is answered over a volume that is told is kept, but for want of room in the log or of what it is allowed
+pub kept_but : (sup : Super) (v room : Room) (m : ℕ → Option (List ℕ)) (tree : Tree) (stamp : ℤ) (call : Call) (reply : Reply) (told : Option (ℕ → Option (List ℕ))) (before now : List (ℕ × List ℕ)) (mark allowed was : ℕ) (why : Unkept) → MayBeSealed (layout_of sup) sup.block_size before
+    → IsAnswered (geometry_of sup) v room m tree stamp call reply told (is_changed before) (is_changed now) → IsUnfit (layout_of sup) allowed was room.tally.used now mark why → IsCallFault (calling.Unkept why)
+kept_but sup v room m tree stamp call reply told before now mark allowed was (Damaged block) sealed answered unfit = no_stray sup v room m answered.map tree answered.after before now mark block sealed answered.called unfit
+kept_but sup v room m tree stamp call reply told before now mark allowed was (TooMany blocks) sealed answered unfit = tt
+kept_but sup v room m tree stamp call reply told before now mark allowed was Beyond sealed answered unfit = tt
 
-used_few : (sup : Super) (v : Room) (m : ℕ → Option (List ℕ)) → IsOfVolume (sizes_of sup) v → IsCounted v m → v.tally.used ≤ natural sup.num_blocks
-used_few sup v m volume counted = let few = marked_few v m v.blocks in let same : v.blocks ≡ natural sup.num_blocks = volume.blocks in omega (arith, few, same, counted)
-
--- so a call that is answered over a volume that is told is kept, but for want of room in the log
-pub kept_but : (sup : Super) (v room : Room) (m : ℕ → Option (List ℕ)) (tree : Tree) (stamp : ℤ) (call : Call) (reply : Reply) (told : Option (ℕ → Option (List ℕ))) (before now : List (ℕ × List ℕ)) (mark : ℕ) (why : Unkept) → MayBeSealed (layout_of sup) sup.block_size before
-    → IsAnswered (geometry_of sup) v room m tree stamp call reply told (is_changed before) (is_changed now) → IsUnfit (layout_of sup) room.tally.used now mark why → IsCallFault (calling.Unkept why)
-kept_but sup v room m tree stamp call reply told before now mark (Damaged block) sealed answered unfit = no_stray sup v room m answered.map tree answered.after before now mark block sealed answered.called unfit
-kept_but sup v room m tree stamp call reply told before now mark TooMany sealed answered unfit = tt
-kept_but sup v room m tree stamp call reply told before now mark Overfull sealed answered unfit =
-    let few = used_few sup room answered.map answered.called.work.volume answered.called.work.counted in
-    let over : natural sup.num_blocks < room.tally.used = unfit in absurd (omega (arith, few, over))
+-- and in that case those of the open group and of the call are more than it takes
+pub crowding_of : (l : Layout) (allowed was used : ℕ) (now : List (ℕ × List ℕ)) (mark : ℕ) (why : Unkept) → IsUnfit l allowed was used now mark why → IsCrowding l allowed mark (calling.Unkept why)
+crowding_of l allowed was used now mark (TooMany blocks) unfit = (subst (λ (n : ℕ). l.len ≤ n + ceil n 126) (sym unfit.1) unfit.0, unfit.2)
+crowding_of l allowed was used now mark (Damaged block) unfit = tt
+crowding_of l allowed was used now mark Beyond unfit = tt

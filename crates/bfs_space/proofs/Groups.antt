@@ -23,18 +23,17 @@ ascending_once : (pairs : List (ℕ × List ℕ)) → Ascends pairs → IsOnce p
 ascending_once pairs up i j lt inside e = let less = up i j lt inside in omega (arith, less, e)
 
 -- the bitmap of a space has changed, but for what is asked of it
-pub parts_with : (sup : Super) (v now : Room) (pairs : List (ℕ × List ℕ)) (sealed entries : ℕ) → HasParts sup v pairs sealed entries → IsOfVolume (sizes_of sup) now → IsSettled now → now.tally.used ≤ natural sup.num_blocks → now.last ≤ sealed → HasParts sup now pairs sealed entries
-parts_with sup v now pairs sealed entries p volume settled used closed = record { valid = p.valid; emptied = p.emptied; volume = volume; settled = settled; used = used; covered = p.covered; closed = closed; group = p.group }
+pub parts_with : (sup : Super) (v now : Room) (pairs : List (ℕ × List ℕ)) (sealed entries : ℕ) → HasParts sup v pairs sealed entries → IsOfVolume (sizes_of sup) now → IsSettled now → now.last ≤ sealed → HasParts sup now pairs sealed entries
+parts_with sup v now pairs sealed entries p volume settled closed = record { valid = p.valid; emptied = p.emptied; volume = volume; settled = settled; covered = p.covered; closed = closed; group = p.group }
 
 -- a call was kept: the bitmap and the open group are others, and there are more entries
-pub parts_kept : (sup : Super) (v now : Room) (pairs group : List (ℕ × List ℕ)) (sealed entries more : ℕ) → HasParts sup v pairs sealed entries → IsOfVolume (sizes_of sup) now → IsSettled now → now.tally.used ≤ natural sup.num_blocks → now.last ≡ v.last
+pub parts_kept : (sup : Super) (v now : Room) (pairs group : List (ℕ × List ℕ)) (sealed entries more : ℕ) → HasParts sup v pairs sealed entries → IsOfVolume (sizes_of sup) now → IsSettled now → now.last ≡ v.last
     → MayBeSealed (layout_of sup) sup.block_size group → entries ≤ more → HasParts sup now group sealed more
-parts_kept sup v now pairs group sealed entries more p volume settled used last fit le = record {
+parts_kept sup v now pairs group sealed entries more p volume settled last fit le = record {
   valid = p.valid;
   emptied = p.emptied;
   volume = volume;
   settled = settled;
-  used = used;
   covered = (let c = p.covered in omega (arith, c, le));
   closed = (let c = p.closed in omega (arith, c, last));
   group = fit;
@@ -42,7 +41,7 @@ parts_kept sup v now pairs group sealed entries more p volume settled used last 
 
 -- there are more entries
 pub parts_longer : (sup : Super) (v : Room) (pairs : List (ℕ × List ℕ)) (sealed entries more : ℕ) → HasParts sup v pairs sealed entries → entries ≤ more → HasParts sup v pairs sealed more
-parts_longer sup v pairs sealed entries more p le = record { valid = p.valid; emptied = p.emptied; volume = p.volume; settled = p.settled; used = p.used; covered = (let c = p.covered in omega (arith, c, le)); closed = p.closed; group = p.group }
+parts_longer sup v pairs sealed entries more p le = record { valid = p.valid; emptied = p.emptied; volume = p.volume; settled = p.settled; covered = (let c = p.covered in omega (arith, c, le)); closed = p.closed; group = p.group }
 
 -- releasing counts no block
 pub released_used : (group : ℕ) (gs : List Given) (t : Tally) → (lowered_by group gs t).used ≡ t.used
@@ -72,31 +71,30 @@ parts_opened sup valid emptied = record {
   emptied = emptied;
   volume = record { block_size = refl; blocks = refl; group_blocks = refl };
   settled = refl;
-  used = omega arith;
   covered = omega arith;
   closed = omega arith;
   group = nothing_sealed sup valid;
 }
 
 -- what a space has may be sealed
-pub sealed_of : (sup : Super) (v : Room) (pairs : List (ℕ × List ℕ)) (sealed entries : ℕ) → HasParts sup v pairs sealed entries → sealed < entries → IsSealed (layout_of sup) sup.block_size (record { first = sealed + 1; last = entries; used = v.tally.used; blocks = pairs })
-sealed_of sup v pairs sealed entries p lt = record {
+pub sealed_of : (sup : Super) (v : Room) (pairs : List (ℕ × List ℕ)) (sealed entries : ℕ) → HasParts sup v pairs sealed entries → v.tally.used ≤ v.blocks → sealed < entries → IsSealed (layout_of sup) sup.block_size (record { first = sealed + 1; last = entries; used = v.tally.used; blocks = pairs })
+sealed_of sup v pairs sealed entries p few lt = record {
   order = omega (arith, lt);
   once = ascending_once pairs p.group.ascends;
   sized = p.group.sized;
   places = p.group.places;
-  used = p.used;
+  used = (let same : v.blocks ≡ natural sup.num_blocks = p.volume.blocks in omega (arith, few, same));
   room = p.group.room;
 }
 
-pub group_for : (sp : SpaceView) (v : Room) (g : Group) → HasParts sp.sup v sp.group sp.sealed (length sp.history) → (sp.sealed ≡ length sp.history → ⊥) → v.tally.used ≡ sp.used → g.first ≡ sp.sealed + 1 → g.last ≡ length sp.history → g.used ≡ sp.used → g.blocks ≡ sp.group → IsGroupFor sp g
-group_for sp v g p apart used first last same blocks = record {
+pub group_for : (sp : SpaceView) (v : Room) (g : Group) → HasParts sp.sup v sp.group sp.sealed (length sp.history) → v.tally.used ≤ v.blocks → (sp.sealed ≡ length sp.history → ⊥) → v.tally.used ≡ sp.used → g.first ≡ sp.sealed + 1 → g.last ≡ length sp.history → g.used ≡ sp.used → g.blocks ≡ sp.group → IsGroupFor sp g
+group_for sp v g p few apart used first last same blocks = record {
   first = first;
   last = last;
   some = some;
   used = same;
   blocks = blocks;
-  sealed = subst (λ (x : Group). IsSealed (layout_of sp.sup) sp.sup.block_size x) (sym is) (sealed_of sp.sup v sp.group sp.sealed (length sp.history) p some);
+  sealed = subst (λ (x : Group). IsSealed (layout_of sp.sup) sp.sup.block_size x) (sym is) (sealed_of sp.sup v sp.group sp.sealed (length sp.history) p few some);
 }
   where
     some : sp.sealed < length sp.history

@@ -1,7 +1,10 @@
+pub mod Stops
 pub mod Stamps
 pub mod Groups
 pub mod Called
 pub mod Fits
+pub mod Within
 pub mod Done
+pub mod Turned
 pub mod Following
 pub mod Entering

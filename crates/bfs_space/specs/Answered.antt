@@ -1,6 +1,8 @@
 -- What a call's answer makes of a volume, and when its changes may be kept.
-use Rattle.std.specs.Prelude.{◌≡◌, ◌≤◌, ◌<◌, ℕ, ℤ, List, length, map, Bool, Option, Some}
+use Rattle.std.specs.Prelude.{◌≡◌, ◌≢◌, ◌≤◌, ◌<◌, ◌+◌, ◌⊎◌, ℕ, ℤ, List, length, map, Bool, Option, Some}
+use Rattle.bfs_base.specs.Lists.{Has}
 use Rattle.bfs_super.specs.declared.geometry.Geometry.{Geometry}
+use Rattle.bfs_super.specs.Conditions.{ceil}
 use Rattle.bfs_bitmap.specs.Givens.{settled}
 use Rattle.bfs_bitmap.specs.Runs.{Room, Fits}
 use Rattle.bfs_txn.specs.Changed.{number_at, over}
@@ -18,7 +20,7 @@ use Rattle.bfs_space.specs.Called.{IsCalled, is_changed}
 use Rattle.bfs_space.specs.declared.calling.CallFault.{CallFault}
 use Rattle.bfs_space.specs.declared.calling.CallFault.TheVariants as calling
 use Rattle.bfs_space.specs.declared.keep.Unkept.{Unkept}
-use Rattle.bfs_space.specs.declared.keep.Unkept.TheVariants.{Damaged, TooMany, Overfull}
+use Rattle.bfs_space.specs.declared.keep.Unkept.TheVariants.{Damaged, TooMany, Beyond}
 
 -- A call was answered: what is told now is what the call has made of the volume, and the answer and the tree since are those of the plain
 -- tree, in every state that has this tree.
@@ -29,13 +31,13 @@ pub record IsAnswered (g : Geometry) (v now : Room) (m : ℕ → Option (List �
   pub called : IsCalled g v now m map tree after old new
   pub by_tree : (s : State) (session : ℕ) → s.tree ≡ tree → (t : State) × (t.tree ≡ after) × ByTree session stamp call reply s t
 
--- Why a call isn't answered, or its changes may not be kept: over a volume that is told no block is changed that no group may have, and no
--- more blocks are used than there are; but more may be changed than the log has room for
+-- Why a call isn't answered, or its changes may not be kept: over a volume that is told no block is changed that no group may have; but more
+-- may be changed than the log has room for, or than the call is allowed
 abbrev pub IsCallFault : CallFault → Type 0
 IsCallFault (calling.Map fault) = IsUnanswered fault
 IsCallFault (calling.Unkept (Damaged block)) = ⊥
-IsCallFault (calling.Unkept TooMany) = Unit {0}
-IsCallFault (calling.Unkept Overfull) = ⊥
+IsCallFault (calling.Unkept (TooMany blocks)) = Unit {0}
+IsCallFault (calling.Unkept Beyond) = Unit {0}
 
 abbrev pub HasCallCause : Counts → Counts → CallFault → Type 0
 HasCallCause old new (calling.Map fault) = HasAnswerCause old new fault
@@ -54,11 +56,16 @@ pub record IsStray (l : Layout) (pairs : List (ℕ × List ℕ)) (mark block : �
   pub is : number_at pairs place ≡ block
   pub stray : ¬ IsData l block
 
--- why they may not, where so many blocks are used
-abbrev pub IsUnfit : Layout → ℕ → List (ℕ × List ℕ) → ℕ → Unkept → Type 0
-IsUnfit l used pairs mark (Damaged block) = IsStray l pairs mark block
-IsUnfit l used pairs mark TooMany = l.len ≤ ring_count pairs
-IsUnfit l used pairs mark Overfull = l.blocks < used
+-- why they may not, where so many blocks were used and are, and so many may be changed
+abbrev pub IsUnfit : Layout → ℕ → ℕ → ℕ → List (ℕ × List ℕ) → ℕ → Unkept → Type 0
+IsUnfit l allowed was used pairs mark (Damaged block) = IsStray l pairs mark block
+IsUnfit l allowed was used pairs mark (TooMany blocks) = (l.len ≤ ring_count pairs) × (mark + blocks ≡ length pairs) × (blocks ≤ allowed)
+IsUnfit l allowed was used pairs mark Beyond = (mark + allowed < length pairs) ⊎ (was + allowed < used)
+
+-- the blocks that a call changed are more than the log takes, with so many of the open group, and no more than it is allowed
+abbrev pub IsCrowding : Layout → ℕ → ℕ → CallFault → Type 0
+IsCrowding l allowed begun (calling.Unkept (TooMany blocks)) = (l.len ≤ begun + blocks + ceil (begun + blocks) 126) × (blocks ≤ allowed)
+IsCrowding l allowed begun _ = Unit {0}
 
 -- the bitmap of a call that was kept
 abbrev pub room_kept : Room → Room
@@ -73,6 +80,13 @@ pub record IsKept (g : Geometry) (v new : Room) (m : ℕ → Option (List ℕ)) 
   pub called : IsCalled g v room (over before m) (over now m) tree after (is_changed before) (is_changed now)
   pub fits : Fits new (over now m)
   pub by_tree : (s : State) (session : ℕ) → s.tree ≡ tree → (t : State) × (t.tree ≡ after) × ByTree session stamp call reply s t
+
+-- At most so many blocks of what is told are other ones since a call was kept, and at most so many more are used.
+pub record IsWithin (allowed : ℕ) (v new : Room) (m : ℕ → Option (List ℕ)) (before now : List (ℕ × List ℕ)) : Type 0 where
+  pub changed : List ℕ
+  pub few : length changed ≤ allowed
+  pub are : (k : ℕ) → over now m k ≢ over before m k → Has changed k
+  pub used : new.tally.used ≤ v.tally.used + allowed
 
 -- A call that gives nothing back and was answered is answered as a space asks it.
 abbrev pub DoneIsAnswered : Type 0

@@ -1,5 +1,6 @@
 -- A space as its calls see it, and what is true of its parts.
-use Rattle.std.specs.Prelude.{◌≡◌, ◌≤◌, ◌<◌, ◌+◌, ◌^◌, ◌==◌, ◌≤ℤ◌, ℕ, ℤ, pos, List, [], ◌∷◌, length, map, min, filter, not, Option, Some, None, if◌then◌else◌}
+use Rattle.std.specs.Prelude.{◌≡◌, ◌≤◌, ◌<◌, ◌+◌, ◌^◌, ◌==◌, ◌≤ℤ◌, ℕ, ℤ, pos, List, [], ◌∷◌, length, map, min, filter, not, Option, Some, None, is_some, if◌then◌else◌}
+use Rattle.std.specs.List.{list_any}
 use Rattle.bfs_super.specs.declared.sup.Super.{Super}
 use Rattle.bfs_super.specs.Conditions.{IsValid, natural, group_blocks}
 use Rattle.bfs_bitmap.specs.Runs.{Room, IsSettled}
@@ -12,17 +13,19 @@ use Rattle.bfs_tree.specs.declared.call.Call.{Call}
 use Rattle.bfs_tree.specs.declared.reply.Reply.{Reply}
 use Rattle.bfs_tree.specs.declared.reply.Reply.TheVariants as replies
 use Rattle.bfs_tree.specs.declared.reply.Entry.{Entry}
-use Rattle.bfs_tree.specs.Histories.{drawn, last_stamp}
+use Rattle.bfs_tree.specs.Histories.{drawn, is_stop, last_stamp}
 use Rattle.bfs_device.specs.declared.journal.Stop.{Stop}
 use Rattle.bfs_device.specs.Layouts.{Layout, IsData, layout_of, ring_count}
 use Rattle.bfs_core.specs.Spaces.{SpaceView, opened, noted}
 
--- The space itself; what its bitmap knows beside the bits; the sessions that are promised room for an entry; and the stop of the device, once an entry has told it.
+-- The space itself; what its bitmap knows beside the bits; the sessions that are promised room for an entry; the stop of the device, once an
+-- entry has told it; and up to which number it has heard that groups have left the log.
 pub record SpaceBooks : Type 0 where
   pub view : SpaceView
   pub room : Room
   pub promised : List ℕ
   pub stop : Option Stop
+  pub left : ℕ
 
 -- the bitmap of a volume before any call
 abbrev pub first_room : Super → Room
@@ -45,7 +48,7 @@ released_room group v = record v { given = filter (λ g. not (is_left group g)) 
 
 -- a space that was opened: session 0 is promised one entry
 abbrev pub fresh : Super → SpaceBooks
-fresh sup = record { view = opened sup; room = first_room sup; promised = 0 ∷ []; stop = None }
+fresh sup = record { view = opened sup; room = first_room sup; promised = 0 ∷ []; stop = None; left = 0 }
 
 -- the promises without those to a session
 abbrev pub without : ℕ → List ℕ → List ℕ
@@ -59,6 +62,17 @@ stopped_at _ durable = None
 abbrev pub stop_after : Option Stop → Reply → ℕ → Option Stop
 stop_after (Some stop) reply durable = Some stop
 stop_after None reply durable = stopped_at reply durable
+
+-- the stop is known exactly where an entry tells it
+abbrev pub KnowsStop : List Entry → Option Stop → Type 0
+KnowsStop history stop = list_any (λ e. is_stop e.reply) history ≡ is_some stop
+
+-- nothing is held back: no run is reserved, no entry and no block waits for a seal, and each sealed group has left the log
+pub record IsIdle (b : SpaceBooks) : Type 0 where
+  pub given : b.room.given ≡ []
+  pub empty : b.view.group ≡ []
+  pub entries : b.view.sealed ≡ length b.view.history
+  pub left : b.view.sealed ≤ b.left
 
 -- the entry that is noted: it draws its stamp from the clock and the last stamp
 abbrev pub entry_noted : SpaceBooks → ℕ → ℕ → ℕ → Call → Reply → Entry
@@ -75,15 +89,13 @@ pub record MayBeSealed (l : Layout) (size : ℕ) (pairs : List (ℕ × List ℕ)
   pub places : (i : ℕ) → i < length pairs → IsData l (number_at pairs i)
   pub room : ring_count pairs < l.len
 
--- What is true of a space's parts: the superblock is valid and its log empty; the bitmap is of that volume, has nothing of a
--- call that goes on, and counts no more used blocks than there are; groups cover a prefix of so many entries; and the open group
--- may be sealed.
+-- What is true of a space's parts: the superblock is valid and its log empty; the bitmap is of that volume, and has nothing of a
+-- call that goes on; groups cover a prefix of so many entries; and the open group may be sealed.
 pub record HasParts (sup : Super) (v : Room) (pairs : List (ℕ × List ℕ)) (sealed entries : ℕ) : Type 0 where
   pub valid : IsValid sup
   pub emptied : sup.log_start ≡ sup.log_end
   pub volume : IsOfVolume (sizes_of sup) v
   pub settled : IsSettled v
-  pub used : v.tally.used ≤ natural sup.num_blocks
   pub covered : sealed ≤ entries
   pub closed : v.last ≤ sealed
   pub group : MayBeSealed (layout_of sup) sup.block_size pairs

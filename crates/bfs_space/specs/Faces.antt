@@ -1,40 +1,66 @@
 -- A space over what is told below it, and a call that was entered.
-use Rattle.std.specs.Prelude.{◌≡◌, ◌++◌, ℕ, List, [], ◌∷◌, Option, false}
-use Rattle.std.specs.List.{list_any}
+use Rattle.std.specs.Prelude.{◌≡◌, ◌⊎◌, ◌++◌, ℕ, List, [], ◌∷◌, Bool, Option, length}
+use Rattle.bfs_super.specs.Geometry.{geometry_of}
 use Rattle.bfs_bitmap.specs.Runs.{Fits}
 use Rattle.bfs_txn.specs.Changed.{over}
+use Rattle.bfs_txn.specs.Faults.{Counts}
 use Rattle.bfs_tree.specs.declared.call.Call.{Call}
 use Rattle.bfs_tree.specs.declared.reply.Reply.{Reply}
-use Rattle.bfs_tree.specs.Histories.{Mounted, is_stop}
+use Rattle.bfs_tree.specs.Histories.{Mounted, after}
+use Rattle.bfs_sound.specs.Need.{logged_need}
+use Rattle.bfs_shift.specs.Shifts.{volume_in}
 use Rattle.bfs_core.specs.Spaces.{Entered, HasSet, IsSoundOver, SameSeals}
-use Rattle.bfs_space.specs.Books.{SpaceBooks, entry_noted, without}
-use Rattle.bfs_space.specs.Called.{IsFaceTold, is_changed}
+use Rattle.bfs_space.specs.Answered.{IsWithin}
+use Rattle.bfs_space.specs.Books.{SpaceBooks, IsIdle, entry_noted}
+use Rattle.bfs_space.specs.Called.{IsFaceTold}
+use Rattle.bfs_space.specs.Replies.{HasReplyCause, IsOutside, IsPutOff}
+use Rattle.bfs_space.specs.declared.space.Outcome.{Outcome}
+use Rattle.bfs_space.specs.declared.space.Outcome.TheVariants.{Replied, Drain}
 
--- What is told below is what the space stands over: its Face is sound and told, its bitmap fits it, and no entry says that the disk
--- has stopped.
+-- What is told below is what the space stands over: its Face is sound and told, and its bitmap fits it.
 pub record IsFaceOf (t0 : Mounted) (b : SpaceBooks) (m : ℕ → Option (List ℕ)) : Type 0 where
   pub sound : IsSoundOver t0 b.view m
   pub told : IsFaceTold t0 b.view m
   pub fits : Fits b.room (over b.view.group m)
-  pub going : list_any (λ e. is_stop e.reply) b.view.history ≡ false
 
 -- for some tree that stood at mounting
 pub record HasFace (b : SpaceBooks) (m : ℕ → Option (List ℕ)) : Type 0 where
   pub t0 : Mounted
   pub face : IsFaceOf t0 b m
 
--- An entry was appended, whose stamp was drawn from the clock, and the session's promise has ended; what only a seal changes is as it was.
-pub record HasNoted (old new : SpaceBooks) (session tag now : ℕ) (call : Call) : Type 0 where
-  pub reply : Reply
-  pub history : new.view.history ≡ old.view.history ++ entry_noted old session tag now call reply ∷ []
-  pub promised : new.promised ≡ without session old.promised
-  pub same : SameSeals old.view new.view
-  pub stop : new.stop ≡ old.stop
+-- At most as many blocks have changed as Need says; or the call was turned away from outside, and none has.
+abbrev pub IsCaused : Mounted → SpaceBooks → SpaceBooks → (ℕ → Option (List ℕ)) → Call → Reply → Type 0
+IsCaused t0 old new m call reply =
+    IsWithin (logged_need (volume_in (geometry_of old.view.sup) (over old.view.group m)) (after t0 old.view.history) call) old.room new.room m old.view.group new.view.group
+    ⊎ ((new.view.group ≡ old.view.group) × (new.room ≡ old.room) × IsOutside (geometry_of old.view.sup) old.room (over old.view.group m) (after t0 old.view.history) (IsIdle old) call reply)
 
--- A call was entered: its entry may follow the history, Face stays sound with the tree after it, and what it set is in the open group; and
--- the space still stands over what is told.
+-- A call was entered: its entry may follow the history, Face stays sound with the tree after it, and what it set is in the open group; the
+-- space still stands over what is told; and blocks and reply are as Need and the causes of replies say.
 pub record HasEntered (t0 : Mounted) (old new : SpaceBooks) (m : ℕ → Option (List ℕ)) (session tag now : ℕ) (call : Call) : Type 0 where
   pub reply : Reply
+  pub set : ℕ → Bool
   pub entered : Entered t0 old.view new.view m (entry_noted old session tag now call reply)
-  pub set : HasSet t0 old.view new.view m (is_changed new.view.group)
+  pub has_set : HasSet t0 old.view new.view m set
   pub face : IsFaceOf t0 new m
+  pub caused : IsCaused t0 old new m call reply
+
+-- An entry was appended, whose stamp was drawn from the clock; a reply by the disk has its cause; what only a seal, a promise, a release or a
+-- note changes is as it was.
+pub record HasReplied (before after : Counts) (old new : SpaceBooks) (session tag now : ℕ) (call : Call) : Type 0 where
+  pub reply : Reply
+  pub history : new.view.history ≡ old.view.history ++ entry_noted old session tag now call reply ∷ []
+  pub cause : HasReplyCause before after old.stop reply
+  pub same : SameSeals old.view new.view
+  pub promised : new.promised ≡ old.promised
+  pub stop : new.stop ≡ old.stop
+  pub left : new.left ≡ old.left
+
+-- what has become of a call: it has an entry, or it was put off, and nothing has changed
+abbrev pub IsOutcome : Mounted → SpaceBooks → SpaceBooks → (ℕ → Option (List ℕ)) → ℕ → ℕ → ℕ → Call → Outcome → Type 0
+IsOutcome t0 old new m session tag now call Replied = HasEntered t0 old new m session tag now call
+IsOutcome t0 old new m session tag now call (Drain back) = IsPutOff (geometry_of old.view.sup) old.room (over old.view.group m) (length old.view.group) (after t0 old.view.history) (IsIdle old) call
+
+-- and that whatever is told
+abbrev pub HasOutcome : Counts → Counts → SpaceBooks → SpaceBooks → ℕ → ℕ → ℕ → Call → Outcome → Type 0
+HasOutcome before after old new session tag now call Replied = HasReplied before after old new session tag now call
+HasOutcome before after old new session tag now call (Drain back) = (back ≡ call) × (new ≡ old)

@@ -1,7 +1,7 @@
 // One call over an open group and what lies below: it is answered, and what it changed is kept, or given up.
-ghost use Rattle.std.specs.Prelude.{◌≡◌, ◌≤◌, ◌<◌, ℕ, List, Option, Some, OnOk, OnErr, IfOk, IfErr, length, take};
+ghost use Rattle.std.specs.Prelude.{◌≡◌, ◌≤◌, ◌<◌, ◌+◌, ℕ, List, None, true, Option, Some, OnOk, OnErr, IfOk, IfErr, length, take};
 ghost use Rattle.std.specs.Option.{option_map};
-ghost use Rattle.bfs_super.specs.Conditions.{IsValid, natural};
+ghost use Rattle.bfs_super.specs.Conditions.{IsValid};
 ghost use Rattle.bfs_super.specs.Geometry.{geometry_of};
 ghost use Rattle.bfs_bitmap.specs.Runs.{IsSettled, as_kept};
 ghost use Rattle.bfs_txn.specs.Changed.{Ascends, AreOfSize, over};
@@ -9,13 +9,16 @@ ghost use Rattle.bfs_txn.specs.Faults.{AreLater};
 ghost use Rattle.bfs_stream.specs.Grown.{IsOfVolume};
 ghost use Rattle.bfs_stream.specs.Sizes.{sizes_of};
 ghost use Rattle.bfs_tree.specs.Answers.{KeepsRanges};
+ghost use Rattle.bfs_tree.specs.Refusals.{own_refusal};
+ghost use Rattle.bfs_tree.specs.States.{State};
 ghost use Rattle.bfs_tree.specs.Trees.{Tree};
 ghost use Rattle.bfs_device.specs.Layouts.{layout_of};
 ghost use Rattle.bfs_shift.specs.Lists.{Lists};
 ghost use Rattle.bfs_space.specs.Books.{MayBeSealed};
 ghost use Rattle.bfs_space.specs.Called.{is_changed};
 ghost use Rattle.bfs_look.specs.Ready.{IsReady, HasReady};
-ghost use Rattle.bfs_space.specs.Answered.{IsAnswered, IsKept, AreFit, IsCallFault, HasCallCause};
+ghost use Rattle.bfs_calls.specs.Refusals.{is_own};
+ghost use Rattle.bfs_space.specs.Answered.{IsAnswered, IsKept, IsWithin, AreFit, IsCallFault, HasCallCause, IsCrowding};
 
 use crate::keep::may_be_kept;
 use crate::{Answers, Unkept};
@@ -33,7 +36,7 @@ pub enum CallFault {
     Unkept(Unkept),
 }
 
-/// Answers a call, and looks whether what it changed may be kept.
+/// Answers a call that is to be done, and looks whether what it changed may be kept.
 fn answer_over<A: Answers, B: Blocks>(
     alloc: Global,
     sup: &Super,
@@ -43,6 +46,7 @@ fn answer_over<A: Answers, B: Blocks>(
     mark: usize,
     call: &Call,
     stamp: i64,
+    allowed: u64,
 ) -> Result<Reply, CallFault>
     requires valid { IsValid sup.now }
     requires size { B.size overlay.old.under.now ≡ sup.now.block_size }
@@ -50,13 +54,20 @@ fn answer_over<A: Answers, B: Blocks>(
     requires mark { mark ≡ overlay.old.mark }
     requires begun { mark ≡ length overlay.old.group.now }
     requires open { MayBeSealed (layout_of sup.now) sup.now.block_size overlay.old.group.now }
+    requires serves { A.serves call.now ≡ true }
     requires ranges { KeepsRanges call.now }
+    requires may { A.may sup.now call.now }
     requires ready { (m : ℕ → Option (List ℕ)) → B.told overlay.old.under.now ≡ Some m → HasReady (geometry_of sup.now) bitmap.old (over overlay.old.group.now m) }
+    requires fine { (m : ℕ → Option (List ℕ)) (tree : Tree) (lists : Lists) (s : State) → B.told overlay.old.under.now ≡ Some m → IsReady (geometry_of sup.now) bitmap.old (over overlay.old.group.now m) tree lists → s.tree ≡ tree → own_refusal call.now s ≡ None }
     ensures answered { (m : ℕ → Option (List ℕ)) (tree : Tree) (lists : Lists) → B.told overlay.old.under.now ≡ Some m → IsReady (geometry_of sup.now) bitmap.old (over overlay.old.group.now m) tree lists → IfOk result (λ reply. IsAnswered (geometry_of sup.now) bitmap.old bitmap.new (over overlay.old.group.now m) tree stamp call.now reply (option_map (over overlay.new.group.now) (B.told overlay.new.under.now)) (is_changed overlay.old.group.now) (is_changed overlay.new.group.now)) }
     ensures unanswered { (m : ℕ → Option (List ℕ)) (tree : Tree) (lists : Lists) → B.told overlay.old.under.now ≡ Some m → IsReady (geometry_of sup.now) bitmap.old (over overlay.old.group.now m) tree lists → IfErr result IsCallFault }
     ensures cause { IfErr result (HasCallCause (B.counts overlay.old.under.now) (B.counts overlay.new.under.now)) }
+    ensures own { IfOk result (λ reply. is_own reply ≡ true) }
+    ensures crowding { IfErr result (IsCrowding (layout_of sup.now) allowed mark) }
+    ensures later { AreLater (B.counts overlay.old.under.now) (B.counts overlay.new.under.now) }
     ensures fit { OnOk result (AreFit (layout_of sup.now) overlay.new.group.now overlay.new.mark) }
-    ensures used { OnOk result (bitmap.new.tally.used ≤ natural sup.now.num_blocks) }
+    ensures few { OnOk result (length overlay.new.group.now ≤ mark + allowed) }
+    ensures rise { OnOk result (bitmap.new.tally.used ≤ bitmap.old.tally.used + allowed) }
     ensures undone { as_kept bitmap.new ≡ as_kept bitmap.old }
     ensures volume { IsOfVolume (sizes_of sup.now) bitmap.new }
     ensures last { bitmap.new.last ≡ bitmap.old.last }
@@ -66,8 +77,9 @@ fn answer_over<A: Answers, B: Blocks>(
     ensures open { take overlay.new.mark overlay.new.group.now ≡ take overlay.old.mark overlay.old.group.now }
     ensures told { B.told overlay.new.under.now ≡ B.told overlay.old.under.now }
 {
+    let was = bitmap.used();
     match answers.answer(alloc, sup, bitmap, overlay, call, stamp) {
-        Ok(reply) => match may_be_kept(overlay, sup, bitmap, mark) {
+        Ok(reply) => match may_be_kept(overlay, sup, bitmap, mark, was, allowed) {
             Ok(()) => Ok(reply),
             Err(why) => Err(CallFault::Unkept(why)),
         },
@@ -75,7 +87,8 @@ fn answer_over<A: Answers, B: Blocks>(
     }
 }
 
-/// Answers a call, and keeps what it changed where it may be kept. Else the open group and the bitmap are as they were.
+/// Answers a call that is to be done, and keeps what it changed where it may be kept: at most so many blocks. Else the open group and the bitmap
+/// are as they were.
 pub fn answer_call<A: Answers, B: Blocks>(
     alloc: Global,
     sup: &Super,
@@ -85,19 +98,26 @@ pub fn answer_call<A: Answers, B: Blocks>(
     under: &mut B,
     call: &Call,
     stamp: i64,
+    allowed: u64,
 ) -> Result<Reply, CallFault>
     requires valid { IsValid sup.now }
     requires size { B.size under.old ≡ sup.now.block_size }
     requires volume { IsOfVolume (sizes_of sup.now) bitmap.old }
     requires settled { IsSettled bitmap.old }
     requires group { MayBeSealed (layout_of sup.now) sup.now.block_size group.old }
+    requires serves { A.serves call.now ≡ true }
     requires ranges { KeepsRanges call.now }
+    requires may { A.may sup.now call.now }
     requires ready { (m : ℕ → Option (List ℕ)) → B.told under.old ≡ Some m → HasReady (geometry_of sup.now) bitmap.old (over group.old m) }
+    requires fine { (m : ℕ → Option (List ℕ)) (tree : Tree) (lists : Lists) (s : State) → B.told under.old ≡ Some m → IsReady (geometry_of sup.now) bitmap.old (over group.old m) tree lists → s.tree ≡ tree → own_refusal call.now s ≡ None }
     ensures kept { (m : ℕ → Option (List ℕ)) (tree : Tree) (lists : Lists) → B.told under.old ≡ Some m → IsReady (geometry_of sup.now) bitmap.old (over group.old m) tree lists → IfOk result (λ reply. IsKept (geometry_of sup.now) bitmap.old bitmap.new m group.old group.new tree stamp call.now reply) }
     ensures unanswered { (m : ℕ → Option (List ℕ)) (tree : Tree) (lists : Lists) → B.told under.old ≡ Some m → IsReady (geometry_of sup.now) bitmap.old (over group.old m) tree lists → IfErr result IsCallFault }
     ensures cause { IfErr result (HasCallCause (B.counts under.old) (B.counts under.new)) }
+    ensures own { IfOk result (λ reply. is_own reply ≡ true) }
+    ensures crowding { IfErr result (IsCrowding (layout_of sup.now) allowed (length group.old)) }
+    ensures later { AreLater (B.counts under.old) (B.counts under.new) }
     ensures group { MayBeSealed (layout_of sup.now) sup.now.block_size group.new }
-    ensures used { OnOk result (bitmap.new.tally.used ≤ natural sup.now.num_blocks) }
+    ensures within { (m : ℕ → Option (List ℕ)) → OnOk result (IsWithin allowed bitmap.old bitmap.new m group.old group.new) }
     ensures settled { IsSettled bitmap.new }
     ensures volume { IsOfVolume (sizes_of sup.now) bitmap.new }
     ensures last { bitmap.new.last ≡ bitmap.old.last }
@@ -107,7 +127,17 @@ pub fn answer_call<A: Answers, B: Blocks>(
 {
     let mark = group.len();
     let mut overlay = Overlay::begin(group, under);
-    match answer_over(alloc, sup, answers, bitmap, &mut overlay, mark, call, stamp) {
+    match answer_over(
+        alloc,
+        sup,
+        answers,
+        bitmap,
+        &mut overlay,
+        mark,
+        call,
+        stamp,
+        allowed,
+    ) {
         Ok(reply) => {
             overlay.keep();
             bitmap.keep();

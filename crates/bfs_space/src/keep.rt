@@ -1,6 +1,6 @@
 // Whether what a call changed may go into a group.
-ghost use Rattle.std.specs.Prelude.{◌≡◌, ◌≤◌, ◌<◌, ◌+◌, ◌/◌, ℕ, OnOk, IfErr, length};
-ghost use Rattle.bfs_super.specs.Conditions.{IsValid, natural};
+ghost use Rattle.std.specs.Prelude.{◌≡◌, ◌≤◌, ◌<◌, ◌+◌, ◌/◌, ◌⊎◌, ℕ, IsTrue, IsFalse, OnOk, IfErr, length};
+ghost use Rattle.bfs_super.specs.Conditions.{IsValid};
 ghost use Rattle.bfs_device.specs.Layouts.{is_data, layout_of, ring_count};
 ghost use Rattle.bfs_space.specs.Answered.{AreFit, IsUnfit};
 
@@ -9,12 +9,12 @@ use bfs_super::Super;
 use bfs_txn::{Blocks, Overlay};
 
 /// Why what a call changed isn't kept: it changed this block, which no group may have, so that what was read of the volume is
-/// damaged; or more blocks than the log has room for; or the bitmap counts more used blocks than the volume has.
+/// damaged; or so many blocks, which with those of the open group are more than the log has room for; or more than the call is allowed.
 #[derive(Clone, Copy, Debug, PartialEq, Eq)]
 pub enum Unkept {
     Damaged(u64),
-    TooMany,
-    Overfull,
+    TooMany(u64),
+    Beyond,
 }
 
 /// Whether a block is one of the volume that is neither block 0 nor one of the log.
@@ -29,15 +29,6 @@ fn is_data_of(sup: &Super, block: u64) -> bool
             && (block < first || first + u64::from(geometry.log.len) <= block))
 }
 
-/// How many blocks the volume has.
-fn blocks_in(sup: &Super) -> u64
-    requires { IsValid sup.now }
-    ensures { result ≡ natural sup.now.num_blocks }
-{
-    let geometry = sup.geometry();
-    geometry.blocks
-}
-
 /// How many blocks of the log so many changed blocks take.
 fn in_ring(blocks: usize) -> usize
     requires { blocks < 65536 }
@@ -46,26 +37,51 @@ fn in_ring(blocks: usize) -> usize
     blocks + (blocks + 125) / 126
 }
 
-/// Whether the blocks that a call changed, behind `mark` pairs of an open group, may go into a group, with the bitmap that it left.
+/// Whether a call may change no more blocks than it did, behind `mark` pairs of an open group, and use no more.
+fn is_within<B: Blocks>(
+    overlay: &Overlay<'_, B>,
+    bitmap: &Bitmap,
+    mark: usize,
+    was: u64,
+    allowed: u64,
+) -> bool
+    requires mark { mark ≤ length overlay.now.group.now }
+    ensures few { IsTrue result → length overlay.now.group.now ≤ mark + allowed }
+    ensures rise { IsTrue result → bitmap.now.tally.used ≤ was + allowed }
+    ensures not { IsFalse result → (mark + allowed < length overlay.now.group.now) ⊎ (was + allowed < bitmap.now.tally.used) }
+{
+    let changed = (overlay.pairs() - mark) as u64;
+    if changed > allowed {
+        return false;
+    }
+    let used = bitmap.used();
+    used <= was || used - was <= allowed
+}
+
+/// Whether the blocks that a call changed, behind `mark` pairs of an open group, may go into a group, with the bitmap that it left; so many
+/// blocks were used before it, and so many it is allowed.
 pub fn may_be_kept<B: Blocks>(
     overlay: &Overlay<'_, B>,
     sup: &Super,
     bitmap: &Bitmap,
     mark: usize,
+    was: u64,
+    allowed: u64,
 ) -> Result<(), Unkept>
     requires valid { IsValid sup.now }
     requires mark { mark ≤ length overlay.now.group.now }
     ensures ok { OnOk result (AreFit (layout_of sup.now) overlay.now.group.now mark) }
-    ensures used { OnOk result (bitmap.now.tally.used ≤ natural sup.now.num_blocks) }
-    ensures err { IfErr result (IsUnfit (layout_of sup.now) bitmap.now.tally.used overlay.now.group.now mark) }
+    ensures few { OnOk result (length overlay.now.group.now ≤ mark + allowed) }
+    ensures rise { OnOk result (bitmap.now.tally.used ≤ was + allowed) }
+    ensures err { IfErr result (IsUnfit (layout_of sup.now) allowed was bitmap.now.tally.used overlay.now.group.now mark) }
 {
-    if bitmap.used() > blocks_in(sup) {
-        return Err(Unkept::Overfull);
+    if !is_within(overlay, bitmap, mark, was, allowed) {
+        return Err(Unkept::Beyond);
     }
     let pairs = overlay.pairs();
     let room = usize::from(sup.log_blocks.len);
     if pairs >= room || in_ring(pairs) >= room {
-        return Err(Unkept::TooMany);
+        return Err(Unkept::TooMany((pairs - mark) as u64));
     }
     for i in mark..pairs {
         let block = overlay.block(i);

@@ -5,16 +5,21 @@
 
 mod answers;
 mod calling;
+mod calls;
 mod keep;
+mod lacking;
 mod laws;
+mod looking;
+mod replying;
 mod space;
 mod stamp;
 
-pub use answers::Answers;
+pub use answers::{Answers, Looked};
 pub use calling::{CallFault, answer_call};
+pub use calls::Calls;
 pub use keep::Unkept;
 pub use laws::{call_is_entered, done_is_answered, done_is_called, face_is_at_work, face_is_ready};
-pub use space::Space;
+pub use space::{Outcome, Space};
 
 #[cfg(test)]
 mod tests;

@@ -1,5 +1,5 @@
 // A space: the history, the open group, the free space and the promises of one mount.
-ghost use Rattle.std.specs.Prelude.{◌≡◌, ◌≢◌, ◌≤◌, ◌<◌, ◌^◌, ◌∷◌, ◌++◌, [], ℕ, List, Option, Some, false, length, IfOk, IfErr, OnOk, OnErr, MatchOption};
+ghost use Rattle.std.specs.Prelude.{◌≡◌, ◌≢◌, ◌≤◌, ◌<◌, ◌^◌, ◌∷◌, ◌++◌, [], max, ℕ, List, Option, Some, true, length, IsTrue, IsFalse, IfOk, OnOk, OnErr, MatchOption};
 ghost use Rattle.std.specs.Vec.{vec_capacity};
 ghost use Rattle.bfs_base.specs.Lists.{times, Has};
 ghost use Rattle.bfs_super.specs.Conditions.{IsValid, natural};
@@ -7,13 +7,12 @@ ghost use Rattle.bfs_tree.specs.declared.call.Call.TheVariants.{Sync};
 ghost use Rattle.bfs_tree.specs.Answers.{KeepsRanges};
 ghost use Rattle.bfs_tree.specs.Histories.{Mounted};
 ghost use Rattle.bfs_core.specs.Spaces.{IsGroupFor, sealed_space, released_space};
-ghost use Rattle.bfs_space.specs.Answered.{IsCallFault, HasCallCause};
-ghost use Rattle.bfs_space.specs.Faces.{IsFaceOf, HasFace, HasEntered, HasNoted};
+ghost use Rattle.bfs_space.specs.Faces.{IsFaceOf, HasFace, HasOutcome, IsOutcome};
 ghost use Rattle.bfs_bitmap.specs.Runs.{Fits};
-ghost use Rattle.bfs_space.specs.Books.{fresh, without, with_note, entry_noted, stop_after, sealed_room, released_room};
+ghost use Rattle.bfs_space.specs.Books.{IsIdle, fresh, without, with_note, entry_noted, stop_after, sealed_room, released_room};
 
 use crate::Answers;
-use crate::calling::{CallFault, answer_call};
+use crate::replying::{NoReply, reply_or_stopped};
 use crate::stamp::draw;
 use bfs_bitmap::Bitmap;
 use bfs_device::Stop;
@@ -26,6 +25,14 @@ use std::mem::replace;
 
 /// The most entries and promises that a space takes.
 const MOST: usize = 1 << 60;
+
+/// What has become of a call: it has an entry, which is the last one; or it is put off and handed back, since it needs more space or room in the
+/// log than there is while something is held back.
+#[derive(Debug, Drop)]
+pub enum Outcome {
+    Replied,
+    Drain(Call),
+}
 
 /// The namespace of a mounted volume: the history of its calls, and what they changed since the last seal.
 #[derive(Drop)]
@@ -42,18 +49,20 @@ pub struct Space {
     last: i64,
     promised: Vec<u32>,
     stop: Option<Stop>,
+    /// Up to which number groups have left the log.
+    left: u64,
 }
 
 impl Model for Space {
     ghost use Rattle.std.specs.Prelude.{◌≤◌, ◌+◌, ◌^◌, length};
     ghost use Rattle.std.specs.Vec.{vec_capacity};
-    ghost use Rattle.bfs_space.specs.Books.{SpaceBooks, HasParts, IsLastStamp};
+    ghost use Rattle.bfs_space.specs.Books.{SpaceBooks, HasParts, IsLastStamp, KnowsStop};
 
     ghost Value = { SpaceBooks };
 
-    ghost view = { λ s. record { view = record { sup = s.sup; used = s.bitmap.tally.used; group = s.group; history = s.history.items; sealed = s.sealed; sealed_used = s.sealed_used; given = s.bitmap.given }; room = s.bitmap; promised = s.promised.items; stop = s.stop } };
+    ghost view = { λ s. record { view = record { sup = s.sup; used = s.bitmap.tally.used; group = s.group; history = s.history.items; sealed = s.sealed; sealed_used = s.sealed_used; given = s.bitmap.given }; room = s.bitmap; promised = s.promised.items; stop = s.stop; left = s.left } };
 
-    ghost invariant = { λ s. HasParts s.sup s.bitmap s.group s.sealed (length s.history.items) × IsLastStamp s.history.items s.last × (length s.history.items + length s.promised.items ≤ vec_capacity s.history) × (length s.history.items + length s.promised.items ≤ 2 ^ 60) };
+    ghost invariant = { λ s. HasParts s.sup s.bitmap s.group s.sealed (length s.history.items) × IsLastStamp s.history.items s.last × (length s.history.items + length s.promised.items ≤ vec_capacity s.history) × (length s.history.items + length s.promised.items ≤ 2 ^ 60) × KnowsStop s.history.items s.stop };
 }
 
 impl Space {
@@ -82,6 +91,7 @@ impl Space {
             last: 0,
             promised,
             stop: None,
+            left: 0,
             sup,
         })
     }
@@ -108,6 +118,7 @@ impl Space {
             last: _,
             promised: _,
             stop: _,
+            left: _,
         } = self;
         history
     }
@@ -154,10 +165,10 @@ impl Space {
         append(&mut self.history, entry);
     }
 
-    /// Answers a call over what lies below the open group, by the session's promise, which ends. The entry is appended with the reply and a
-    /// stamp drawn from the clock's seconds, and what the call changed is in the open group. Where the call has no answer nothing has
-    /// changed.
-    pub fn answer<A: Answers, B: Blocks>(
+    /// Answers a call over what lies below the open group. Its entry is appended with the reply and a stamp drawn from the clock's seconds, and
+    /// what the call changed is in the open group. Or it is put off until the log is empty, and handed back. Where no memory was found nothing
+    /// has changed. The reply is that of the last entry.
+    pub fn call<A: Answers, B: Blocks>(
         &mut self,
         answers: &A,
         under: &mut B,
@@ -165,37 +176,43 @@ impl Space {
         tag: u32,
         now: u64,
         call: Call,
-    ) -> Result<(), CallFault>
-        requires promised { Has self.old.promised session }
+    ) -> Result<Outcome, AllocError>
         requires now { now < 2 ^ 40 }
         requires session { session ≢ 0 }
         requires call { call ≢ Sync }
+        requires serves { A.serves call ≡ true }
         requires ranges { KeepsRanges call }
         requires size { B.size under.old ≡ self.old.view.sup.block_size }
         requires faced { (m : ℕ → Option (List ℕ)) → B.told under.old ≡ Some m → HasFace self.old m }
-        ensures entered { (t0 : Mounted) (m : ℕ → Option (List ℕ)) → B.told under.old ≡ Some m → IsFaceOf t0 self.old m → OnOk result (HasEntered t0 self.old self.new m session tag now call) }
-        ensures noted { OnOk result (HasNoted self.old self.new session tag now call) }
-        ensures unanswered { (t0 : Mounted) (m : ℕ → Option (List ℕ)) → B.told under.old ≡ Some m → IsFaceOf t0 self.old m → IfErr result IsCallFault }
-        ensures cause { IfErr result (HasCallCause (B.counts under.old) (B.counts under.new)) }
-        ensures refused { OnErr result (self.new ≡ self.old) }
+        ensures entered { (t0 : Mounted) (m : ℕ → Option (List ℕ)) → B.told under.old ≡ Some m → IsFaceOf t0 self.old m → IfOk result (IsOutcome t0 self.old self.new m session tag now call) }
+        ensures noted { IfOk result (HasOutcome (B.counts under.old) (B.counts under.new) self.old self.new session tag now call) }
+        ensures no_memory { OnErr result (self.new ≡ self.old) }
         ensures told { B.told under.new ≡ B.told under.old }
         ensures size { B.size under.new ≡ B.size under.old }
     {
+        if self.history.len() >= MOST - 1 - self.promised.len() {
+            return Err(without_call(call));
+        }
+        match self.history.reserve(self.promised.len() + 1) {
+            Ok(()) => {}
+            Err(_) => return Err(without_call(call)),
+        }
         let stamp = draw(self.last, now);
-        let alloc = self.alloc;
-        match answer_call(
-            alloc,
+        let idle = self.is_idle();
+        match reply_or_stopped(
+            self.stop,
+            self.alloc,
             &self.sup,
             answers,
             &mut self.bitmap,
             &mut self.group,
             under,
+            idle,
             &call,
             stamp,
         ) {
             Ok(reply) => {
                 self.last = stamp;
-                drop_promise(&mut self.promised, session);
                 let entry = Entry {
                     session,
                     tag,
@@ -204,10 +221,31 @@ impl Space {
                     reply,
                 };
                 append(&mut self.history, entry);
-                Ok(())
+                Ok(Outcome::Replied)
             }
-            Err(fault) => Err(without_call(call, fault)),
+            Err(NoReply::Drain) => Ok(Outcome::Drain(call)),
+            Err(NoReply::NoMemory) => Err(without_call(call)),
         }
+    }
+
+    /// Whether nothing is held back: no run is reserved, nothing waits for a seal, and each sealed group has left the log.
+    fn is_idle(&self) -> bool
+        ensures idle { IsTrue result → IsIdle self.now }
+        ensures busy { IsFalse result → ¬ IsIdle self.now }
+    {
+        if self.bitmap.has_given() {
+            return false;
+        }
+        if !self.group.is_empty() {
+            return false;
+        }
+        if self.sealed != self.history.len() as u64 {
+            return false;
+        }
+        if self.sealed > self.left {
+            return false;
+        }
+        true
     }
 
     /// The entries since the last seal as one group, with the blocks that they changed; None where there are none. Takes no
@@ -236,10 +274,11 @@ impl Space {
 
     /// Frees the runs that were given back in groups up to this number. Takes no memory.
     pub fn released(&mut self, group: u64)
-        ensures released { self.new ≡ record self.old { view = released_space group self.old.view; room = released_room group self.old.room } }
+        ensures released { self.new ≡ record self.old { view = released_space group self.old.view; room = released_room group self.old.room; left = max self.old.left group } }
         ensures fits { (m : ℕ → Option (List ℕ)) → Fits self.old.room m → Fits self.new.room m }
     {
         self.bitmap.release(group);
+        self.left = self.left.max(group);
     }
 }
 
@@ -250,11 +289,9 @@ fn drop_promise(promised: &mut Vec<u32>, session: u32)
     promised.retain(|other| *other != session);
 }
 
-/// Gives a call up that has no answer.
-fn without_call(_call: Call, fault: CallFault) -> CallFault
-    ensures { result ≡ fault }
-{
-    fault
+/// Gives a call up for which no memory was found.
+fn without_call(_call: Call) -> AllocError {
+    AllocError
 }
 
 /// Appends an entry, for which there is room.

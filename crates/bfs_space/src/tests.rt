@@ -1,16 +1,19 @@
 // A space without calls: what it is promised, what is noted and what is sealed; a call that fails over an open group; and calls of a
 // space, over blocks that tell nothing. The volume is the one that `mk --blocks 4096` makes, with 529 used blocks.
-ghost use Rattle.std.specs.Prelude.{◌≡◌, ◌<◌, ◌^◌, true, IfOk};
+ghost use Rattle.std.specs.Prelude.{◌≡◌, ◌≤◌, ◌<◌, ◌+◌, ◌*◌, ◌^◌, ℕ, length, IsTrue, IfOk};
+ghost use Rattle.bfs_txn.specs.Changed.{number_at};
 ghost use Rattle.bfs_base.specs.Lists.{times, Has};
 ghost use Rattle.bfs_super.specs.Conditions.{IsValid};
 
-use crate::{Answers, CallFault, Space, answer_call};
+use crate::{Answers, CallFault, Calls, Looked, Outcome, Space, answer_call};
 use bfs_bitmap::Bitmap;
 use bfs_bytes::{Run, put_run, put_u32};
+use bfs_disk::{Disk, MemDisk};
+use bfs_mkfs::{format, layout_with_log};
 use bfs_node::TreeFault;
 use bfs_stream_pages::MapFault;
 use bfs_super::{Super, SuperFault};
-use bfs_tree::{Bytes, Call, MakeKind, Reply, is_bad_name};
+use bfs_tree::{Bytes, Call, MakeKind, Reply};
 use bfs_txn::{BlockFault, Blocks, Changed, Edits, MemBlocks};
 use std::alloc::{AllocError, Global};
 use std::test::Fail;
@@ -145,6 +148,23 @@ struct Failing {
 }
 
 impl Answers for Failing {
+    ghost use Rattle.std.specs.Prelude.{true};
+
+    ghost serves = { λ call. true };
+
+    ghost may = { λ sup call. Unit {0} };
+
+    fn look<E: Edits>(
+        &self,
+        _alloc: Global,
+        _sup: &Super,
+        _bitmap: &mut Bitmap,
+        _edits: &mut E,
+        _call: &Call,
+    ) -> Result<Looked, MapFault> {
+        Err(TreeFault::NoMemory)
+    }
+
     fn answer<E: Edits>(
         &self,
         alloc: Global,
@@ -192,6 +212,7 @@ fn what_a_failed_call_changed_is_given_up(rt: HostRuntime) -> Result<(), Fail> {
         &mut under,
         &Call::IndexList,
         0,
+        1,
     );
     assert!(rt; is_refused(&answer));
     assert_eq!(rt; group.len(), 0);
@@ -199,136 +220,257 @@ fn what_a_failed_call_changed_is_given_up(rt: HostRuntime) -> Result<(), Fail> {
     Ok(())
 }
 
-/// Answers only a call that would make a node of a bad name in the root.
-#[derive(Drop)]
-struct Naming {}
-
-impl Answers for Naming {
-    fn answer<E: Edits>(
-        &self,
-        _alloc: Global,
-        sup: &Super,
-        _bitmap: &mut Bitmap,
-        _edits: &mut E,
-        call: &Call,
-        _stamp: i64,
-    ) -> Result<Reply, MapFault> {
-        let geometry = sup.geometry();
-        match call {
-            Call::Make { dir, name, .. } => {
-                if *dir != geometry.root {
-                    return Err(TreeFault::NoMemory);
-                }
-                if !is_bad_name(name.as_slice()) {
-                    return Err(TreeFault::NoMemory);
-                }
-                Ok(Reply::NameBad)
-            }
-            _ => Err(TreeFault::NoMemory),
-        }
-    }
-}
-
-/// Blocks of 1024 bytes, all of them zeros, which tell nothing.
-fn no_blocks(alloc: Global) -> Silent
-    ensures { result.blocks.block_size ≡ 1024 }
+/// Formats a disk that is large enough with so many blocks of 1,024 bytes and a log of so many, and tells whether it worked.
+fn formats(alloc: Global, disk: &mut MemDisk, blocks: u64, log: u16) -> bool
+    requires few { blocks ≤ 4194304 }
+    requires low { 2 ≤ log }
+    requires high { log ≤ 2048 }
 {
-    Silent {
-        blocks: MemBlocks::new(Vec::new(alloc), 1024),
-    }
-}
-
-/// Whether a call without an answer was refused. Then the space is as it was.
-fn is_left_alone(space: &mut Space, under: &mut Silent) -> bool
-    requires promised { Has space.old.promised 1 }
-    requires size { under.old.blocks.block_size ≡ space.old.view.sup.block_size }
-    ensures same { result ≡ true → space.new ≡ space.old }
-    ensures sup { space.new.view.sup ≡ space.old.view.sup }
-    ensures size { under.new.blocks.block_size ≡ under.old.blocks.block_size }
-{
-    let answers = Failing { block: 600 };
-    match space.answer(&answers, under, 1, 6, 1000, Call::IndexList) {
-        Ok(()) => false,
-        Err(_) => true,
-    }
-}
-
-/// Whether the call for a node of this name in the root is an entry.
-fn is_entered(space: &mut Space, under: &mut Silent, root: u64, name: Bytes, now: u64) -> bool
-    requires promised { Has space.old.promised 1 }
-    requires size { under.old.blocks.block_size ≡ space.old.view.sup.block_size }
-    requires now { now < 2 ^ 40 }
-    ensures sup { space.new.view.sup ≡ space.old.view.sup }
-    ensures size { under.new.blocks.block_size ≡ under.old.blocks.block_size }
-{
-    let answers = Naming {};
-    let call = Call::Make {
-        dir: root,
-        name,
-        kind: MakeKind::File,
-        mode: 0o644,
+    let Ok(geometry) = layout_with_log(blocks, 1024, log) else {
+        return false;
     };
-    match space.answer(&answers, under, 1, 7, now, call) {
-        Ok(()) => true,
-        Err(_) => false,
+    let Ok(sectors) = disk.sectors() else {
+        return false;
+    };
+    if sectors < geometry.blocks * u64::from(geometry.block_size / 512) {
+        return false;
+    }
+    format(alloc, disk, &geometry, b"untitled", 65_536_000).is_ok()
+}
+
+/// A new volume, mounted over its blocks.
+#[derive(Drop)]
+struct Mount {
+    space: Space,
+    under: Silent,
+    ghost size: { under.blocks.block_size ≡ space.view.sup.block_size },
+    ghost kilo: { under.blocks.block_size ≡ 1024 },
+}
+
+/// Mounts a volume by its bytes.
+fn mounts(alloc: Global, bytes: Vec<u8>, blocks: usize) -> Result<Option<Mount>, Fail>
+    requires some { 1 ≤ blocks }
+    requires few { blocks ≤ 4096 }
+{
+    if bytes.len() != 1024 * blocks {
+        return Ok(None);
+    }
+    let mut sector = [0u8; 512];
+    sector.copy_from_slice(&bytes[512..1024]);
+    let Ok(sup) = Super::parse(&sector) else {
+        return Ok(None);
+    };
+    let geometry = sup.geometry();
+    if sup.block_size != 1024 || sup.log_start != sup.log_end || geometry.used > geometry.blocks {
+        return Ok(None);
+    }
+    let space = Space::open(alloc, sup)?;
+    let under = Silent {
+        blocks: MemBlocks::new(bytes, 1024),
+    };
+    Ok(Some(Mount { space, under }))
+}
+
+/// What a reply says in three numbers.
+fn told_by(reply: &Reply) -> (u8, u64, u64) {
+    match reply {
+        Reply::Made { id } => (1, *id, 0),
+        Reply::Exists => (2, 0, 0),
+        Reply::NoSpace { free, .. } => (3, *free, 0),
+        Reply::NoLogRoom { blocks, room } => (4, *blocks, *room),
+        Reply::Done => (6, 0, 0),
+        Reply::Info { info } => (7, u64::from(info.mode), info.parent),
+        Reply::Names { names } => (8, names.as_slice().len() as u64, 0),
+        Reply::NotLink => (10, 0, 0),
+        Reply::NotFound => (11, 0, 0),
+        _ => (0, 0, 0),
     }
 }
 
-/// Makes two calls of session 1: one has no answer, and the other is for a node without a name in the root. Whether this one is an
-/// entry, and how many there were before it.
+/// What becomes of the call for a node with a name of one letter in a directory: its reply, or that it is put off.
 fn asks(
     alloc: Global,
-    space: &mut Space,
-    under: &mut Silent,
-    root: u64,
-    now: u64,
-) -> Result<(bool, usize), AllocError>
-    requires none { times 1 space.old.promised ≡ 0 }
-    requires size { under.old.blocks.block_size ≡ space.old.view.sup.block_size }
-    requires now { now < 2 ^ 40 }
-    ensures none { times 1 space.new.promised ≡ 0 }
-    ensures size { under.new.blocks.block_size ≡ space.new.view.sup.block_size }
-{
-    space.promise(1)?;
-    if !is_left_alone(space, under) {
-        space.unpromise(1);
-        return Ok((false, 0));
+    mount: &mut Mount,
+    dir: u64,
+    name: u8,
+    kind: MakeKind,
+) -> Result<(u8, u64, u64), AllocError> {
+    let mut letters = Vec::new(alloc);
+    letters.push(name)?;
+    let call = Call::Make {
+        dir,
+        name: Bytes::new(letters),
+        kind,
+        mode: 0o755,
+    };
+    let answers = Calls {};
+    match mount
+        .space
+        .call(&answers, &mut mount.under, 1, 1, 1000, call)?
+    {
+        Outcome::Replied => match mount.space.history().last() {
+            Some(entry) => Ok(told_by(&entry.reply)),
+            None => Ok((0, 0, 0)),
+        },
+        Outcome::Drain(_) => Ok((5, 0, 0)),
     }
-    let before = space.history().len();
-    let entered = is_entered(space, under, root, Bytes::new(Vec::new(alloc)), now);
-    space.unpromise(1);
-    Ok((entered, before))
+}
+
+/// The reply to a call that is answered in any case: a mode is set, a record is read, or a directory's list, or a link's target.
+fn asks_of(mount: &mut Mount, which: u8, id: u64) -> Result<(u8, u64, u64), AllocError> {
+    let call = match which {
+        0 => Call::SetMode {
+            id,
+            mode: 0o600,
+            uid: 1,
+            gid: 2,
+        },
+        1 => Call::Stat { id },
+        2 => Call::List { dir: id },
+        _ => Call::ReadLink { id },
+    };
+    let answers = Calls {};
+    match mount
+        .space
+        .call(&answers, &mut mount.under, 1, 2, 1000, call)?
+    {
+        Outcome::Replied => match mount.space.history().last() {
+            Some(entry) => Ok(told_by(&entry.reply)),
+            None => Ok((0, 0, 0)),
+        },
+        Outcome::Drain(_) => Ok((5, 0, 0)),
+    }
+}
+
+/// Do all of these blocks lie in a memory of so many bytes?
+fn lie_inside(blocks: &Changed, size: usize) -> bool
+    requires { size < 2 ^ 40 }
+    ensures { IsTrue result → (i : ℕ) → i < length blocks.now → 1024 * number_at blocks.now i + 1024 ≤ size }
+{
+    for i in 0..blocks.len() {
+        let block = blocks.block(i);
+        if block >= 4096 || 1024 * block + 1024 > size as u64 {
+            return false;
+        }
+    }
+    true
+}
+
+/// Seals what is open and lets it leave the log: its blocks go home. Tells whether that went well.
+fn drains(mount: &mut Mount) -> bool {
+    let Some(group) = mount.space.seal() else {
+        return true;
+    };
+    let length = mount.under.blocks.bytes().len();
+    if length >= 1 << 30 || !lie_inside(&group.blocks, length) {
+        return false;
+    }
+    mount.under.blocks.apply(&group);
+    mount.space.released(group.last);
+    true
+}
+
+/// The bytes of a new volume of so many blocks of 1,024 bytes, with a log of so many; none where they can't be had.
+fn new_volume(alloc: Global, blocks: u64, log: u16) -> Result<Option<Vec<u8>>, AllocError>
+    requires some { 1 ≤ blocks }
+    requires few { blocks ≤ 4096 }
+    requires low { 2 ≤ log }
+    requires high { log ≤ 2048 }
+{
+    let bytes = vec![in alloc; 0u8; 1024 * blocks as usize]?;
+    let mut disk = MemDisk::new(alloc, bytes);
+    if !formats(alloc, &mut disk, blocks, log) {
+        return Ok(None);
+    }
+    Ok(Some(disk.bytes()))
+}
+
+/// Two calls for nodes in the root of a new volume, the second after a drain: what has become of each, and the used blocks that the last seal
+/// tells of.
+fn two_calls(alloc: Global, blocks: u64, log: u16, root: u64) -> Result<[(u8, u64, u64); 4], Fail>
+    requires some { 1 ≤ blocks }
+    requires few { blocks ≤ 4096 }
+    requires low { 2 ≤ log }
+    requires high { log ≤ 2048 }
+{
+    let nothing = (9, 0, 0);
+    let Some(bytes) = new_volume(alloc, blocks, log)? else {
+        return Ok([nothing; 4]);
+    };
+    let Some(mut mount) = mounts(alloc, bytes, blocks as usize)? else {
+        return Ok([nothing; 4]);
+    };
+    let first = asks(alloc, &mut mount, root, b'a', MakeKind::File)?;
+    let second = asks(alloc, &mut mount, root, b'b', MakeKind::Dir)?;
+    if !drains(&mut mount) {
+        return Ok([nothing; 4]);
+    }
+    let third = asks(alloc, &mut mount, root, b'b', MakeKind::Dir)?;
+    let fourth = asks(alloc, &mut mount, root, b'a', MakeKind::File)?;
+    Ok([first, second, third, fourth])
 }
 
 #[test]
-fn a_call_that_is_answered_is_an_entry_and_one_that_is_refused_is_none(
+fn a_node_is_made_refused_put_off_or_turned_away_for_want_of_space(
     rt: HostRuntime,
 ) -> Result<(), Fail> {
     let alloc = rt.alloc();
-    let mut under = no_blocks(alloc);
-    let sup = superblock()?;
-    let geometry = sup.geometry();
-    assert_eq!(rt; sup.block_size, 1024);
-    assert_eq!(rt; sup.log_start, 0);
-    assert_eq!(rt; sup.log_end, 0);
-    assert_eq!(rt; sup.used_blocks, 529);
-    assert_eq!(rt; sup.num_blocks, 4096);
-    let mut space = Space::open(alloc, sup)?;
-    let first = asks(alloc, &mut space, &mut under, geometry.root, 1000)?;
-    assert_eq!(rt; first, (true, 0));
-    let second = asks(alloc, &mut space, &mut under, geometry.root, 999)?;
-    assert_eq!(rt; second, (true, 1));
-    let history = space.into_history();
-    assert_eq!(rt; history.len(), 2);
-    let mut stamps = [0i64; 2];
-    let mut named = [false; 2];
-    for i in 0..history.len().min(2) {
-        stamps[i] = history[i].stamp;
-        named[i] = history[i].session == 1
-            && history[i].tag == 7
-            && matches!(history[i].reply, Reply::NameBad);
-    }
-    assert_eq!(rt; stamps, [65536000, 65536001]);
-    assert_eq!(rt; named, [true, true]);
+    // With two blocks free there is room for a file, and none for a directory, which takes three.
+    let few = two_calls(alloc, 531, 512, 514)?;
+    assert_eq!(rt; few, [(1, 529, 0), (5, 0, 0), (3, 1, 0), (2, 0, 0)]);
+    let many = two_calls(alloc, 4096, 512, 514)?;
+    assert_eq!(rt; many, [(1, 529, 0), (1, 530, 0), (2, 0, 0), (2, 0, 0)]);
+    Ok(())
+}
+
+/// What is read of a file before and after its mode is set, and of the root.
+fn set_and_read(mount: &mut Mount, id: u64) -> Result<[(u8, u64, u64); 6], AllocError> {
+    let before = asks_of(mount, 1, id)?;
+    let set = asks_of(mount, 0, id)?;
+    let after = asks_of(mount, 1, id)?;
+    let names = asks_of(mount, 2, 514)?;
+    let link = asks_of(mount, 3, id)?;
+    let nowhere = asks_of(mount, 0, 4000)?;
+    Ok([before, set, after, names, link, nowhere])
+}
+
+#[test]
+fn a_mode_is_set_and_read_back(rt: HostRuntime) -> Result<(), Fail> {
+    let alloc = rt.alloc();
+    let Some(bytes) = new_volume(alloc, 4096, 512)? else {
+        return Err(Fail::from("no volume"));
+    };
+    let Some(mut mount) = mounts(alloc, bytes, 4096)? else {
+        return Err(Fail::from("no mount"));
+    };
+    let made = asks(alloc, &mut mount, 514, b'a', MakeKind::File)?;
+    let told = set_and_read(&mut mount, 529)?;
+    assert_eq!(rt; made, (1, 529, 0));
+    assert_eq!(rt;
+        told,
+        [
+            (7, 0o755, 514),
+            (6, 0, 0),
+            (7, 0o600, 514),
+            (8, 1, 0),
+            (10, 0, 0),
+            (11, 0, 0),
+        ]
+    );
+    Ok(())
+}
+
+#[test]
+fn a_directory_does_not_fit_a_log_of_four_blocks(rt: HostRuntime) -> Result<(), Fail> {
+    let alloc = rt.alloc();
+    let Some(bytes) = new_volume(alloc, 4096, 4)? else {
+        return Err(Fail::from("no volume"));
+    };
+    let Some(mut mount) = mounts(alloc, bytes, 4096)? else {
+        return Err(Fail::from("no mount"));
+    };
+    // The root's inode stands behind block 0, the bitmap and the log.
+    let made = asks(alloc, &mut mount, 6, b'a', MakeKind::Dir)?;
+    assert_eq!(rt; made, (4, 7, 3));
     Ok(())
 }

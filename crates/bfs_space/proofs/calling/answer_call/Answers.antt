@@ -1,4 +1,4 @@
-use Rattle.std.proofs.Common.{rules, ◌≡◌, ℕ, ℤ, List, Some, take, sym, ap, subst, ◌∙◌, w64, to_z, of_z}
+use Rattle.std.proofs.Common.{rules, ◌≡◌, ℕ, ℤ, arith, List, Some, take, sym, ap, subst, ◌∙◌, w64, to_z, of_z}
 use Rattle.std.specs.Option.{option_map}
 use Rattle.bfs_super.specs.Geometry.{geometry_of}
 use Rattle.bfs_txn.specs.Changed.{AreOfSize, over}
@@ -6,13 +6,30 @@ use Rattle.bfs_device.specs.Layouts.{layout_of}
 use Rattle.bfs_space.specs.Books.{MayBeSealed}
 use Rattle.bfs_space.specs.Called.{is_changed}
 use Rattle.bfs_look.specs.Ready.{HasReady, IsReady}
-use Rattle.bfs_space.specs.Answered.{IsAnswered, IsKept}
-use Rattle.bfs_space.proofs.Fits.{kept_of, may_be_sealed, whole}
+use Rattle.bfs_space.specs.Answered.{IsAnswered, IsKept, IsWithin}
+use Rattle.bfs_bitmap.specs.Runs.{Room}
+use Rattle.bfs_space.proofs.Within.{within}
+use Rattle.bfs_space.proofs.Fits.{kept_of, may_be_sealed, same_mark, whole}
 use Rattle.bfs_space.proofs.calling.answer_call.Goals as goal
 
 pub answer_over-requires-clause-ready : goal.answer_over-requires-clause-ready
 answer_over-requires-clause-ready g c = λ m e. subst (λ (ps : List (ℕ × List ℕ)). HasReady (geometry_of c.args.sup.now) c.args.bitmap.now (over ps m)) (sym c.begin-overlay.ensures.open_now)
     (c.requires.ready m (ap g.B.Blocks.told (sym c.begin-overlay.ensures.under_now) ∙ e))
+
+pub answer_over-requires-clause-fine : goal.answer_over-requires-clause-fine
+answer_over-requires-clause-fine g c = λ m tree lists st e ready same.
+    c.requires.fine m tree lists st (ap g.B.Blocks.told (sym c.begin-overlay.ensures.under_now) ∙ e)
+    (subst (λ (ps : List (ℕ × List ℕ)). IsReady (geometry_of c.args.sup.now) c.args.bitmap.now (over ps m) tree lists) c.begin-overlay.ensures.open_now ready) same
+
+pub returns-in-Ok-clause-within : goal.returns-in-Ok-clause-within
+returns-in-Ok-clause-within g c = λ m.
+    let open_is : take c.begin-overlay.result.mark c.begin-overlay.result.group.now ≡ c.args.group.now = whole c.begin-overlay.result.mark c.begin-overlay.result.group.now c.args.group.now c.begin-overlay.ensures.mark c.begin-overlay.ensures.open_now in
+    let few = c.in-Ok.ensures.few in
+    let mark = same_mark c.answer_over.new.overlay.mark c.begin-overlay.result.mark c.answer_over.new.overlay.group.now c.begin-overlay.result.group.now c.answer_over.new.overlay.layered.within c.begin-overlay.result.layered.within c.answer_over.ensures.open in
+    subst (λ (ps : List (ℕ × List ℕ)). IsWithin c.args.allowed c.args.bitmap.now c.keep-in-Ok.new.self m c.args.group.now ps) (search rules)
+    (subst (λ (r : Room). IsWithin c.args.allowed c.args.bitmap.now r m c.args.group.now c.keep.new.self.0) (sym c.keep-in-Ok.ensures.given)
+    (within c.args.bitmap.now c.answer_over.new.bitmap m c.args.group.now c.answer_over.new.overlay.group.now c.keep.new.self.0 c.answer_over.new.overlay.mark c.args.allowed (c.answer_over.ensures.open ∙ open_is) c.keep.ensures.reads
+    (let long = c.begin-overlay.ensures.mark in let n = c.len-mark.ensures in omega (arith, few, mark, long, n)) c.in-Ok.ensures.rise))
 
 pub returns-in-Ok-clause-kept : goal.returns-in-Ok-clause-kept
 returns-in-Ok-clause-kept g c = λ m tree lists told ready.

@@ -4,7 +4,8 @@ use Rattle.std.proofs.Common.{rules, ◌≡◌, ◌+◌, ◌∙◌, ◌++◌, �
 use Rattle.bfs_base.specs.Lists.{Has}
 use Rattle.bfs_tree.specs.declared.reply.Entry.{Entry}
 use Rattle.bfs_tree.specs.Histories.{drawn, last_stamp}
-use Rattle.bfs_space.specs.Books.{SpaceBooks, IsLastStamp, with_note, entry_noted}
+use Rattle.bfs_space.specs.Books.{SpaceBooks, IsLastStamp, KnowsStop, with_note, entry_noted}
+use Rattle.bfs_space.proofs.Stops.{stop_known}
 use Rattle.bfs_space.proofs.Stamps.{last_noted, promise_ends}
 use Rattle.bfs_space.proofs.Groups.{parts_longer}
 use Rattle.bfs_space.proofs.space.Space.note.Goals as goal
@@ -27,6 +28,7 @@ invariant_of-self c =
       subst (λ (z : ℤ). IsLastStamp c.append.new.history.items z) (sym stamp) (subst (λ (l : List Entry). IsLastStamp l (drawn i.last c.args.now)) (sym items) (last_noted i.history.items i.last c.args.now entry c.self.invariant.1 c.requires.now stamp)),
       omega (arith, long, fewer, ends, capacity, room),
       omega (arith, long, fewer, ends, few),
+      subst (λ (l : List Entry). KnowsStop l c.stop_with-self-inside.result) (sym items) (subst (KnowsStop (i.history.items ++ entry ∷ [])) (sym c.stop_with-self-inside.ensures) (stop_known i.history.items entry i.stop c.args.durable c.self.invariant.4)),
     )
 
 pub returns : goal.returns
@@ -35,10 +37,10 @@ returns c =
     let last : to_z w64 (of_z w64 i.last) ≡ i.last = search rules in
     let kept : to_z w64 (of_z w64 c.draw-stamp.result) ≡ c.draw-stamp.result = search rules in
     let stamp : to_z w64 (of_z w64 c.draw-stamp.result) ≡ drawn (last_stamp i.history.items) c.args.now = kept ∙ c.draw-stamp.ensures ∙ ap (λ (z : ℤ). drawn z c.args.now) (last ∙ c.self.invariant.1.last_is) in
-    let inside : SpaceBooks = record { view = record { sup = i.sup; used = i.bitmap.tally.used; group = i.group; history = i.history.items; sealed = i.sealed; sealed_used = i.sealed_used; given = i.bitmap.given }; room = i.bitmap; promised = i.promised.items; stop = i.stop } in
+    let inside : SpaceBooks = record { view = record { sup = i.sup; used = i.bitmap.tally.used; group = i.group; history = i.history.items; sealed = i.sealed; sealed_used = i.sealed_used; given = i.bitmap.given }; room = i.bitmap; promised = i.promised.items; stop = i.stop; left = i.left } in
     let items : c.append.new.history.items ≡ i.history.items ++ entry_noted inside c.args.session c.args.tag c.args.now c.args.call c.args.reply ∷ [] =
     c.append.ensures.items ∙ ap (λ (z : ℤ). i.history.items ++ (record { session = c.args.session; tag = c.args.tag; stamp = z; call = c.args.call; reply = c.args.reply }) ∷ []) stamp in
     let promised = c.drop_promise.ensures in
     let stop = c.stop_with-self-inside.ensures in
-    (λ j. record { view = record { sup = i.sup; used = i.bitmap.tally.used; group = i.group; history = items j; sealed = i.sealed; sealed_used = i.sealed_used; given = i.bitmap.given }; room = i.bitmap; promised = promised j; stop = stop j })
+    (λ j. record { view = record { sup = i.sup; used = i.bitmap.tally.used; group = i.group; history = items j; sealed = i.sealed; sealed_used = i.sealed_used; given = i.bitmap.given }; room = i.bitmap; promised = promised j; stop = stop j; left = i.left })
     ∙ ap (λ (b : SpaceBooks). with_note b c.args.session (entry_noted b c.args.session c.args.tag c.args.now c.args.call c.args.reply) c.args.durable) c.self.view_is

@@ -1,6 +1,8 @@
 use Rattle.std.proofs.Common.{◌≡◌, pos, ℕ, [], List, length, refl, sym, ap, subst, rules, arith}
 use Rattle.std.proofs.lemmas.Int.{ints}
 use Rattle.bfs_bitmap.specs.Runs.{Room}
+use Rattle.std.specs.List.{list_any}
+use Rattle.bfs_tree.specs.Histories.{is_stop}
 use Rattle.bfs_tree.specs.declared.reply.Entry.{Entry}
 use Rattle.bfs_space.specs.Books.{HasParts, IsLastStamp}
 use Rattle.bfs_space.proofs.Groups.{parts_opened}
@@ -18,4 +20,5 @@ invariant_of-result c =
       subst (λ (h : List Entry). IsLastStamp h (pos 0)) (sym none) (record { last_is = refl; low = omega (arith, ints); high = omega (arith, ints) }),
       omega (arith, long, one, capacity),
       omega (arith, long, one),
+      ap (list_any (λ (e : Entry). is_stop e.reply)) none,
     )

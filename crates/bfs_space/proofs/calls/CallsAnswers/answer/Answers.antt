@@ -1,0 +1,47 @@
+use Rattle.std.proofs.Common.{rules, ◌≡◌, ◌∙◌, ℕ, ℤ, List, [], None, refl, sym, ap, subst, w32, w64, to_z, of_z}
+use Rattle.std.specs.FinMap.{empty}
+use Rattle.bfs_super.specs.Geometry.{geometry_of}
+use Rattle.bfs_tree.specs.declared.call.Call.{Call}
+use Rattle.bfs_tree.specs.declared.call.Call.TheVariants.{Make, SetMode}
+use Rattle.bfs_tree.specs.declared.reply.Reply.TheVariants.{Done, Made}
+use Rattle.bfs_tree.specs.Refusals.{own_refusal}
+use Rattle.bfs_tree.specs.States.{State}
+use Rattle.bfs_calls.specs.Done.{IsDoneSo}
+use Rattle.bfs_calls.specs.Made.{IsMadeIn}
+use Rattle.bfs_calls.proofs.Answering.{made_so}
+use Rattle.bfs_space.specs.Answered.{IsAnswered}
+use Rattle.bfs_space.proofs.Done.{done_is_answered}
+use Rattle.bfs_space.proofs.calls.CallsAnswers.answer.Goals as goal
+
+pub make_node-requires-clause-fine : goal.make_node-requires-clause-fine
+make_node-requires-clause-fine g c m tree lists s told ready same =
+    let is : c.args.call.now ≡ Make c.in-Make.dir c.as_slice.result.now c.in-Make.kind c.in-Make.mode = c.in-Make.is ∙ ap (λ (n : List ℕ). Make c.in-Make.dir n c.in-Make.kind c.in-Make.mode) (sym c.as_slice.ensures) in
+    subst (λ (x : Call). own_refusal x s ≡ None) is (c.requires.fine m tree lists s told ready same)
+
+pub returns-in-Ok-clause-answered : goal.returns-in-Ok-clause-answered
+returns-in-Ok-clause-answered g c m tree lists told ready =
+    let s = geometry_of c.args.sup.now in
+    let is : c.args.call.now ≡ Make c.in-Make.dir c.as_slice.result.now c.in-Make.kind c.in-Make.mode = c.in-Make.is ∙ ap (λ (n : List ℕ). Make c.in-Make.dir n c.in-Make.kind c.in-Make.mode) (sym c.as_slice.ensures) in
+    let e : to_z w64 (of_z w64 c.args.stamp) ≡ c.args.stamp = search rules in
+    let st : State = record { tree = tree; holds = []; known = empty } in
+    let one : IsMadeIn s c.args.bitmap.now c.make_node.new.bitmap m tree st c.in-Make.dir c.as_slice.result.now c.in-Make.kind c.in-Make.mode c.args.stamp c.in-Ok.id (g.E.Blocks.told c.make_node.new.edits) (g.E.Blocks.changed c.args.edits.now) (g.E.Blocks.changed c.make_node.new.edits) =
+    subst (λ (z : ℤ). IsMadeIn s c.args.bitmap.now c.make_node.new.bitmap m tree st c.in-Make.dir c.as_slice.result.now c.in-Make.kind c.in-Make.mode z c.in-Ok.id (g.E.Blocks.told c.make_node.new.edits) (g.E.Blocks.changed c.args.edits.now) (g.E.Blocks.changed c.make_node.new.edits)) e
+    (c.in-Ok.ensures.made m tree lists st told ready refl) in
+    let so =
+    made_so s c.args.bitmap.now c.make_node.new.bitmap m tree c.in-Make.dir c.as_slice.result.now c.in-Make.kind c.in-Make.mode c.args.stamp c.in-Ok.id (g.E.Blocks.told c.make_node.new.edits) (g.E.Blocks.changed c.args.edits.now) (g.E.Blocks.changed c.make_node.new.edits)
+    (λ other same. subst (λ (x : Call). own_refusal x other ≡ None) is (c.requires.fine m tree lists other told ready same)) one in
+    subst (λ (x : Call). IsAnswered s c.args.bitmap.now c.make_node.new.bitmap m tree c.args.stamp x (Made c.in-Ok.id) (g.E.Blocks.told c.make_node.new.edits) (g.E.Blocks.changed c.args.edits.now) (g.E.Blocks.changed c.make_node.new.edits)) (sym is)
+    (done_is_answered s c.args.bitmap.now c.make_node.new.bitmap m tree lists (g.E.Blocks.told c.make_node.new.edits) (g.E.Blocks.changed c.args.edits.now) (g.E.Blocks.changed c.make_node.new.edits) ready c.args.stamp (Make c.in-Make.dir c.as_slice.result.now c.in-Make.kind c.in-Make.mode) (Made c.in-Ok.id) so)
+
+pub returns-in-Ok-set_mode-clause-answered : goal.returns-in-Ok-set_mode-clause-answered
+returns-in-Ok-set_mode-clause-answered g c m tree lists told ready =
+    let s = geometry_of c.args.sup.now in
+    let user : to_z w32 (of_z w32 c.in-SetMode.uid) ≡ c.in-SetMode.uid = search rules in
+    let owner : to_z w32 (of_z w32 c.in-SetMode.gid) ≡ c.in-SetMode.gid = search rules in
+    let stamp : to_z w64 (of_z w64 c.args.stamp) ≡ c.args.stamp = search rules in
+    let is : c.args.call.now ≡ SetMode c.in-SetMode.id c.in-SetMode.mode (to_z w32 (of_z w32 c.in-SetMode.uid)) (to_z w32 (of_z w32 c.in-SetMode.gid)) = c.in-SetMode.is ∙ (λ j. SetMode c.in-SetMode.id c.in-SetMode.mode (sym user j) (sym owner j)) in
+    let so : IsDoneSo s c.args.bitmap.now c.args.bitmap.now m tree c.args.stamp c.args.call.now Done (g.E.Blocks.told c.set_mode.new.edits) (g.E.Blocks.changed c.args.edits.now) (g.E.Blocks.changed c.set_mode.new.edits) =
+    subst (λ (x : Call). IsDoneSo s c.args.bitmap.now c.args.bitmap.now m tree c.args.stamp x Done (g.E.Blocks.told c.set_mode.new.edits) (g.E.Blocks.changed c.args.edits.now) (g.E.Blocks.changed c.set_mode.new.edits)) (sym is)
+    (subst (λ (z : ℤ). IsDoneSo s c.args.bitmap.now c.args.bitmap.now m tree z (SetMode c.in-SetMode.id c.in-SetMode.mode (to_z w32 (of_z w32 c.in-SetMode.uid)) (to_z w32 (of_z w32 c.in-SetMode.gid))) Done (g.E.Blocks.told c.set_mode.new.edits) (g.E.Blocks.changed c.args.edits.now) (g.E.Blocks.changed c.set_mode.new.edits)) stamp
+    (c.in-Ok-set_mode.ensures.done c.args.bitmap.now m tree lists told ready (λ other same. subst (λ (x : Call). own_refusal x other ≡ None) is (c.requires.fine m tree lists other told ready same)))) in
+    done_is_answered s c.args.bitmap.now c.args.bitmap.now m tree lists (g.E.Blocks.told c.set_mode.new.edits) (g.E.Blocks.changed c.args.edits.now) (g.E.Blocks.changed c.set_mode.new.edits) ready c.args.stamp c.args.call.now Done so

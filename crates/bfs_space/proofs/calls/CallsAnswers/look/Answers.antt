@@ -1,0 +1,92 @@
+use Rattle.std.proofs.Common.{◌≡◌, ◌∙◌, List, [], ℕ, refl, sym, ap, subst}
+use Rattle.std.specs.Prelude.{IfOk}
+use Rattle.bfs_super.specs.Geometry.{geometry_of}
+use Rattle.bfs_tree.specs.declared.call.Call.{Call}
+use Rattle.std.specs.FinMap.{empty}
+use Rattle.bfs_tree.specs.declared.call.Call.TheVariants.{Make}
+use Rattle.bfs_tree.specs.declared.call.Call.TheVariants as calls
+use Rattle.bfs_tree.specs.States.{State}
+use Rattle.bfs_space.specs.Looks.{IsLooked, FindsMay, MayBeDone}
+use Rattle.bfs_space.proofs.calls.CallsAnswers.look.Goals as goal
+
+pub returns-in-Make-clause-looked : goal.returns-in-Make-clause-looked
+returns-in-Make-clause-looked g c m tree lists told ready =
+    let is : c.args.call.now ≡ Make c.in-Make.dir c.as_slice.result.now c.in-Make.kind c.in-Make.mode = c.in-Make.is ∙ ap (λ (n : List ℕ). Make c.in-Make.dir n c.in-Make.kind c.in-Make.mode) (sym c.as_slice.ensures) in
+    subst (λ (x : Call). IfOk c.look_make.result (IsLooked (geometry_of c.args.sup.now) m tree x)) (sym is) (c.look_make.ensures.looked m tree lists c.in-Make.mode told ready)
+
+pub returns-in-Make-clause-may : goal.returns-in-Make-clause-may
+returns-in-Make-clause-may g c =
+    let is : c.args.call.now ≡ Make c.in-Make.dir c.as_slice.result.now c.in-Make.kind c.in-Make.mode = c.in-Make.is ∙ ap (λ (n : List ℕ). Make c.in-Make.dir n c.in-Make.kind c.in-Make.mode) (sym c.as_slice.ensures) in
+    subst (λ (x : Call). IfOk c.look_make.result (FindsMay MayBeDone c.args.sup.now x)) (sym is) (c.look_make.ensures.may c.in-Make.mode)
+
+pub returns-in-SetMode-clause-looked : goal.returns-in-SetMode-clause-looked
+returns-in-SetMode-clause-looked g c m tree lists told ready =
+    subst (λ (x : Call). IfOk c.look_set_mode.result (IsLooked (geometry_of c.args.sup.now) m tree x)) (sym c.in-SetMode.is) (c.look_set_mode.ensures.looked m tree lists c.in-SetMode.mode c.in-SetMode.uid c.in-SetMode.gid told ready)
+
+pub returns-in-SetMode-clause-may : goal.returns-in-SetMode-clause-may
+returns-in-SetMode-clause-may g c =
+    subst (λ (x : Call). IfOk c.look_set_mode.result (FindsMay MayBeDone c.args.sup.now x)) (sym c.in-SetMode.is) (c.look_set_mode.ensures.may c.in-SetMode.mode c.in-SetMode.uid c.in-SetMode.gid)
+
+pub returns-in-Lookup-clause-looked : goal.returns-in-Lookup-clause-looked
+returns-in-Lookup-clause-looked g c m tree lists told ready =
+    let is : c.args.call.now ≡ calls.Lookup c.in-Lookup.dir c.as_slice-in-Lookup.result.now = c.in-Lookup.is ∙ ap (λ (n : List ℕ). calls.Lookup c.in-Lookup.dir n) (sym c.as_slice-in-Lookup.ensures) in
+    subst (λ (x : Call). IfOk c.looked.result (IsLooked (geometry_of c.args.sup.now) m tree x)) (sym is) (c.looked.ensures.looked (geometry_of c.args.sup.now) m tree (calls.Lookup c.in-Lookup.dir c.as_slice-in-Lookup.result.now) (λ s same. c.lookup.ensures.reads m tree lists s told ready same))
+
+pub returns-in-Lookup-clause-may : goal.returns-in-Lookup-clause-may
+returns-in-Lookup-clause-may g c = c.looked.ensures.may c.args.sup.now c.args.call.now
+
+pub returns-in-Lookup-clause-unanswered : goal.returns-in-Lookup-clause-unanswered
+returns-in-Lookup-clause-unanswered g c m tree lists told ready =
+    let st : State = record { tree = tree; holds = []; known = empty } in
+    c.looked.ensures.unanswered (calls.Lookup c.in-Lookup.dir c.as_slice-in-Lookup.result.now) st (c.lookup.ensures.reads m tree lists st told ready refl)
+
+pub returns-in-Lookup-clause-cause : goal.returns-in-Lookup-clause-cause
+returns-in-Lookup-clause-cause g c = c.looked.ensures.cause (g.E.Blocks.counts c.args.edits.now) (g.E.Blocks.counts c.lookup.new.edits) c.lookup.ensures.cause
+
+pub returns-in-List-clause-looked : goal.returns-in-List-clause-looked
+returns-in-List-clause-looked g c m tree lists told ready =
+    let is : c.args.call.now ≡ calls.List c.in-List.dir = c.in-List.is in
+    subst (λ (x : Call). IfOk c.looked-in-List.result (IsLooked (geometry_of c.args.sup.now) m tree x)) (sym is) (c.looked-in-List.ensures.looked (geometry_of c.args.sup.now) m tree (calls.List c.in-List.dir) (λ s same. c.list.ensures.reads m tree lists s told ready same))
+
+pub returns-in-List-clause-may : goal.returns-in-List-clause-may
+returns-in-List-clause-may g c = c.looked-in-List.ensures.may c.args.sup.now c.args.call.now
+
+pub returns-in-List-clause-unanswered : goal.returns-in-List-clause-unanswered
+returns-in-List-clause-unanswered g c m tree lists told ready =
+    let st : State = record { tree = tree; holds = []; known = empty } in
+    c.looked-in-List.ensures.unanswered (calls.List c.in-List.dir) st (c.list.ensures.reads m tree lists st told ready refl)
+
+pub returns-in-List-clause-cause : goal.returns-in-List-clause-cause
+returns-in-List-clause-cause g c = c.looked-in-List.ensures.cause (g.E.Blocks.counts c.args.edits.now) (g.E.Blocks.counts c.list.new.edits) c.list.ensures.cause
+
+pub returns-in-Stat-clause-looked : goal.returns-in-Stat-clause-looked
+returns-in-Stat-clause-looked g c m tree lists told ready =
+    let is : c.args.call.now ≡ calls.Stat c.in-Stat.id = c.in-Stat.is in
+    subst (λ (x : Call). IfOk c.looked-in-Stat.result (IsLooked (geometry_of c.args.sup.now) m tree x)) (sym is) (c.looked-in-Stat.ensures.looked (geometry_of c.args.sup.now) m tree (calls.Stat c.in-Stat.id) (λ s same. c.stat.ensures.reads m tree lists s told ready same))
+
+pub returns-in-Stat-clause-may : goal.returns-in-Stat-clause-may
+returns-in-Stat-clause-may g c = c.looked-in-Stat.ensures.may c.args.sup.now c.args.call.now
+
+pub returns-in-Stat-clause-unanswered : goal.returns-in-Stat-clause-unanswered
+returns-in-Stat-clause-unanswered g c m tree lists told ready =
+    let st : State = record { tree = tree; holds = []; known = empty } in
+    c.looked-in-Stat.ensures.unanswered (calls.Stat c.in-Stat.id) st (c.stat.ensures.reads m tree lists st told ready refl)
+
+pub returns-in-Stat-clause-cause : goal.returns-in-Stat-clause-cause
+returns-in-Stat-clause-cause g c = c.looked-in-Stat.ensures.cause (g.E.Blocks.counts c.args.edits.now) (g.E.Blocks.counts c.stat.new.edits) c.stat.ensures.cause
+
+pub returns-in-ReadLink-clause-looked : goal.returns-in-ReadLink-clause-looked
+returns-in-ReadLink-clause-looked g c m tree lists told ready =
+    let is : c.args.call.now ≡ calls.ReadLink c.in-ReadLink.id = c.in-ReadLink.is in
+    subst (λ (x : Call). IfOk c.looked-in-ReadLink.result (IsLooked (geometry_of c.args.sup.now) m tree x)) (sym is) (c.looked-in-ReadLink.ensures.looked (geometry_of c.args.sup.now) m tree (calls.ReadLink c.in-ReadLink.id) (λ s same. c.read_link.ensures.reads m tree lists s told ready same))
+
+pub returns-in-ReadLink-clause-may : goal.returns-in-ReadLink-clause-may
+returns-in-ReadLink-clause-may g c = c.looked-in-ReadLink.ensures.may c.args.sup.now c.args.call.now
+
+pub returns-in-ReadLink-clause-unanswered : goal.returns-in-ReadLink-clause-unanswered
+returns-in-ReadLink-clause-unanswered g c m tree lists told ready =
+    let st : State = record { tree = tree; holds = []; known = empty } in
+    c.looked-in-ReadLink.ensures.unanswered (calls.ReadLink c.in-ReadLink.id) st (c.read_link.ensures.reads m tree lists st told ready refl)
+
+pub returns-in-ReadLink-clause-cause : goal.returns-in-ReadLink-clause-cause
+returns-in-ReadLink-clause-cause g c = c.looked-in-ReadLink.ensures.cause (g.E.Blocks.counts c.args.edits.now) (g.E.Blocks.counts c.read_link.new.edits) c.read_link.ensures.cause

@@ -1,0 +1,5 @@
+use Rattle.std.proofs.Common.{rules, ◌≡◌, ◌*◌, length}
+use Rattle.bfs_space.proofs.tests.mounts.Goals as goal
+
+pub new-requires : goal.new-requires
+new-requires c = (c.args.blocks, search rules)

@@ -1,0 +1,57 @@
+-- What a look at a call finds of a volume.
+use Rattle.std.specs.Prelude.{◌≡◌, ◌≤◌, ◌<◌, ℕ, List, Bool, Option, None, true, false}
+use Rattle.bfs_super.specs.declared.geometry.Geometry.{Geometry}
+use Rattle.bfs_super.specs.declared.sup.Super.{Super}
+use Rattle.bfs_tree.specs.declared.call.Call.{Call}
+use Rattle.bfs_tree.specs.Refusals.{own_refusal}
+use Rattle.bfs_tree.specs.States.{State}
+use Rattle.bfs_tree.specs.Steps.{Reads, changes_tree}
+use Rattle.bfs_tree.specs.Trees.{Tree}
+use Rattle.bfs_sound.specs.Need.{logged_need}
+use Rattle.bfs_shift.specs.Shifts.{volume_in}
+use Rattle.bfs_calls.specs.Allowances.{allowance}
+use Rattle.bfs_calls.specs.Refusals.{is_own, MayBeMade}
+use Rattle.bfs_super.specs.Conditions.{natural}
+use Rattle.bfs_tree.specs.declared.call.Call.TheVariants as calls
+use Rattle.bfs_space.specs.declared.answers.Looked.{Looked}
+use Rattle.bfs_space.specs.declared.answers.Looked.TheVariants.{Answered, Allowed}
+
+-- A call that changes the tree has no refusal of its own in any state that has this tree. It is allowed to change so many blocks, which is at
+-- most Need.
+pub record IsAllowed (g : Geometry) (m : ℕ → Option (List ℕ)) (tree : Tree) (call : Call) (n : ℕ) : Type 0 where
+  pub changes : changes_tree call ≡ true
+  pub fine : (s : State) → s.tree ≡ tree → own_refusal call s ≡ None
+  pub is : n ≡ allowance (volume_in g m) tree call
+  pub within : n ≤ logged_need (volume_in g m) tree call
+
+-- The tree alone answers the call so, in every state that has it, and nothing is to be changed; or it is allowed so many blocks.
+abbrev pub IsLooked : Geometry → (ℕ → Option (List ℕ)) → Tree → Call → Looked → Type 0
+IsLooked g m tree call (Answered reply) = (s : State) → s.tree ≡ tree → Reads call s reply
+IsLooked g m tree call (Allowed n) = IsAllowed g m tree call n
+
+-- a reply that a look finds is one that the tree alone gives
+abbrev pub FindsOwn : Looked → Type 0
+FindsOwn (Answered reply) = is_own reply ≡ true
+FindsOwn (Allowed n) = Unit {0}
+
+-- what is found of a call that may be done holds whatever the volume
+abbrev pub FindsMay : (Super → Call → Type 0) → Super → Call → Looked → Type 0
+FindsMay may sup call (Answered reply) = Unit {0}
+FindsMay may sup call (Allowed n) = may sup call
+
+-- the calls that are built so far
+abbrev pub is_built : Call → Bool
+is_built (calls.Make dir name kind mode) = true
+is_built (calls.SetMode id mode uid gid) = true
+is_built (calls.Lookup dir name) = true
+is_built (calls.List dir) = true
+is_built (calls.Stat id) = true
+is_built (calls.ReadLink id) = true
+is_built _ = false
+
+-- what is found of those that change a tree: a node that may be made, its directory a block of the volume, its name and target good; and a
+-- node whose mode is set, a block of the volume
+abbrev pub MayBeDone : Super → Call → Type 0
+MayBeDone sup (calls.Make dir name kind mode) = MayBeMade (natural sup.num_blocks) dir name kind
+MayBeDone sup (calls.SetMode id mode uid gid) = id < natural sup.num_blocks
+MayBeDone sup _ = ⊥

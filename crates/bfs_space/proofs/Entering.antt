@@ -80,7 +80,11 @@ module _ (t0 : Mounted) (old : SpaceBooks) (m : ℕ → Option (List ℕ)) (face
           told = subst (λ (v : SpaceView). IsFaceTold t0 v m) (sym view) (call_told t0 old.view m face_of.sound some old.room kept.room group entry given sized follow called);
           fits = subst (λ (x : Room). Fits x (over books.view.group m)) (sym room) (subst (λ (v : SpaceView). Fits new (over v.group m)) (sym view) kept.fits);
         };
-        caused = inl (subst (λ (x : Room). IsWithin need old.room x m old.view.group books.view.group) (sym room) (subst (λ (v : SpaceView). IsWithin need old.room new m old.view.group v.group) (sym view) done.within));
+        caused = inl (record {
+          own = done.own;
+          within = subst (λ (x : Room). IsWithin need old.room x m old.view.group books.view.group) (sym room) (subst (λ (v : SpaceView). IsWithin need old.room new m old.view.group v.group) (sym view) done.within);
+          unchanged = λ no. (ap (λ (v : SpaceView). v.group) view ∙ (done.unchanged no).0, ap (λ (x : Room). x.tally.used) room ∙ (done.unchanged no).1);
+        });
       }
         where
           need : ℕ

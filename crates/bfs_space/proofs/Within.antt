@@ -1,11 +1,12 @@
 -- How many blocks a call that was kept has changed.
 use Rattle.std.proofs.Common.{◌≡◌, ◌≢◌, ◌≤◌, ◌<◌, ◌+◌, ◌∙◌, ℕ, zero, suc, List, [], ◌∷◌, length, take, drop, Bool, true, false, Option, Some, None, refl, sym, ap, arith}
-use Rattle.std.specs.Prelude.{map, ◌==◌, cond}
+use Rattle.std.specs.Prelude.{map, ◌==◌, cond, is_some}
+use Rattle.std.proofs.lemmas.Bool.{true≢false}
 use Rattle.std.proofs.lemmas.List.{length-drop}
 use Rattle.bfs_base.specs.Lists.{times, Has}
 use Rattle.bfs_bitmap.specs.Runs.{Room}
 use Rattle.bfs_txn.specs.Changed.{newest, or_else}
-use Rattle.bfs_space.specs.Answered.{IsWithin, room_kept}
+use Rattle.bfs_space.specs.Answered.{IsWithin, StaysIdle, room_kept}
 
 -- the blocks of pairs
 abbrev blocks_of : List (ℕ × List ℕ) → List ℕ
@@ -57,3 +58,34 @@ within_none v m before allowed = record { changed = []; few = omega arith; are =
 -- fewer are no more than more
 pub within_more : (few more : ℕ) (v new : Room) (m : ℕ → Option (List ℕ)) (before now : List (ℕ × List ℕ)) → few ≤ more → IsWithin few v new m before now → IsWithin more v new m before now
 within_more few more v new m before now le w = record { changed = w.changed; few = (let a = w.few in omega (arith, a, le)); are = w.are; used = (let a = w.used in omega (arith, a, le)) }
+
+-- ---- no block waits for a seal
+
+or_none : (a b : Option (List ℕ)) → is_some b ≡ true → or_else a b ≡ None → ⊥
+or_none None b there none = true≢false (sym there ∙ ap is_some none)
+or_none (Some x) b there none = true≢false (ap is_some none)
+
+same_number : (n : ℕ) → (n == n) ≡ true
+same_number n = grind arith
+
+-- pairs of which no block has newest bytes are none
+none_newest : (ps : List (ℕ × List ℕ)) → ((k : ℕ) → newest ps k ≡ None) → ps ≡ []
+none_newest [] none = refl
+none_newest (p ∷ ps) none = absurd (or_none (newest ps p.0) (cond (p.0 == p.0) (Some p.1) None) (ap (λ (b : Bool). is_some (cond {A = Option (List ℕ)} b (Some p.1) None)) (same_number p.0)) (none p.0))
+
+take_none : (n : ℕ) → take {A = ℕ × List ℕ} n [] ≡ []
+take_none zero = refl
+take_none (suc n) = refl
+
+-- a call that was kept
+pub idle_kept : (v room new : Room) (before now kept : List (ℕ × List ℕ)) (mark : ℕ) → take mark now ≡ before → ((k : ℕ) → newest kept k ≡ newest now k) → (length now ≡ 0 → room.tally.used ≡ v.tally.used) → new.tally.used ≡ room.tally.used → StaysIdle v new before kept
+idle_kept v room new before now kept mark same reads idle used empty =
+    let none : now ≡ [] = none_newest now (λ k. sym (reads k) ∙ ap (λ (ps : List (ℕ × List ℕ)). newest ps k) empty) in
+    (sym same ∙ ap (take mark) none ∙ take_none mark, used ∙ idle (ap length none))
+
+-- nothing has changed
+pub idle_same : (v new : Room) (before now : List (ℕ × List ℕ)) → new ≡ v → now ≡ before → StaysIdle v new before now
+idle_same v new before now room group empty = (sym group ∙ empty, ap (λ (r : Room). r.tally.used) room)
+
+pub idle_then : (v mid new : Room) (before between now : List (ℕ × List ℕ)) → mid ≡ v → between ≡ before → StaysIdle mid new between now → StaysIdle v new before now
+idle_then v mid new before between now room group idle empty = let i = idle empty in (sym group ∙ i.0, i.1 ∙ ap (λ (r : Room). r.tally.used) room)

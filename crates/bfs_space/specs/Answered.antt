@@ -1,5 +1,5 @@
 -- What a call's answer makes of a volume, and when its changes may be kept.
-use Rattle.std.specs.Prelude.{◌≡◌, ◌≢◌, ◌≤◌, ◌<◌, ◌+◌, ◌⊎◌, ℕ, ℤ, List, length, map, Bool, Option, Some}
+use Rattle.std.specs.Prelude.{◌≡◌, ◌≢◌, ◌≤◌, ◌<◌, ◌+◌, ◌⊎◌, ℕ, ℤ, List, [], length, map, Bool, Option, Some}
 use Rattle.bfs_base.specs.Lists.{Has}
 use Rattle.bfs_super.specs.declared.geometry.Geometry.{Geometry}
 use Rattle.bfs_super.specs.Conditions.{ceil}
@@ -60,12 +60,16 @@ pub record IsStray (l : Layout) (pairs : List (ℕ × List ℕ)) (mark block : �
 abbrev pub IsUnfit : Layout → ℕ → ℕ → ℕ → List (ℕ × List ℕ) → ℕ → Unkept → Type 0
 IsUnfit l allowed was used pairs mark (Damaged block) = IsStray l pairs mark block
 IsUnfit l allowed was used pairs mark (TooMany blocks) = (l.len ≤ ring_count pairs) × (mark + blocks ≡ length pairs) × (blocks ≤ allowed)
-IsUnfit l allowed was used pairs mark Beyond = (mark + allowed < length pairs) ⊎ (was + allowed < used)
+IsUnfit l allowed was used pairs mark Beyond = (mark + allowed < length pairs) ⊎ (was + allowed < used) ⊎ ((length pairs ≡ 0) × (used ≢ was))
 
 -- the blocks that a call changed are more than the log takes, with so many of the open group, and no more than it is allowed
 abbrev pub IsCrowding : Layout → ℕ → ℕ → CallFault → Type 0
 IsCrowding l allowed begun (calling.Unkept (TooMany blocks)) = (l.len ≤ begun + blocks + ceil (begun + blocks) 126) × (blocks ≤ allowed)
 IsCrowding l allowed begun _ = Unit {0}
+
+-- Where no block waits for a seal, none did before, and as many are used as then.
+abbrev pub StaysIdle : Room → Room → List (ℕ × List ℕ) → List (ℕ × List ℕ) → Type 0
+StaysIdle v new before now = now ≡ [] → (before ≡ []) × (new.tally.used ≡ v.tally.used)
 
 -- the bitmap of a call that was kept
 abbrev pub room_kept : Room → Room

@@ -1,5 +1,5 @@
 -- A space over what is told below it, and a call that was entered.
-use Rattle.std.specs.Prelude.{◌≡◌, ◌⊎◌, ◌++◌, ℕ, List, [], ◌∷◌, Bool, Option, length}
+use Rattle.std.specs.Prelude.{◌≡◌, ◌⊎◌, ◌++◌, ℕ, List, [], ◌∷◌, Bool, true, false, Option, length}
 use Rattle.bfs_super.specs.Geometry.{geometry_of}
 use Rattle.bfs_bitmap.specs.Runs.{Fits}
 use Rattle.bfs_txn.specs.Changed.{over}
@@ -7,6 +7,8 @@ use Rattle.bfs_txn.specs.Faults.{Counts}
 use Rattle.bfs_tree.specs.declared.call.Call.{Call}
 use Rattle.bfs_tree.specs.declared.reply.Reply.{Reply}
 use Rattle.bfs_tree.specs.Histories.{Mounted, after}
+use Rattle.bfs_tree.specs.Steps.{is_done}
+use Rattle.bfs_calls.specs.Refusals.{is_own}
 use Rattle.bfs_sound.specs.Need.{logged_need}
 use Rattle.bfs_shift.specs.Shifts.{volume_in}
 use Rattle.bfs_core.specs.Spaces.{Entered, HasSet, IsSoundOver, SameSeals}
@@ -28,10 +30,16 @@ pub record HasFace (b : SpaceBooks) (m : ℕ → Option (List ℕ)) : Type 0 whe
   pub t0 : Mounted
   pub face : IsFaceOf t0 b m
 
--- At most as many blocks have changed as Need says; or the call was turned away from outside, and none has.
+-- A reply that the tree alone gives: at most so many blocks have changed, and none where it is a refusal.
+pub record IsByTree (need : ℕ) (old new : SpaceBooks) (m : ℕ → Option (List ℕ)) (reply : Reply) : Type 0 where
+  pub own : is_own reply ≡ true
+  pub within : IsWithin need old.room new.room m old.view.group new.view.group
+  pub unchanged : is_done reply ≡ false → (new.view.group ≡ old.view.group) × (new.room.tally.used ≡ old.room.tally.used)
+
+-- The tree alone gives the reply, and at most as many blocks have changed as Need says; or the call was turned away from outside, and none has.
 abbrev pub IsCaused : Mounted → SpaceBooks → SpaceBooks → (ℕ → Option (List ℕ)) → Call → Reply → Type 0
 IsCaused t0 old new m call reply =
-    IsWithin (logged_need (volume_in (geometry_of old.view.sup) (over old.view.group m)) (after t0 old.view.history) call) old.room new.room m old.view.group new.view.group
+    IsByTree (logged_need (volume_in (geometry_of old.view.sup) (over old.view.group m)) (after t0 old.view.history) call) old new m reply
     ⊎ ((new.view.group ≡ old.view.group) × (new.room ≡ old.room) × IsOutside (geometry_of old.view.sup) old.room (over old.view.group m) (after t0 old.view.history) (IsIdle old) call reply)
 
 -- A call was entered: its entry may follow the history, Face stays sound with the tree after it, and what it set is in the open group; the
@@ -45,12 +53,13 @@ pub record HasEntered (t0 : Mounted) (old new : SpaceBooks) (m : ℕ → Option 
   pub caused : IsCaused t0 old new m call reply
 
 -- An entry was appended, whose stamp was drawn from the clock; a reply by the disk has its cause; what only a seal, a promise, a release or a
--- note changes is as it was.
+-- note changes is as it was; and where no block waits for a seal, none did before, and as many are used as then.
 pub record HasReplied (before after : Counts) (old new : SpaceBooks) (session tag now : ℕ) (call : Call) : Type 0 where
   pub reply : Reply
   pub history : new.view.history ≡ old.view.history ++ entry_noted old session tag now call reply ∷ []
   pub cause : HasReplyCause before after old.stop reply
   pub same : SameSeals old.view new.view
+  pub idle : new.view.group ≡ [] → (old.view.group ≡ []) × (new.view.used ≡ old.view.used)
   pub promised : new.promised ≡ old.promised
   pub stop : new.stop ≡ old.stop
   pub left : new.left ≡ old.left

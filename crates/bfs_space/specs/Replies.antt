@@ -18,8 +18,9 @@ use Rattle.bfs_tree.specs.declared.reply.Reply.{Reply}
 use Rattle.bfs_tree.specs.declared.reply.Reply.TheVariants as replies
 use Rattle.bfs_tree.specs.Refusals.{own_refusal}
 use Rattle.bfs_tree.specs.States.{State}
-use Rattle.bfs_tree.specs.Steps.{changes_tree}
+use Rattle.bfs_tree.specs.Steps.{changes_tree, is_done}
 use Rattle.bfs_tree.specs.Trees.{Tree}
+use Rattle.bfs_calls.specs.Refusals.{is_own}
 use Rattle.bfs_device.specs.declared.journal.Stop.{Stop}
 use Rattle.bfs_sound.specs.Need.{logged_need}
 use Rattle.bfs_shift.specs.Shifts.{volume_in}
@@ -83,9 +84,11 @@ pub record IsTurnedAway (g : Geometry) (v new : Room) (m : ℕ → Option (List 
   pub group : now ≡ before
   pub why : IsOutside g v (over before m) tree Idle call reply
 
--- A call was answered by the tree and kept, and has changed at most as many blocks as Need says.
+-- A call was answered by the tree and kept, and has changed at most as many blocks as Need says; one that was refused has changed none.
 pub record IsDoneWithin (g : Geometry) (v new : Room) (m : ℕ → Option (List ℕ)) (before now : List (ℕ × List ℕ)) (tree : Tree) (stamp : ℤ) (call : Call) (reply : Reply) : Type 0 where
   pub kept : IsKept g v new m before now tree stamp call reply
+  pub own : is_own reply ≡ true
+  pub unchanged : is_done reply ≡ false → (now ≡ before) × (new.tally.used ≡ v.tally.used)
   pub within : IsWithin (logged_need (volume_in g (over before m)) tree call) v new m before now
 
 abbrev pub IsReplied : Geometry → Room → Room → (ℕ → Option (List ℕ)) → List (ℕ × List ℕ) → List (ℕ × List ℕ) → Tree → Type 0 → ℤ → Call → Reply → Type 0

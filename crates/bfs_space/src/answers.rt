@@ -11,6 +11,7 @@ ghost use Rattle.bfs_tree.specs.declared.call.Call as calls;
 ghost use Rattle.bfs_tree.specs.Answers.{KeepsRanges};
 ghost use Rattle.bfs_tree.specs.Refusals.{own_refusal};
 ghost use Rattle.bfs_tree.specs.States.{State};
+ghost use Rattle.bfs_tree.specs.Steps.{is_done};
 ghost use Rattle.bfs_tree.specs.Trees.{Tree};
 ghost use Rattle.bfs_shift.specs.Lists.{Lists};
 ghost use Rattle.bfs_look.specs.Ready.{IsReady, HasReady};
@@ -88,6 +89,7 @@ pub trait Answers {
         ensures unanswered { (m : ℕ → Option (List ℕ)) (tree : Tree) (lists : Lists) → E.told edits.old ≡ Some m → IsReady (geometry_of sup.now) bitmap.old m tree lists → IfErr result IsUnanswered }
         ensures cause { IfErr result (HasAnswerCause (E.counts edits.old) (E.counts edits.new)) }
         ensures own { IfOk result (λ reply. is_own reply ≡ true) }
+        ensures done { IfOk result (λ reply. is_done reply ≡ true) }
         ensures undone { as_kept bitmap.new ≡ as_kept bitmap.old }
         ensures volume { IsOfVolume (sizes_of sup.now) bitmap.new }
         ensures last { bitmap.new.last ≡ bitmap.old.last }

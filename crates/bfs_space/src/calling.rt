@@ -11,6 +11,7 @@ ghost use Rattle.bfs_stream.specs.Sizes.{sizes_of};
 ghost use Rattle.bfs_tree.specs.Answers.{KeepsRanges};
 ghost use Rattle.bfs_tree.specs.Refusals.{own_refusal};
 ghost use Rattle.bfs_tree.specs.States.{State};
+ghost use Rattle.bfs_tree.specs.Steps.{is_done};
 ghost use Rattle.bfs_tree.specs.Trees.{Tree};
 ghost use Rattle.bfs_device.specs.Layouts.{layout_of};
 ghost use Rattle.bfs_shift.specs.Lists.{Lists};
@@ -18,7 +19,7 @@ ghost use Rattle.bfs_space.specs.Books.{MayBeSealed};
 ghost use Rattle.bfs_space.specs.Called.{is_changed};
 ghost use Rattle.bfs_look.specs.Ready.{IsReady, HasReady};
 ghost use Rattle.bfs_calls.specs.Refusals.{is_own};
-ghost use Rattle.bfs_space.specs.Answered.{IsAnswered, IsKept, IsWithin, AreFit, IsCallFault, HasCallCause, IsCrowding};
+ghost use Rattle.bfs_space.specs.Answered.{IsAnswered, IsKept, IsWithin, AreFit, IsCallFault, HasCallCause, IsCrowding, StaysIdle};
 
 use crate::keep::may_be_kept;
 use crate::{Answers, Unkept};
@@ -63,11 +64,13 @@ fn answer_over<A: Answers, B: Blocks>(
     ensures unanswered { (m : ℕ → Option (List ℕ)) (tree : Tree) (lists : Lists) → B.told overlay.old.under.now ≡ Some m → IsReady (geometry_of sup.now) bitmap.old (over overlay.old.group.now m) tree lists → IfErr result IsCallFault }
     ensures cause { IfErr result (HasCallCause (B.counts overlay.old.under.now) (B.counts overlay.new.under.now)) }
     ensures own { IfOk result (λ reply. is_own reply ≡ true) }
+    ensures done { IfOk result (λ reply. is_done reply ≡ true) }
     ensures crowding { IfErr result (IsCrowding (layout_of sup.now) allowed mark) }
     ensures later { AreLater (B.counts overlay.old.under.now) (B.counts overlay.new.under.now) }
     ensures fit { OnOk result (AreFit (layout_of sup.now) overlay.new.group.now overlay.new.mark) }
     ensures few { OnOk result (length overlay.new.group.now ≤ mark + allowed) }
     ensures rise { OnOk result (bitmap.new.tally.used ≤ bitmap.old.tally.used + allowed) }
+    ensures idle { OnOk result (length overlay.new.group.now ≡ 0 → bitmap.new.tally.used ≡ bitmap.old.tally.used) }
     ensures undone { as_kept bitmap.new ≡ as_kept bitmap.old }
     ensures volume { IsOfVolume (sizes_of sup.now) bitmap.new }
     ensures last { bitmap.new.last ≡ bitmap.old.last }
@@ -76,6 +79,7 @@ fn answer_over<A: Answers, B: Blocks>(
     ensures under_name { overlay.new.under.ghost_name ≡ overlay.old.under.ghost_name }
     ensures open { take overlay.new.mark overlay.new.group.now ≡ take overlay.old.mark overlay.old.group.now }
     ensures told { B.told overlay.new.under.now ≡ B.told overlay.old.under.now }
+    ensures note { (B.frame overlay.new.under.now).note ≡ (B.frame overlay.old.under.now).note }
 {
     let was = bitmap.used();
     match answers.answer(alloc, sup, bitmap, overlay, call, stamp) {
@@ -114,15 +118,18 @@ pub fn answer_call<A: Answers, B: Blocks>(
     ensures unanswered { (m : ℕ → Option (List ℕ)) (tree : Tree) (lists : Lists) → B.told under.old ≡ Some m → IsReady (geometry_of sup.now) bitmap.old (over group.old m) tree lists → IfErr result IsCallFault }
     ensures cause { IfErr result (HasCallCause (B.counts under.old) (B.counts under.new)) }
     ensures own { IfOk result (λ reply. is_own reply ≡ true) }
+    ensures done { IfOk result (λ reply. is_done reply ≡ true) }
     ensures crowding { IfErr result (IsCrowding (layout_of sup.now) allowed (length group.old)) }
     ensures later { AreLater (B.counts under.old) (B.counts under.new) }
     ensures group { MayBeSealed (layout_of sup.now) sup.now.block_size group.new }
     ensures within { (m : ℕ → Option (List ℕ)) → OnOk result (IsWithin allowed bitmap.old bitmap.new m group.old group.new) }
+    ensures idle { StaysIdle bitmap.old bitmap.new group.old group.new }
     ensures settled { IsSettled bitmap.new }
     ensures volume { IsOfVolume (sizes_of sup.now) bitmap.new }
     ensures last { bitmap.new.last ≡ bitmap.old.last }
     ensures refused { OnErr result ((group.new ≡ group.old) × (bitmap.new ≡ bitmap.old)) }
     ensures told { B.told under.new ≡ B.told under.old }
+    ensures note { (B.frame under.new).note ≡ (B.frame under.old).note }
     ensures size { B.size under.new ≡ B.size under.old }
 {
     let mark = group.len();

@@ -1,5 +1,5 @@
 // Whether what a call changed may go into a group.
-ghost use Rattle.std.specs.Prelude.{◌≡◌, ◌≤◌, ◌<◌, ◌+◌, ◌/◌, ◌⊎◌, ℕ, IsTrue, IsFalse, OnOk, IfErr, length};
+ghost use Rattle.std.specs.Prelude.{◌≡◌, ◌≢◌, ◌≤◌, ◌<◌, ◌+◌, ◌/◌, ◌⊎◌, ℕ, IsTrue, IsFalse, OnOk, IfErr, length};
 ghost use Rattle.bfs_super.specs.Conditions.{IsValid};
 ghost use Rattle.bfs_device.specs.Layouts.{is_data, layout_of, ring_count};
 ghost use Rattle.bfs_space.specs.Answered.{AreFit, IsUnfit};
@@ -37,7 +37,7 @@ fn in_ring(blocks: usize) -> usize
     blocks + (blocks + 125) / 126
 }
 
-/// Whether a call may change no more blocks than it did, behind `mark` pairs of an open group, and use no more.
+/// Whether a call may change no more blocks than it did, behind `mark` pairs of an open group, and use no more; and none more where it changed none.
 fn is_within<B: Blocks>(
     overlay: &Overlay<'_, B>,
     bitmap: &Bitmap,
@@ -48,13 +48,17 @@ fn is_within<B: Blocks>(
     requires mark { mark ≤ length overlay.now.group.now }
     ensures few { IsTrue result → length overlay.now.group.now ≤ mark + allowed }
     ensures rise { IsTrue result → bitmap.now.tally.used ≤ was + allowed }
-    ensures not { IsFalse result → (mark + allowed < length overlay.now.group.now) ⊎ (was + allowed < bitmap.now.tally.used) }
+    ensures idle { IsTrue result → length overlay.now.group.now ≡ 0 → bitmap.now.tally.used ≡ was }
+    ensures not { IsFalse result → (mark + allowed < length overlay.now.group.now) ⊎ (was + allowed < bitmap.now.tally.used) ⊎ ((length overlay.now.group.now ≡ 0) × (bitmap.now.tally.used ≢ was)) }
 {
     let changed = (overlay.pairs() - mark) as u64;
     if changed > allowed {
         return false;
     }
     let used = bitmap.used();
+    if overlay.pairs() == 0 && used != was {
+        return false;
+    }
     used <= was || used - was <= allowed
 }
 
@@ -73,6 +77,7 @@ pub fn may_be_kept<B: Blocks>(
     ensures ok { OnOk result (AreFit (layout_of sup.now) overlay.now.group.now mark) }
     ensures few { OnOk result (length overlay.now.group.now ≤ mark + allowed) }
     ensures rise { OnOk result (bitmap.now.tally.used ≤ was + allowed) }
+    ensures idle { OnOk result (length overlay.now.group.now ≡ 0 → bitmap.now.tally.used ≡ was) }
     ensures err { IfErr result (IsUnfit (layout_of sup.now) allowed was bitmap.now.tally.used overlay.now.group.now mark) }
 {
     if !is_within(overlay, bitmap, mark, was, allowed) {

@@ -80,6 +80,7 @@ fn has_few<B: Blocks>(
     ensures few { (m : ℕ → Option (List ℕ)) → B.told under.old ≡ Some m → HasBitmap bitmap.now (over group.old m) → IfOk result (λ few. few ≡ true → HasFewRuns bitmap.now (over group.old m) len needed) }
     ensures group { group.new ≡ group.old }
     ensures told { B.told under.new ≡ B.told under.old }
+    ensures note { (B.frame under.new).note ≡ (B.frame under.old).note }
     ensures size { B.size under.new ≡ B.size under.old }
     ensures cause { IsCaused (B.counts under.old) (B.counts under.new) result }
 {
@@ -110,6 +111,7 @@ fn say_no_space<B: Blocks>(
     ensures cause { (stop : Option stops.Stop) → IfOk result (HasReplyCause (B.counts under.old) (B.counts under.new) stop) }
     ensures group { group.new ≡ group.old }
     ensures told { B.told under.new ≡ B.told under.old }
+    ensures note { (B.frame under.new).note ≡ (B.frame under.old).note }
     ensures size { B.size under.new ≡ B.size under.old }
 {
     let geometry = sup.geometry();
@@ -146,6 +148,7 @@ fn put_off<B: Blocks>(
     ensures cause { (stop : Option stops.Stop) → IfOk result (HasReplyCause (B.counts under.old) (B.counts under.new) stop) }
     ensures group { group.new ≡ group.old }
     ensures told { B.told under.new ≡ B.told under.old }
+    ensures note { (B.frame under.new).note ≡ (B.frame under.old).note }
     ensures size { B.size under.new ≡ B.size under.old }
 {
     match has_few(sup, bitmap, group, under, 1, needed) {
@@ -186,6 +189,7 @@ pub fn lacks_space<B: Blocks>(
     ensures cause { (stop : Option stops.Stop) → IfOk result (HasReplyCause (B.counts under.old) (B.counts under.new) stop) }
     ensures group { group.new ≡ group.old }
     ensures told { B.told under.new ≡ B.told under.old }
+    ensures note { (B.frame under.new).note ≡ (B.frame under.old).note }
     ensures size { B.size under.new ≡ B.size under.old }
 {
     if only_takes_out(call) {

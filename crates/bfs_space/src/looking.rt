@@ -46,6 +46,7 @@ pub fn look_call<A: Answers, B: Blocks>(
     ensures bitmap { bitmap.new ≡ bitmap.old }
     ensures group { group.new ≡ group.old }
     ensures told { B.told under.new ≡ B.told under.old }
+    ensures note { (B.frame under.new).note ≡ (B.frame under.old).note }
     ensures size { B.size under.new ≡ B.size under.old }
 {
     let mut overlay = Overlay::begin(group, under);

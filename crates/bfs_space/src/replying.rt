@@ -20,6 +20,7 @@ ghost use Rattle.bfs_sound.specs.Need.{logged_need};
 ghost use Rattle.bfs_shift.specs.Lists.{Lists};
 ghost use Rattle.bfs_shift.specs.Shifts.{volume_in};
 ghost use Rattle.bfs_look.specs.Ready.{IsReady, HasReady};
+ghost use Rattle.bfs_space.specs.Answered.{StaysIdle};
 ghost use Rattle.bfs_space.specs.Books.{MayBeSealed};
 ghost use Rattle.bfs_space.specs.Looks.{IsAllowed};
 ghost use Rattle.bfs_space.specs.Replies.{HasReplyCause, IsChange, IsNoReply, IsOutside, IsReplied, IsThat, IsTooLong, reply_to};
@@ -106,11 +107,13 @@ fn perform<A: Answers, B: Blocks>(
     ensures put_off { (m : ℕ → Option (List ℕ)) (tree : Tree) (lists : Lists) → B.told under.old ≡ Some m → IsReady (geometry_of sup.now) bitmap.old (over group.old m) tree lists → IfErr result (IsNoReply (geometry_of sup.now) bitmap.old (over group.old m) (length group.old) tree (idle ≡ true) call.now) }
     ensures cause { (stop : Option stops.Stop) → IfOk result (HasReplyCause (B.counts under.old) (B.counts under.new) stop) }
     ensures left { OnErr result ((group.new ≡ group.old) × (bitmap.new ≡ bitmap.old)) }
+    ensures idle { StaysIdle bitmap.old bitmap.new group.old group.new }
     ensures group { MayBeSealed (layout_of sup.now) sup.now.block_size group.new }
     ensures settled { IsSettled bitmap.new }
     ensures volume { IsOfVolume (sizes_of sup.now) bitmap.new }
     ensures last { bitmap.new.last ≡ bitmap.old.last }
     ensures told { B.told under.new ≡ B.told under.old }
+    ensures note { (B.frame under.new).note ≡ (B.frame under.old).note }
     ensures size { B.size under.new ≡ B.size under.old }
 {
     let fault = match answer_call(
@@ -165,11 +168,13 @@ pub fn reply_call<A: Answers, B: Blocks>(
     ensures put_off { (m : ℕ → Option (List ℕ)) (tree : Tree) (lists : Lists) → B.told under.old ≡ Some m → IsReady (geometry_of sup.now) bitmap.old (over group.old m) tree lists → IfErr result (IsNoReply (geometry_of sup.now) bitmap.old (over group.old m) (length group.old) tree (idle ≡ true) call.now) }
     ensures cause { (stop : Option stops.Stop) → IfOk result (HasReplyCause (B.counts under.old) (B.counts under.new) stop) }
     ensures left { OnErr result ((group.new ≡ group.old) × (bitmap.new ≡ bitmap.old)) }
+    ensures idle { StaysIdle bitmap.old bitmap.new group.old group.new }
     ensures group { MayBeSealed (layout_of sup.now) sup.now.block_size group.new }
     ensures settled { IsSettled bitmap.new }
     ensures volume { IsOfVolume (sizes_of sup.now) bitmap.new }
     ensures last { bitmap.new.last ≡ bitmap.old.last }
     ensures told { B.told under.new ≡ B.told under.old }
+    ensures note { (B.frame under.new).note ≡ (B.frame under.old).note }
     ensures size { B.size under.new ≡ B.size under.old }
 {
     let looked = match look_call(alloc, sup, answers, bitmap, group, under, call) {
@@ -214,11 +219,13 @@ pub fn reply_or_stopped<A: Answers, B: Blocks>(
     ensures cause { IfOk result (HasReplyCause (B.counts under.old) (B.counts under.new) stop) }
     ensures stopped { (s : stops.Stop) → stop ≡ Some s → IfOk result (λ reply. is_stopped reply ≡ true) }
     ensures left { OnErr result ((group.new ≡ group.old) × (bitmap.new ≡ bitmap.old)) }
+    ensures idle { StaysIdle bitmap.old bitmap.new group.old group.new }
     ensures group { MayBeSealed (layout_of sup.now) sup.now.block_size group.new }
     ensures settled { IsSettled bitmap.new }
     ensures volume { IsOfVolume (sizes_of sup.now) bitmap.new }
     ensures last { bitmap.new.last ≡ bitmap.old.last }
     ensures told { B.told under.new ≡ B.told under.old }
+    ensures note { (B.frame under.new).note ≡ (B.frame under.old).note }
     ensures size { B.size under.new ≡ B.size under.old }
 {
     match stop {

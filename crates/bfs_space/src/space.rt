@@ -188,6 +188,7 @@ impl Space {
         ensures noted { IfOk result (HasOutcome (B.counts under.old) (B.counts under.new) self.old self.new session tag now call) }
         ensures no_memory { OnErr result (self.new ≡ self.old) }
         ensures told { B.told under.new ≡ B.told under.old }
+        ensures note { (B.frame under.new).note ≡ (B.frame under.old).note }
         ensures size { B.size under.new ≡ B.size under.old }
     {
         if self.history.len() >= MOST - 1 - self.promised.len() {

@@ -6,9 +6,9 @@ use Rattle.bfs_device.specs.Layouts.{layout_of}
 use Rattle.bfs_space.specs.Books.{MayBeSealed}
 use Rattle.bfs_space.specs.Called.{is_changed}
 use Rattle.bfs_look.specs.Ready.{HasReady, IsReady}
-use Rattle.bfs_space.specs.Answered.{IsAnswered, IsKept, IsWithin}
+use Rattle.bfs_space.specs.Answered.{IsAnswered, IsKept, IsWithin, StaysIdle}
 use Rattle.bfs_bitmap.specs.Runs.{Room}
-use Rattle.bfs_space.proofs.Within.{within}
+use Rattle.bfs_space.proofs.Within.{idle_kept, idle_same, within}
 use Rattle.bfs_space.proofs.Fits.{kept_of, may_be_sealed, same_mark, whole}
 use Rattle.bfs_space.proofs.calling.answer_call.Goals as goal
 
@@ -54,3 +54,10 @@ pub returns-in-Err-clause-unanswered : goal.returns-in-Err-clause-unanswered
 returns-in-Err-clause-unanswered g c = λ m tree lists told ready.
     let under : g.B.Blocks.told c.begin-overlay.result.under.now ≡ Some m = ap g.B.Blocks.told c.begin-overlay.ensures.under_now ∙ told in
     c.in-Err.ensures.unanswered m tree lists under (subst (λ (ps : List (ℕ × List ℕ)). IsReady (geometry_of c.args.sup.now) c.args.bitmap.now (over ps m) tree lists) (sym c.begin-overlay.ensures.open_now) ready)
+
+pub returns-in-Ok-clause-idle : goal.returns-in-Ok-clause-idle
+returns-in-Ok-clause-idle g c =
+    let open_is : take c.begin-overlay.result.mark c.begin-overlay.result.group.now ≡ c.args.group.now = whole c.begin-overlay.result.mark c.begin-overlay.result.group.now c.args.group.now c.begin-overlay.ensures.mark c.begin-overlay.ensures.open_now in
+    subst (λ (ps : List (ℕ × List ℕ)). StaysIdle c.args.bitmap.now c.keep-in-Ok.new.self c.args.group.now ps) (search rules)
+    (idle_kept c.args.bitmap.now c.answer_over.new.bitmap c.keep-in-Ok.new.self c.args.group.now c.answer_over.new.overlay.group.now c.keep.new.self.0 c.answer_over.new.overlay.mark (c.answer_over.ensures.open ∙ open_is) c.keep.ensures.reads c.in-Ok.ensures.idle
+    (ap (λ (r : Room). r.tally.used) c.keep-in-Ok.ensures.given))

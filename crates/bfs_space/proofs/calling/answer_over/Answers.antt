@@ -50,3 +50,6 @@ returns-in-Ok-may_be_kept-clause-rise g c = let was = c.used-was.ensures.value i
 pub returns-in-Err-may_be_kept-clause-crowding : goal.returns-in-Err-may_be_kept-clause-crowding
 returns-in-Err-may_be_kept-clause-crowding g c =
     crowding_of (layout_of c.args.sup.now) c.args.allowed c.used-was.result c.answer.new.bitmap.tally.used c.answer.new.edits.group.now c.args.mark c.in-Err-may_be_kept.why c.in-Err-may_be_kept.ensures.err
+
+pub returns-in-Ok-may_be_kept-clause-idle : goal.returns-in-Ok-may_be_kept-clause-idle
+returns-in-Ok-may_be_kept-clause-idle g c = λ none. c.in-Ok-may_be_kept.ensures.idle none ∙ c.used-was.ensures.value

@@ -1,9 +1,10 @@
-use Rattle.std.proofs.Common.{rules, ◌≡◌, ◌≤◌, ◌+◌, ◌∙◌, inl, ℕ, ℤ, List, true, length, sym, ap, subst, arith, w64, to_z, of_z}
+use Rattle.std.proofs.Common.{rules, ◌≡◌, ◌≤◌, ◌+◌, ◌∙◌, inl, ℕ, ℤ, List, true, false, length, sym, ap, subst, arith, w64, to_z, of_z}
 use Rattle.std.specs.Prelude.{IfErr}
 use Rattle.std.proofs.lemmas.Result.{IfOk-weaker}
 use Rattle.bfs_super.specs.Geometry.{geometry_of}
 use Rattle.bfs_bitmap.specs.Runs.{Room, HasBitmap}
 use Rattle.bfs_txn.specs.Changed.{over}
+use Rattle.bfs_tree.specs.Steps.{is_done}
 use Rattle.bfs_device.specs.Layouts.{layout_of}
 use Rattle.bfs_sound.specs.Need.{logged_need}
 use Rattle.bfs_shift.specs.Shifts.{volume_in}
@@ -24,6 +25,8 @@ returns-in-Ok-clause-replied g c = λ m tree lists told ready.
     let allowed = c.requires.allowed m tree lists told ready in
     inl (record {
       kept = subst (λ (z : ℤ). IsKept (geometry_of c.args.sup.now) c.args.bitmap.now c.answer_call.new.bitmap m c.args.group.now c.answer_call.new.group tree z c.args.call.now c.in-Ok.reply) same (c.in-Ok.ensures.kept m tree lists told ready);
+      own = c.in-Ok.ensures.own;
+      unchanged = λ no. let done : is_done c.in-Ok.reply ≡ true = c.in-Ok.ensures.done in let bad : false ≡ true = sym no ∙ done in absurd cc;
       within = within_more c.args.allowed (logged_need (volume_in (geometry_of c.args.sup.now) (over c.args.group.now m)) tree c.args.call.now) c.args.bitmap.now c.answer_call.new.bitmap m c.args.group.now c.answer_call.new.group allowed.within (c.in-Ok.ensures.within m);
     })
 

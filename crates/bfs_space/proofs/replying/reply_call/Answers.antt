@@ -10,7 +10,7 @@ use Rattle.bfs_look.specs.Ready.{IsReady, HasReady}
 use Rattle.bfs_space.specs.declared.answers.Looked.{Looked}
 use Rattle.bfs_space.specs.Answered.{IsKept, IsWithin, room_kept}
 use Rattle.bfs_space.specs.Called.{is_changed}
-use Rattle.bfs_space.specs.Looks.{IsAllowed, IsLooked}
+use Rattle.bfs_space.specs.Looks.{FindsOwn, IsAllowed, IsLooked}
 use Rattle.bfs_space.specs.Replies.{HasReplyCause, IsNoReply, IsReplied, reply_to}
 use Rattle.bfs_space.proofs.Done.{read_is_answered}
 use Rattle.bfs_space.proofs.Fits.{kept_of}
@@ -50,6 +50,8 @@ returns-in-Answered-clause-replied g c = λ m tree lists told ready.
     subst (λ (ps : List (ℕ × List ℕ)). IsReplied s c.args.bitmap.now c.keep.new.self m c.args.group.now ps tree (c.args.idle ≡ true) c.args.stamp c.args.call.now c.in-Answered.reply) (sym c.in-Ok.ensures.group)
     (inl (record {
       kept = kept;
+      own = subst FindsOwn c.in-Answered.is c.in-Ok.ensures.own;
+      unchanged = λ no. (refl, ap (λ (x : Room). x.tally.used) room);
       within = subst (λ (x : Room). IsWithin (logged_need (volume_in s (over c.args.group.now m)) tree c.args.call.now) c.args.bitmap.now x m c.args.group.now c.args.group.now) (sym room) (within_none c.args.bitmap.now m c.args.group.now (logged_need (volume_in s (over c.args.group.now m)) tree c.args.call.now));
     }))
 

@@ -104,6 +104,7 @@ returns-in-Ok-reply_or_stopped-clause-noted g c =
       history = items;
       cause = c.in-Ok-reply_or_stopped.ensures.cause;
       same = record { sup = refl; sealed = refl; sealed_used = refl };
+      idle = c.reply_or_stopped.ensures.idle;
       promised = refl;
       stop = refl;
       left = refl;

@@ -108,7 +108,12 @@ has_stored_inode s v now later m n bytes told told2 old mid new has made stream 
           (has_left (frame_at s (contents stream.map) (first_block s n.address)) (places_at s (contents stream.map) (first_block s n.address)) (first_block s n.address) (has_first (first_block s n.address) (arrays_at s (contents stream.map) (first_block s n.address)))))
           made.written)
           (subst (λ (x : Room). AreWritten x mid new (whole_at s (contents stream.map) (first_block s n.address))) made.stream.rest stream.written);
+      entered = λ k is. by_before k is (times k (whole_at s (contents made.map) (first_block s n.address))) refl;
     }
+  where
+    by_before : (k : ℕ) → Has (whole_at s (contents stream.map) (first_block s n.address)) k → (j : ℕ) → times k (whole_at s (contents made.map) (first_block s n.address)) ≡ j → new k ≡ true
+    by_before k is zero e = stream.fresh k is e
+    by_before k is (suc j) e = stream.stays k (made.entered k (let p : 0 < times k (whole_at s (contents made.map) (first_block s n.address)) = omega (arith, e) in p))
 
 -- a stream that was made has no places, and no bytes
 pub made_empty : (s : Sizes) (v now : Room) (m : ℕ → Option (List ℕ)) (n : NewInode) (told : Option (ℕ → Option (List ℕ))) (old mid : ℕ → Bool) (made : HasMade s v now m n told old mid) → places_at s (contents made.map) (first_block s n.address) ≡ []

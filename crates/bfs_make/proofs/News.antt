@@ -191,7 +191,7 @@ module _ (s : Sizes) (v now : Room) (m : ℕ → Option (List ℕ)) (n : NewInod
     first = block_other mid id inode.block 0 (free_not_first v m id has id_free) ∙ took.first;
   }
 
-  module _ (old between new : ℕ → Bool) (bits : (k : ℕ) → between k ≡ true → (old k ≡ true) ⊎ IsBitmapBlock v k) (set : (k : ℕ) → new k ≡ true → (between k ≡ true) ⊎ (k ≡ id)) where
+  module _ (old between new : ℕ → Bool) (bits : (k : ℕ) → between k ≡ true → (old k ≡ true) ⊎ IsBitmapBlock v k) (set : (k : ℕ) → new k ≡ true → (between k ≡ true) ⊎ (k ≡ id)) (mine : new id ≡ true) where
     wrote : AreWritten v old new (id ∷ [])
     wrote k e = by_set (set k e)
       where
@@ -212,6 +212,7 @@ module _ (s : Sizes) (v now : Room) (m : ℕ → Option (List ℕ)) (n : NewInod
       inode = subst (IsMade s.block_size n) (sym here) inode.made;
       long = ap length here ∙ inode.long;
       written = wrote;
+      entered = λ k is. subst (λ (j : ℕ). new j ≡ true) (sym (is_only k id (subst (λ (l : List ℕ). Has l k) whole_here is))) mine;
     }
 
 -- a fault without damage is none of a run

@@ -87,7 +87,7 @@ pub record HasBits (v : Room) (m : ℕ → Option (List ℕ)) : Type 0 where
   pub fits : Fits v m
   pub bits : (k : ℕ) → per_block v * (k - 1) < v.blocks → is_free v m k ≡ false
 
--- An inode was made at the block of a run: its stream has no blocks.
+-- An inode was made at the block of a run: its stream has no blocks. Its block is changed since.
 pub record HasMade (s : Sizes) (v now : Room) (m : ℕ → Option (List ℕ)) (n : NewInode) (told : Option (ℕ → Option (List ℕ))) (old new : ℕ → Bool) : Type 0 where
   pub map : ℕ → Option (List ℕ)
   pub is : told ≡ Some map
@@ -96,8 +96,9 @@ pub record HasMade (s : Sizes) (v now : Room) (m : ℕ → Option (List ℕ)) (n
   pub inode : IsMade s.block_size n (contents map (first_block s n.address))
   pub long : length (contents map (first_block s n.address)) ≡ s.block_size
   pub written : AreWritten v old new (first_block s n.address ∷ [])
+  pub entered : (k : ℕ) → Has (whole_at s (contents map) (first_block s n.address)) k → new k ≡ true
 
--- An inode was made at the block of a run, and its stream has these bytes.
+-- An inode was made at the block of a run, and its stream has these bytes. Each of its blocks is changed since.
 pub record HasStored (s : Sizes) (v now : Room) (m : ℕ → Option (List ℕ)) (n : NewInode) (bytes : List ℕ) (told : Option (ℕ → Option (List ℕ))) (old new : ℕ → Bool) : Type 0 where
   pub map : ℕ → Option (List ℕ)
   pub is : told ≡ Some map
@@ -106,6 +107,7 @@ pub record HasStored (s : Sizes) (v now : Room) (m : ℕ → Option (List ℕ)) 
   pub content : stream_of (record { id = first_block s n.address; sizes = s }) map ≡ bytes
   pub inode : IsInodeOf s.block_size n (contents map (first_block s n.address))
   pub written : AreWritten v old new (whole_at s (contents map) (first_block s n.address))
+  pub entered : (k : ℕ) → Has (whole_at s (contents map) (first_block s n.address)) k → new k ≡ true
 
 -- Why it was not: there is no block for the inode; or it was made, and its stream did not grow by so many blocks.
 abbrev pub IsNotStored : Sizes → Room → (ℕ → Option (List ℕ)) → ℕ → GrowFault → Type 0

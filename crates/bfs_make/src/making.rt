@@ -151,6 +151,7 @@ pub fn make_inode<E: Edits>(site: Site, edits: &mut E, new: NewInode) -> Result<
     requires inside { IsInVolume (sizes_of site.sup) new.address }
     ensures made { (m : ℕ → Option (List ℕ)) → E.told edits.old ≡ Some m → OnOk result (HasInode (sizes_of site.sup) new m (E.told edits.new)) }
     ensures changed { (k : ℕ) → E.changed edits.new k ≡ true → (E.changed edits.old k ≡ true) ⊎ (k ≡ first_block (sizes_of site.sup) new.address) }
+    ensures entered { OnOk result (E.changed edits.new (first_block (sizes_of site.sup) new.address) ≡ true) }
     ensures stays { StaysChanged (E.changed edits.old) (E.changed edits.new) }
     ensures size { E.size edits.new ≡ E.size edits.old }
     ensures frame { E.frame edits.new ≡ E.frame edits.old }

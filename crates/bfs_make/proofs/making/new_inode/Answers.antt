@@ -16,6 +16,7 @@ returns-in-Ok-make_inode-clause-made g c m is has =
     has_made s c.args.bitmap.now c.take_block.new.bitmap m n (g.E.Blocks.told c.take_block.new.edits) has took c.in-Ok.ensures.rest c.in-Ok.ensures.one (g.E.Blocks.told c.make_inode.new.edits) inode
     (g.E.Blocks.changed c.args.edits.now) (g.E.Blocks.changed c.take_block.new.edits) (g.E.Blocks.changed c.make_inode.new.edits) c.in-Ok.ensures.changed
     (subst (λ (x : NewInode). (k : ℕ) → g.E.Blocks.changed c.make_inode.new.edits k ≡ true → (g.E.Blocks.changed c.take_block.new.edits k ≡ true) ⊎ (k ≡ first_block s x.address)) made_as c.in-Ok-make_inode.ensures.changed)
+    (subst (λ (x : NewInode). g.E.Blocks.changed c.make_inode.new.edits (first_block s x.address) ≡ true) made_as c.in-Ok-make_inode.ensures.entered)
 
 pub returns-in-Err-make_inode-clause-no_run : goal.returns-in-Err-make_inode-clause-no_run
 returns-in-Err-make_inode-clause-no_run g c m is has = undamaged_run c.args.bitmap.now m 1 c.in-Err-make_inode.fault c.in-Err-make_inode.ensures.sound

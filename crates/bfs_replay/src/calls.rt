@@ -1,5 +1,5 @@
 // The disk calls of a recovery: a block is read, a block of the log is written home, the superblock is written.
-ghost use Rattle.std.specs.Prelude.{◌≡◌, ◌⊎◌, ◌≤◌, ◌<◌, ◌+◌, ◌*◌, ◌/◌, ◌++◌, [], ◌∷◌, ℕ, List, length, OnOk, OnErr, IfOk, IfSome, Bool, true};
+ghost use Rattle.std.specs.Prelude.{◌≡◌, ◌⊎◌, ◌≤◌, ◌<◌, ◌+◌, ◌*◌, ◌/◌, ◌++◌, [], ◌∷◌, ℕ, List, length, OnOk, OnErr, IfOk, IfSome, Bool, true, None};
 ghost use Rattle.bfs_base.specs.Counts.{HasCause};
 ghost use Rattle.bfs_base.specs.Images.{overwritten};
 ghost use Rattle.bfs_base.specs.Lists.{Has};
@@ -56,6 +56,7 @@ pub fn write_home<D: Disk>(
     ensures size { D.size disk.new ≡ D.size disk.old }
     ensures cause { HasCause (D.faults disk.old) (D.faults disk.new) result }
     ensures stops { D.stops disk.old ≤ D.stops disk.new }
+    ensures silent { D.state disk.old ≡ None → D.state disk.new ≡ None }
     ensures next { (quiet : Bool) (image : List ℕ) (all done : List Home) → IsLogOf image sup.now all → Has (home_places all) home → Tells (D.state disk.old) (Homing quiet (block_sectors sup.now) all done image)
         → OnOk result (Tells (D.state disk.new) (Homing quiet (block_sectors sup.now) all (done ++ record { place = home; bytes = blocks_of image (log_first (geometry_of sup.now) + at) } ∷ []) image)) }
     ensures time { (image : List ℕ) (all done : List Home) → IsLogOf image sup.now all → Has (home_places all) home → Tells (D.state disk.old) (Homing true (block_sectors sup.now) all done image)
@@ -88,6 +89,7 @@ fn write_super<D: Disk>(disk: &mut D, sector: &[u8; 512]) -> Result<(), Failed>
     ensures time { Elapses (D.state disk.old) result (D.clock disk.old) (D.clock disk.new) (D.since disk.old) (D.since disk.new) (MayLeave (told_written (D.state disk.old) 1 sector.now)) }
     ensures cause { HasCause (D.faults disk.old) (D.faults disk.new) result }
     ensures stops { D.stops disk.old ≤ D.stops disk.new }
+    ensures silent { D.state disk.old ≡ None → D.state disk.new ≡ None }
 {
     disk.write(1, sector)
 }
@@ -98,6 +100,7 @@ pub fn empty_log<D: Disk>(disk: &mut D, sup: &Super) -> Result<Super, Failed>
     ensures size { D.size disk.new ≡ D.size disk.old }
     ensures cause { HasCause (D.faults disk.old) (D.faults disk.new) result }
     ensures stops { D.stops disk.old ≤ D.stops disk.new }
+    ensures silent { D.state disk.old ≡ None → D.state disk.new ≡ None }
     ensures superblock { IfOk result (λ s. (s ≡ emptied sup.now) × (super_at (sector_of s) ≡ s)) }
     ensures done { (quiet : Bool) (r : ℕ) (image : List ℕ) (all : List Home) → Tells (D.state disk.old) (Homing quiet r all all image)
         → OnOk result (Tells (D.state disk.new) (Holds (overwritten 1 (sector_of (emptied sup.now)) (with_homes r all image)))) }

@@ -1,5 +1,5 @@
 // Writes the blocks that the log has home.
-ghost use Rattle.std.specs.Prelude.{◌≡◌, ◌≤◌, ◌<◌, ◌+◌, ◌++◌, [], ℕ, List, length, All, OnOk, IfErr, Bool, true};
+ghost use Rattle.std.specs.Prelude.{◌≡◌, ◌≤◌, ◌<◌, ◌+◌, ◌++◌, [], ℕ, List, length, All, OnOk, IfErr, Bool, true, None};
 ghost use Rattle.bfs_base.specs.Counts.{HasCause};
 ghost use Rattle.bfs_base.specs.Lists.{Has, counted_from};
 ghost use Rattle.bfs_base.specs.Moments.{Passed};
@@ -37,6 +37,7 @@ fn write_run<D: Disk>(
     ensures size { D.size disk.new ≡ D.size disk.old }
     ensures cause { HasCause (D.faults disk.old) (D.faults disk.new) result }
     ensures stops { D.stops disk.old ≤ D.stops disk.new }
+    ensures silent { D.state disk.old ≡ None → D.state disk.new ≡ None }
     ensures next { (quiet : Bool) (image : List ℕ) (all done : List Home) → IsLogOf image sup.now all → ((k : ℕ) → first ≤ k → k < first + len → Has (home_places all) k) → Tells (D.state disk.old) (Homing quiet (block_sectors sup.now) all done image)
         → OnOk result (Tells (D.state disk.new) (Homing quiet (block_sectors sup.now) all (done ++ homes_from (geometry_of sup.now) (blocks_of image) at (counted_from first len)) image)) }
     ensures time { (image : List ℕ) (all done : List Home) → IsLogOf image sup.now all → ((k : ℕ) → first ≤ k → k < first + len → Has (home_places all) k) → Tells (D.state disk.old) (Homing true (block_sectors sup.now) all done image)
@@ -69,6 +70,7 @@ pub fn write_runs<D: Disk>(
     ensures size { D.size disk.new ≡ D.size disk.old }
     ensures cause { HasCause (D.faults disk.old) (D.faults disk.new) result }
     ensures stops { D.stops disk.old ≤ D.stops disk.new }
+    ensures silent { D.state disk.old ≡ None → D.state disk.new ≡ None }
     ensures next { (quiet : Bool) (image : List ℕ) (all done : List Home) → IsLogOf image sup.now all → ((k : ℕ) → Has (blocks_in (geometry_of sup.now) runs.now) k → Has (home_places all) k) → Tells (D.state disk.old) (Homing quiet (block_sectors sup.now) all done image)
         → OnOk result (Tells (D.state disk.new) (Homing quiet (block_sectors sup.now) all (done ++ homes_from (geometry_of sup.now) (blocks_of image) at (blocks_in (geometry_of sup.now) runs.now)) image)) }
     ensures time { (image : List ℕ) (all done : List Home) → IsLogOf image sup.now all → ((k : ℕ) → Has (blocks_in (geometry_of sup.now) runs.now) k → Has (home_places all) k) → Tells (D.state disk.old) (Homing true (block_sectors sup.now) all done image)
@@ -101,6 +103,7 @@ pub fn write_homes<D: Disk>(
     ensures later { D.faults disk.old ≤ D.faults disk.new }
     ensures cause { IfErr result (HasRisen (D.faults disk.old) (D.faults disk.new)) }
     ensures stops { D.stops disk.old ≤ D.stops disk.new }
+    ensures silent { D.state disk.old ≡ None → D.state disk.new ≡ None }
     ensures next { (quiet : Bool) (image : List ℕ) (log : HasEntriesIn image sup.now) → IsLogOf image sup.now (homes_of log.0) → Tells (D.state disk.old) (Homing quiet (block_sectors sup.now) (homes_of log.0) [] image)
         → OnOk result (Tells (D.state disk.new) (Homing quiet (block_sectors sup.now) (homes_of log.0) (homes_of log.0) image)) }
     ensures time { (image : List ℕ) (log : HasEntriesIn image sup.now) → IsLogOf image sup.now (homes_of log.0) → Tells (D.state disk.old) (Homing true (block_sectors sup.now) (homes_of log.0) [] image)

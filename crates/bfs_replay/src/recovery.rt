@@ -1,5 +1,5 @@
 // Recovers a volume.
-ghost use Rattle.std.specs.Prelude.{◌≡◌, ◌≢◌, ◌≤◌, ◌<◌, ◌^◌, ℕ, List, length, Bool, IfOk, IfErr};
+ghost use Rattle.std.specs.Prelude.{◌≡◌, ◌≢◌, ◌≤◌, ◌<◌, ◌^◌, ℕ, List, length, Bool, IfOk, IfErr, None};
 ghost use Rattle.bfs_base.specs.Counts.{Rose};
 ghost use Rattle.bfs_base.specs.Moments.{Passed};
 ghost use Rattle.bfs_disk.specs.State.{State, ReadsAs, Tells, Holds};
@@ -130,6 +130,7 @@ fn replay_log<D: Disk>(disk: &mut D, sup: &Super, array: &mut [u8], buffer: &mut
     ensures later { D.faults disk.old ≤ D.faults disk.new }
     ensures cause { result ≡ Ending.Failed → Rose (D.faults disk.old) (D.faults disk.new) }
     ensures stops { D.stops disk.old ≤ D.stops disk.new }
+    ensures silent { D.state disk.old ≡ None → D.state disk.new ≡ None }
 {
     match check_log(disk, sup, array) {
         Ok(()) => {}
@@ -159,6 +160,7 @@ fn replay<D: Disk>(disk: &mut D, array: &mut [u8], buffer: &mut [u8]) -> Ending
     ensures later { D.faults disk.old ≤ D.faults disk.new }
     ensures cause { result ≡ Ending.Failed → Rose (D.faults disk.old) (D.faults disk.new) }
     ensures stops { D.stops disk.old ≤ D.stops disk.new }
+    ensures silent { D.state disk.old ≡ None → D.state disk.new ≡ None }
 {
     let sup = match load(disk) {
         Loaded::Volume(sup) => sup,
@@ -207,6 +209,7 @@ pub fn recover<D: Disk>(alloc: Global, disk: &mut D) -> Result<Super, MountFault
     ensures later { D.faults disk.old ≤ D.faults disk.new }
     ensures cause { IfErr result (HasCauseIn (D.faults disk.old) (D.faults disk.new)) }
     ensures stops { D.stops disk.old ≤ D.stops disk.new }
+    ensures silent { D.state disk.old ≡ None → D.state disk.new ≡ None }
 {
     let Ok(mut array) = zeros(alloc, 8192) else {
         return Err(MountFault::NoMemory);

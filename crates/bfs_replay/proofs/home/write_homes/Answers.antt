@@ -19,6 +19,7 @@ loop-at-init g c = record {
   later = omega arith;
   stops = omega arith;
   size = refl;
+  silent = λ none. none;
   way = λ quiet image log is_log known. between_start image c.args.sup.now c.log_start-at.result (g.D.Disk.state c.args.disk.now) log c.log_start-at.ensures.value known;
   time = λ image log is_log known. passed_none _ _ _;
 }
@@ -64,6 +65,7 @@ loop-at-preserved g c = record {
   later = omega (arith, c.loop-at.invariant.later, c.in-Ok.ensures.later, c.in-Ok-write_runs.ensures.cause.later);
   stops = omega (arith, c.loop-at.invariant.stops, c.in-Ok.ensures.stops, c.in-Ok-write_runs.ensures.stops);
   size = c.in-Ok-write_runs.ensures.size ∙ c.in-Ok.ensures.size ∙ c.loop-at.invariant.size;
+  silent = λ none. c.in-Ok-write_runs.ensures.silent (c.in-Ok.ensures.state ∙ c.loop-at.invariant.silent none);
   way = λ quiet image log is_log known.
       let s = c.args.sup.now in
       let l = c.loop-at in

@@ -1,4 +1,4 @@
-use Rattle.std.proofs.Common.{◌≡◌, ◌≤◌, ◌<◌, [], ℕ, List, length, Bool, true}
+use Rattle.std.proofs.Common.{◌≡◌, ◌≤◌, ◌<◌, [], ℕ, List, length, Bool, true, None}
 use Rattle.bfs_base.specs.Moments.{Passed}
 use Rattle.bfs_disk.specs.State.{Tells}
 use Rattle.bfs_log.specs.Ring.{in_use}
@@ -19,6 +19,7 @@ invariant-loop-at g l = record {
       → Between quiet image l.sup log.0 l.at (g.D.Disk.state l.disk);
   time : (image : List ℕ) (log : HasEntriesIn image l.sup) → IsLogOf image l.sup (homes_of log.0) → Tells (g.D.Disk.state l.fn.disk) (Homing true (block_sectors l.sup) (homes_of log.0) [] image)
       → Passed (g.D.Disk.clock l.fn.disk) (g.D.Disk.clock l.disk) (g.D.Disk.since l.fn.disk) (g.D.Disk.since l.disk) (AgreeBut (block_sectors l.sup) (homes_of log.0) image);
+  silent : g.D.Disk.state l.fn.disk ≡ None → g.D.Disk.state l.disk ≡ None;
 }
 
 abbrev pub decreases-loop-at : goal.decreases-loop-at

@@ -27,6 +27,7 @@ loop-i-preserved g c =
       later = omega (arith, l.invariant.later, c.in-Ok.ensures.cause.later);
       stops = omega (arith, l.invariant.stops, c.in-Ok.ensures.stops);
       size = c.in-Ok.ensures.size ∙ l.invariant.size;
+      silent = λ none. c.in-Ok.ensures.silent (l.invariant.silent none);
       next = λ quiet image all done log has known.
           let f = blocks_of image in
           let hs = done ++ homes_from (geometry_of s) f c.args.at (counted_from c.args.first l.i) in

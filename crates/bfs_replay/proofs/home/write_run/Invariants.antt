@@ -1,4 +1,4 @@
-use Rattle.std.proofs.Common.{◌≡◌, ◌≤◌, ◌<◌, ◌+◌, ◌++◌, ℕ, List, length, Bool, true}
+use Rattle.std.proofs.Common.{◌≡◌, ◌≤◌, ◌<◌, ◌+◌, ◌++◌, ℕ, List, length, Bool, true, None}
 use Rattle.bfs_base.specs.Lists.{Has, counted_from}
 use Rattle.bfs_base.specs.Moments.{Passed}
 use Rattle.bfs_disk.specs.State.{Tells}
@@ -19,4 +19,5 @@ invariant-loop-i g l = record {
   time : (image : List ℕ) (all done : List Home) → IsLogOf image l.sup all → ((k : ℕ) → l.first ≤ k → k < l.first + l.len → Has (home_places all) k)
       → Tells (g.D.Disk.state l.fn.disk) (Homing true (block_sectors l.sup) all done image)
       → Passed (g.D.Disk.clock l.fn.disk) (g.D.Disk.clock l.disk) (g.D.Disk.since l.fn.disk) (g.D.Disk.since l.disk) (AgreeBut (block_sectors l.sup) all image);
+  silent : g.D.Disk.state l.fn.disk ≡ None → g.D.Disk.state l.disk ≡ None;
 }

@@ -57,6 +57,7 @@ loop-run-preserved g c =
       later = omega (arith, l.invariant.later, c.in-Ok.ensures.cause.later);
       stops = omega (arith, l.invariant.stops, c.in-Ok.ensures.stops);
       size = c.in-Ok.ensures.size ∙ l.invariant.size;
+      silent = λ none. c.in-Ok.ensures.silent (l.invariant.silent none);
       next = λ quiet image all done log has known.
           let f = blocks_of image in
           let hs = done ++ homes_from geo f c.args.at xs in

@@ -1,0 +1,171 @@
+-- A call of a space over a device that was lent.
+use Rattle.std.proofs.Common.{◌≡◌, ◌≢◌, ◌++◌, inl, ℕ, List, [], ◌∷◌, Bool, true, false, Option, Some, None, Result, Ok, Err, OnErr, IfOk, refl, sym, ◌∙◌, ap, subst}
+use Rattle.std.specs.Prelude.{◌||◌}
+use Rattle.std.specs.List.{list_any}
+use Rattle.std.proofs.lemmas.Bool.{true≢false}
+use Rattle.bfs_super.specs.declared.sup.Super.{Super}
+use Rattle.bfs_device.specs.Ahead.{geometry_with}
+use Rattle.std.specs.Option.{option_map}
+use Rattle.std.specs.declared.alloc.AllocError.{AllocError}
+use Rattle.bfs_disk.specs.State.{State, Tells}
+use Rattle.bfs_txn.specs.Changed.{over}
+use Rattle.bfs_txn.specs.Faults.{Counts}
+use Rattle.bfs_bitmap.specs.Runs.{Fits}
+use Rattle.bfs_tree.specs.declared.call.Call.{Call}
+use Rattle.bfs_tree.specs.declared.call.Call.TheVariants as calls
+use Rattle.bfs_tree.specs.declared.reply.Reply.{Reply}
+use Rattle.bfs_tree.specs.declared.reply.Reply.TheVariants as replies
+use Rattle.bfs_tree.specs.declared.reply.Entry.{Entry}
+use Rattle.bfs_tree.specs.Histories.{Mounted, Follows, is_stop, state_after}
+use Rattle.bfs_tree.specs.Steps.{next}
+use Rattle.bfs_device.specs.Books.{AreSame, Books}
+use Rattle.bfs_device.specs.Data.{IsRested}
+use Rattle.bfs_core.specs.Spaces.{SpaceView, Entered}
+use Rattle.bfs_core.specs.Cores.{Core, IsKnown, newest_map}
+use Rattle.bfs_core.specs.Moments.{IsLessTouched}
+use Rattle.bfs_core.proofs.Calls.{read_ahead, read_stops}
+use Rattle.bfs_core.proofs.Onward.{core_ahead, core_entered, same_size}
+use Rattle.bfs_device_blocks.specs.Lent.{HasCore}
+use Rattle.bfs_device_blocks.proofs.Facing.{core_stands}
+use Rattle.bfs_device_blocks.proofs.Going.{right_rested, steady_rested}
+use Rattle.bfs_device_blocks.proofs.Holding.{hold_entered}
+use Rattle.bfs_space.specs.Books.{SpaceBooks, entry_noted}
+use Rattle.bfs_space.specs.Faces.{IsFaceOf, HasFace, HasEntered, HasReplied, IsOutcome, HasOutcome}
+use Rattle.bfs_space.specs.declared.space.Outcome.{Outcome}
+use Rattle.bfs_space.specs.declared.space.Outcome.TheVariants.{Replied, Drain}
+use Rattle.bfs_space.proofs.Stops.{caused_no_stop}
+use Rattle.bfs_volume.specs.Volumes.{AreFitted, AreJoined, Stands}
+use Rattle.bfs_volume.proofs.Joined.{fitted_ahead, going_more}
+use Rattle.bfs_volume.proofs.Noting.{turn_unsynced}
+
+-- ---- what a device tells its space
+
+pub size_is : (sp : SpaceBooks) (b : Books) → AreFitted sp.view b → b.sup.block_size ≡ sp.view.sup.block_size
+size_is sp b fitted = same_size sp.view.sup b.sup fitted.geometry
+
+face_stands : (sp : SpaceBooks) (b : Books) (st : State) (s : Stands sp b st) → IsFaceOf s.t0 sp (newest_map b st)
+face_stands sp b st s =
+    let over_it = core_stands s.t0 sp.view b (Some st) (newest_map b st) (st, refl, (s.touched, s.core)) refl in
+    record { sound = s.core.space; told = over_it.told; fits = s.fits }
+
+pub faced : (sp : SpaceBooks) (b : Books) (told : Option State) (m : ℕ → Option (List ℕ)) → AreJoined sp b told → option_map (newest_map b) told ≡ Some m → HasFace sp m
+faced sp b None m joined at = absurd (let bad : None ≡ Some m = at in cc)
+faced sp b (Some st) m joined at =
+    let e : Some (newest_map b st) ≡ Some m = at in
+    let is : newest_map b st ≡ m = cc in
+    let s = joined.stands st refl in
+    subst (HasFace sp) is (record { t0 = s.t0; face = face_stands sp b st s })
+
+-- ---- reads alone
+
+same_told : (b new : Books) (st : State) → IsRested b new → newest_map new st ≡ newest_map b st
+same_told b new st rests = subst (λ (x : Books). newest_map x st ≡ newest_map b st) (sym rests) refl
+
+stands_rested : (sp : SpaceBooks) (b new : Books) (st : State) → IsRested b new → Stands sp b st → Stands sp new st
+stands_rested sp b new st rests s =
+    let less : IsLessTouched b new s.touched s.touched = record { fewer = λ k is. is; barrier = inl (ap (λ (x : Books). x.left) rests) } in
+    let versions : AreSame b st new st = subst (λ (x : Books). AreSame b st x st) (sym rests) (λ n is k d. refl) in
+    record {
+      t0 = s.t0;
+      touched = s.touched;
+      core = core_ahead s.t0 sp.view b new s.touched s.touched st st s.core (steady_rested b new rests s.core.steady) (read_ahead b new rests) (right_rested b new rests s.touched st s.core.right) versions less (read_stops b new rests);
+      fits = subst (λ (m : ℕ → Option (List ℕ)). Fits sp.room (over sp.view.group m)) (sym (same_told b new st rests)) s.fits;
+    }
+
+joined_rested : (sp : SpaceBooks) (b new : Books) (told told' : Option State) → IsRested b new → told' ≡ told → AreJoined sp b told → AreJoined sp new told'
+joined_rested sp b new told told' rests same joined = record {
+  fitted = fitted_ahead sp.view b new joined.fitted (read_ahead b new rests) (read_stops b new rests);
+  stands = λ st is. stands_rested sp b new st rests (joined.stands st (sym same ∙ is));
+}
+
+-- ---- an entry of a call
+
+or_right : (a b : Bool) → (a || b) ≡ false → b ≡ false
+or_right true b is = absurd (true≢false is)
+or_right false b is = is
+
+or_left : (a b : Bool) → (a || b) ≡ false → a ≡ false
+or_left true b is = absurd (true≢false is)
+or_left false b is = refl
+
+last_quiet : (history : List Entry) (e : Entry) → list_any (λ (x : Entry). is_stop x.reply) (history ++ e ∷ []) ≡ false → is_stop e.reply ≡ false
+last_quiet [] e none = or_left (is_stop e.reply) false none
+last_quiet (x ∷ xs) e none = last_quiet xs e (or_right (is_stop x.reply) (list_any (λ (y : Entry). is_stop y.reply) (xs ++ e ∷ [])) none)
+
+-- the entry is known to the device
+entered_known : (t0 : Mounted) (old new : SpaceView) (b : Books) (m : ℕ → Option (List ℕ)) (e : Entry) → e.call ≢ calls.Sync → Entered t0 old new m e → (b.stop ≡ None → list_any (λ (x : Entry). is_stop x.reply) new.history ≡ false) → IsKnown b e
+entered_known t0 old new b m e other entered going = (
+  (λ upto is. absurd (turn_unsynced e.session e.stamp e.call e.reply (state_after t0 old.history) (next (state_after t0 old.history) e) other entered.follows.step upto is)),
+  λ none. last_quiet old.history e (subst (λ (h : List Entry). list_any (λ (x : Entry). is_stop x.reply) h ≡ false) entered.history (going none)),
+)
+
+module _ (sp space : SpaceBooks) (b new : Books) (told told' : Option State) (session tag now : ℕ) (call : Call) (result : Result Outcome AllocError) (old_counts counts : Counts) (rests : IsRested b new) (same : told' ≡ told) (no_sync : call ≢ calls.Sync)
+    (noted : IfOk result (HasOutcome old_counts counts sp space session tag now call)) (unchanged : OnErr result (space ≡ sp))
+    (entered : (t0 : Mounted) (m : ℕ → Option (List ℕ)) → option_map (newest_map b) told ≡ Some m → IsFaceOf t0 sp m → IfOk result (IsOutcome t0 sp space m session tag now call)) where
+  replied_fitted : HasReplied old_counts counts sp space session tag now call → AreFitted sp.view new → AreFitted space.view new
+  replied_fitted r fitted = record {
+    geometry = λ used. fitted.geometry used ∙ ap (λ (s : Super). geometry_with s used) (sym r.same.sup);
+    sealed = fitted.sealed ∙ sym r.same.sealed;
+    sealed_used = r.same.sealed_used ∙ fitted.sealed_used;
+    idle = λ none. (let i = r.idle none in i.1 ∙ fitted.idle i.0);
+    going = λ none. subst (λ (h : List Entry). list_any (λ (x : Entry). is_stop x.reply) h ≡ false) (sym r.history)
+        (going_more sp.view.history (entry_noted sp session tag now call r.reply) (caused_no_stop old_counts counts sp.stop r.reply r.cause) (fitted.going none));
+  }
+
+  -- what was entered on what the disk tells
+  replied_stands : (st : State) → AreFitted space.view new → (s : Stands sp b st) → HasEntered s.t0 sp space (newest_map b st) session tag now call → Stands sp new st → Stands space new st
+  unfolding stands_rested
+  replied_stands st fitted s e after =
+      let map_is = same_told b new st rests in
+      let entry : Entry = entry_noted sp session tag now call e.reply in
+      let en : Entered s.t0 sp.view space.view (newest_map new st) entry = subst (λ (m : ℕ → Option (List ℕ)). Entered s.t0 sp.view space.view m entry) (sym map_is) e.entered in
+      let core : Core s.t0 sp.view new s.touched st = (stands_rested sp b new st rests s).core in
+      record {
+        t0 = s.t0;
+        touched = s.touched;
+        core = core_entered s.t0 sp.view space.view new s.touched st entry core en (entered_known s.t0 sp.view space.view new (newest_map b st) entry no_sync e.entered fitted.going);
+        fits = subst (λ (m : ℕ → Option (List ℕ)). Fits space.room (over space.view.group m)) (sym map_is) e.face.fits;
+      }
+
+  pub joined_asked : AreJoined sp b told → AreJoined space new told'
+  joined_asked joined = by_result result noted unchanged entered
+    where
+      still : AreJoined sp new told'
+      still = joined_rested sp b new told told' rests same joined
+
+      by_result : (r : Result Outcome AllocError) → IfOk r (HasOutcome old_counts counts sp space session tag now call) → OnErr r (space ≡ sp)
+          → ((t0 : Mounted) (m : ℕ → Option (List ℕ)) → option_map (newest_map b) told ≡ Some m → IsFaceOf t0 sp m → IfOk r (IsOutcome t0 sp space m session tag now call)) → AreJoined space new told'
+      by_result (Err e) noted unchanged entered = subst (λ (x : SpaceBooks). AreJoined x new told') (sym unchanged) still
+      by_result (Ok (Drain back)) noted unchanged entered = subst (λ (x : SpaceBooks). AreJoined x new told') (sym noted.1) still
+      by_result (Ok Replied) noted unchanged entered =
+          let fitted = replied_fitted noted still.fitted in
+          record {
+            fitted = fitted;
+            stands = λ st is.
+                let was : told ≡ Some st = sym same ∙ is in
+                let s = joined.stands st was in
+                replied_stands st fitted s (entered s.t0 (newest_map b st) (ap (option_map (newest_map b)) was) (face_stands sp b st s)) (still.stands st is);
+          }
+
+  -- Core, where it held once the device was given back
+  pub core_asked : (t0 : Mounted) (adopted clock : ℕ) (since : ℕ → List ℕ → Type 0) → AreJoined sp b told → HasCore t0 adopted sp.view new told' clock since → HasCore t0 adopted space.view new told' clock since
+  core_asked t0 adopted clock since joined core = by_result result noted unchanged entered
+    where
+      by_result : (r : Result Outcome AllocError) → IfOk r (HasOutcome old_counts counts sp space session tag now call) → OnErr r (space ≡ sp)
+          → ((t0 : Mounted) (m : ℕ → Option (List ℕ)) → option_map (newest_map b) told ≡ Some m → IsFaceOf t0 sp m → IfOk r (IsOutcome t0 sp space m session tag now call)) → HasCore t0 adopted space.view new told' clock since
+      by_result (Err e) noted unchanged entered = subst (λ (x : SpaceBooks). HasCore t0 adopted x.view new told' clock since) (sym unchanged) core
+      by_result (Ok (Drain back)) noted unchanged entered = subst (λ (x : SpaceBooks). HasCore t0 adopted x.view new told' clock since) (sym noted.1) core
+      by_result (Ok Replied) noted unchanged entered =
+          let st = core.0.0 in
+          let now_is : told' ≡ Some st = core.0.1 in
+          let was : told ≡ Some st = sym same ∙ now_is in
+          let map_is = same_told b new st rests in
+          let over_it = core_stands t0 sp.view new (Some st) (newest_map new st) (st, refl, core.0.2) refl in
+          let fits = (joined.stands st was).fits in
+          let face : IsFaceOf t0 sp (newest_map b st) = subst (IsFaceOf t0 sp) map_is (record { sound = over_it.sound; told = over_it.told; fits = subst (λ (m : ℕ → Option (List ℕ)). Fits sp.room (over sp.view.group m)) (sym map_is) fits }) in
+          let e = entered t0 (newest_map b st) (ap (option_map (newest_map b)) was) face in
+          let entry : Entry = entry_noted sp session tag now call e.reply in
+          let fitted = replied_fitted noted (joined_rested sp b new told told' rests same joined).fitted in
+          hold_entered t0 adopted sp.view new told' clock since space.view entry
+          (λ x is. subst (λ (m : ℕ → Option (List ℕ)). Entered t0 sp.view space.view m entry) (sym map_is ∙ ap (newest_map new) (let q : Some st ≡ Some x = sym now_is ∙ is in let d : st ≡ x = cc in d)) e.entered)
+          (entered_known t0 sp.view space.view new (newest_map b st) entry no_sync e.entered fitted.going) core

@@ -1,0 +1,140 @@
+-- A space and a device stay joined over their events, by their numbers and on what the disk tells.
+use Rattle.std.proofs.Common.{◌≡◌, ◌≢◌, ◌≤◌, ◌<◌, ◌+◌, ◌++◌, inl, inr, ℕ, List, [], ◌∷◌, length, Bool, true, false, Option, Some, None, Result, Ok, Err, OnOk, OnErr, IfOk, refl, sym, ◌∙◌, ap, subst, arith}
+use Rattle.std.specs.List.{list_any}
+use Rattle.std.specs.Option.{option_map}
+use Rattle.bfs_disk.specs.State.{State, Tells}
+use Rattle.bfs_bitmap.specs.Runs.{Room, Fits}
+use Rattle.bfs_txn.specs.Changed.{over}
+use Rattle.bfs_txn.specs.declared.group.Group.{Group}
+use Rattle.bfs_tree.specs.declared.reply.Entry.{Entry}
+use Rattle.bfs_tree.specs.Histories.{Mounted, is_stop}
+use Rattle.bfs_device.specs.Layouts.{layout_of}
+use Rattle.bfs_device.specs.Books.{Books, IsRight, IsNext, IsSealed, AreSame, sealed_of}
+use Rattle.bfs_device.specs.Seals.{last_used, sealed_with}
+use Rattle.bfs_device.specs.Ahead.{IsSteady, GoesOn}
+use Rattle.bfs_device.specs.declared.journal.Stop.{Stop}
+use Rattle.bfs_device.proofs.Sealing.{sealed_last, sealed_used}
+use Rattle.bfs_core.specs.Spaces.{SpaceView, Entered, IsGroupFor, sealed_space, released_space}
+use Rattle.bfs_core.specs.Cores.{Core, IsKnown, newest_map}
+use Rattle.bfs_core.specs.Moments.{DeviceMoves}
+use Rattle.bfs_core.proofs.Onward.{core_ahead, core_entered, core_released, same_layout, same_newest, same_size}
+use Rattle.bfs_core.proofs.Seals.{core_sealed}
+use Rattle.bfs_device_blocks.proofs.Facing.{sealed_newest}
+use Rattle.bfs_space.specs.Books.{SpaceBooks, KnowsStop, sealed_room, released_room}
+use Rattle.bfs_space.proofs.Stops.{stop_kept}
+use Rattle.bfs_volume.specs.Volumes.{AreFitted, AreJoined, Stands}
+
+-- ---- numbers
+
+pub fitted_ahead : (sp : SpaceView) (b new : Books) → AreFitted sp b → GoesOn b new → (new.stop ≡ None → b.stop ≡ None) → AreFitted sp new
+fitted_ahead sp b new fitted on stops = record {
+  geometry = λ used. on.geometry used ∙ fitted.geometry used;
+  sealed = on.sealed ∙ fitted.sealed;
+  sealed_used = fitted.sealed_used ∙ sym on.last_used;
+  idle = λ none. fitted.idle none ∙ sym on.last_used;
+  going = λ none. fitted.going (stops none);
+}
+
+pub fitted_released : (n : ℕ) (sp : SpaceView) (b : Books) → AreFitted sp b → AreFitted (released_space n sp) b
+fitted_released n sp b fitted = record { geometry = fitted.geometry; sealed = fitted.sealed; sealed_used = fitted.sealed_used; idle = fitted.idle; going = fitted.going }
+
+pub fitted_next : (sp : SpaceView) (b : Books) (g : Group) → AreFitted sp b → IsGroupFor sp g → IsNext (layout_of b.sup) b.sup.block_size (sealed_of b) (last_used b) g
+fitted_next sp b g fitted group = record {
+  follows = group.first ∙ ap (λ (n : ℕ). n + 1) (sym fitted.sealed);
+  sealed = subst (λ l. IsSealed l b.sup.block_size g) (sym (same_layout sp.sup b.sup fitted.geometry)) (subst (λ (n : ℕ). IsSealed (layout_of sp.sup) n g) (sym (same_size sp.sup b.sup fitted.geometry)) group.sealed);
+  same_used = λ none. group.used ∙ fitted.idle (sym group.blocks ∙ none);
+}
+
+pub fitted_sealed : (sp : SpaceView) (b : Books) (g : Group) → AreFitted sp b → IsGroupFor sp g → AreFitted (sealed_space sp) (sealed_with b g)
+fitted_sealed sp b g fitted group = record {
+  geometry = fitted.geometry;
+  sealed = sealed_last b g ∙ group.last;
+  sealed_used = sym (sealed_used b g ∙ group.used);
+  idle = λ none. sym (sealed_used b g ∙ group.used);
+  going = fitted.going;
+}
+
+-- one entry more, which tells of no stop, or of a device that has stopped
+pub going_more : (history : List Entry) (e : Entry) → is_stop e.reply ≡ false → list_any (λ (x : Entry). is_stop x.reply) history ≡ false → list_any (λ (x : Entry). is_stop x.reply) (history ++ e ∷ []) ≡ false
+going_more history e none quiet = let k : KnowsStop history None = quiet in stop_kept history e None none k
+
+-- ---- what the disk tells
+
+stands_ahead : (sp : SpaceBooks) (b new : Books) (u : ℕ → Bool) (st next : State) (s : Stands sp b st) → IsSteady new → GoesOn b new → IsRight new u next → AreSame b st new next → Core s.t0 sp.view new u next → Stands sp new next
+stands_ahead sp b new u st next s steady on right same core = record {
+  t0 = s.t0;
+  touched = u;
+  core = core;
+  fits = subst (λ (m : ℕ → Option (List ℕ)). Fits sp.room (over sp.view.group m)) (sym (same_newest b new st next steady on same)) s.fits;
+}
+
+pub stands_moved : (sp : SpaceBooks) (b new : Books) (told told' : Option State) (clock clock' : ℕ) (past since : ℕ → List ℕ → Type 0) → DeviceMoves b new told told' clock clock' past since → ((st : State) → told' ≡ Some st → (was : State) × (told ≡ Some was))
+    → ((st : State) → told ≡ Some st → Stands sp b st) → (st : State) → told' ≡ Some st → Stands sp new st
+stands_moved sp b new told told' clock clock' past since moves before stands st is =
+    let was = before st is in
+    let s = stands was.0 was.1 in
+    let got = moves.right s.touched (was.0, was.1, s.core.right) in
+    let e : Some st ≡ Some got.right.0 = sym is ∙ got.right.1 in
+    let same : st ≡ got.right.0 = cc in
+    subst (Stands sp new) (sym same)
+    (stands_ahead sp b new got.touched was.0 got.right.0 s moves.steady moves.ahead got.right.2.0 got.right.2.1
+    (core_ahead s.t0 sp.view b new s.touched got.touched was.0 got.right.0 s.core moves.steady moves.ahead got.right.2.0 got.right.2.1 got.less moves.stops))
+
+-- the space frees what has left the log
+pub stands_released : (sp : SpaceBooks) (b : Books) (st : State) (room : Room) (left : ℕ) → ((m : ℕ → Option (List ℕ)) → Fits sp.room m → Fits room m) → Stands sp b st
+    → Stands (record sp { view = released_space b.left sp.view; room = room; left = left }) b st
+stands_released sp b st room left fits s = record { t0 = s.t0; touched = s.touched; core = core_released s.t0 sp.view b s.touched st s.core; fits = fits (over sp.view.group (newest_map b st)) s.fits }
+
+pub stands_sealed : (sp : SpaceBooks) (b : Books) (g : Group) (st : State) (room : Room) → IsGroupFor sp.view g → ((m : ℕ → Option (List ℕ)) → Fits sp.room m → Fits room m) → Stands sp b st
+    → Stands (record sp { view = sealed_space sp.view; room = room }) (sealed_with b g) st
+stands_sealed sp b g st room group fits s = record {
+  t0 = s.t0;
+  touched = s.touched;
+  core = core_sealed s.t0 sp.view b s.touched st g s.core group;
+  fits = subst (Fits room) (sym (λ i k. sealed_newest s.t0 sp.view b s.touched st g s.core group k i)) (fits (over sp.view.group (newest_map b st)) s.fits);
+}
+
+-- ---- events
+
+pub joined_stepped : (sp space : SpaceBooks) (b new : Books) (told told' : Option State) (clock clock' : ℕ) (past since : ℕ → List ℕ → Type 0) (left most : ℕ) (room : Room) → DeviceMoves b new told told' clock clock' past since
+    → ((st : State) → told' ≡ Some st → (was : State) × (told ≡ Some was)) → left ≡ new.left → space ≡ record sp { view = released_space left sp.view; room = room; left = most } → ((m : ℕ → Option (List ℕ)) → Fits sp.room m → Fits space.room m)
+    → AreJoined sp b told → AreJoined space new told'
+joined_stepped sp space b new told told' clock clock' past since left most room moves before at is fits joined =
+    subst (λ (x : SpaceBooks). ((m : ℕ → Option (List ℕ)) → Fits sp.room m → Fits x.room m) → AreJoined x new told') (sym (is ∙ ap (λ (n : ℕ). (let y : SpaceBooks = record sp { view = released_space n sp.view; room = room; left = most } in y)) at))
+    (λ fits. record {
+      fitted = fitted_released new.left sp.view new (fitted_ahead sp.view b new joined.fitted moves.ahead moves.stops);
+      stands = λ st told_st. stands_released sp new st room most fits (stands_moved sp b new told told' clock clock' past since moves before joined.stands st told_st);
+    }) fits
+
+-- a call of the device by which nothing has left: a read, or room
+pub joined_moved : (sp : SpaceBooks) (b new : Books) (told told' : Option State) (clock clock' : ℕ) (past since : ℕ → List ℕ → Type 0) → DeviceMoves b new told told' clock clock' past since
+    → ((st : State) → told' ≡ Some st → (was : State) × (told ≡ Some was)) → AreJoined sp b told → AreJoined sp new told'
+joined_moved sp b new told told' clock clock' past since moves before joined = record {
+  fitted = fitted_ahead sp.view b new joined.fitted moves.ahead moves.stops;
+  stands = λ st told_st. stands_moved sp b new told told' clock clock' past since moves before joined.stands st told_st;
+}
+
+pub joined_sealed : (sp space : SpaceBooks) (b new : Books) (g : Group) (told : Option State) (room : Room) → IsGroupFor sp.view g → space ≡ record sp { view = sealed_space sp.view; room = room } → new ≡ sealed_with b g
+    → ((m : ℕ → Option (List ℕ)) → Fits sp.room m → Fits space.room m) → AreJoined sp b told → AreJoined space new told
+joined_sealed sp space b new g told room group is also fits joined =
+    subst (λ (x : Books). AreJoined space x told) (sym also)
+    (subst (λ (x : SpaceBooks). ((m : ℕ → Option (List ℕ)) → Fits sp.room m → Fits x.room m) → AreJoined x (sealed_with b g) told) (sym is)
+    (λ fits. record {
+      fitted = fitted_sealed sp.view b g joined.fitted group;
+      stands = λ st told_st. stands_sealed sp b g st room group fits (joined.stands st told_st);
+    }) fits)
+
+-- promises are no part of it
+same_promised : (sp space : SpaceBooks) (promised : List ℕ) (b : Books) (told : Option State) → space ≡ record sp { promised = promised } → AreJoined sp b told → AreJoined space b told
+same_promised sp space promised b told is joined = subst (λ (x : SpaceBooks). AreJoined x b told) (sym is) (record { fitted = joined.fitted; stands = λ st at. (let s = joined.stands st at in record { t0 = s.t0; touched = s.touched; core = s.core; fits = s.fits }) })
+
+pub joined_unpromised : (sp space : SpaceBooks) (promised : List ℕ) (b : Books) (told : Option State) → space ≡ record sp { promised = promised } → AreJoined sp b told → AreJoined space b told
+joined_unpromised = same_promised
+
+pub joined_promised : {E : Type 0} (result : Result Unit E) (sp space : SpaceBooks) (promised : List ℕ) (b : Books) (told : Option State) → OnOk result (space ≡ record sp { promised = promised }) → OnErr result (space ≡ sp) → AreJoined sp b told → AreJoined space b told
+joined_promised (Ok done) sp space promised b told ok err joined = same_promised sp space promised b told ok joined
+joined_promised (Err e) sp space promised b told ok err joined = subst (λ (x : SpaceBooks). AreJoined x b told) (sym err) joined
+
+pub view_promised : {E : Type 0} (result : Result Unit E) (sp space : SpaceBooks) (promised : List ℕ) → OnOk result (space ≡ record sp { promised = promised }) → OnErr result (space ≡ sp) → space.view ≡ sp.view
+view_promised (Ok done) sp space promised ok err = ap (λ (x : SpaceBooks). x.view) ok
+view_promised (Err e) sp space promised ok err = ap (λ (x : SpaceBooks). x.view) err

@@ -1,0 +1,6 @@
+pub mod Told
+pub mod Joined
+pub mod Noting
+pub mod Asked
+pub mod Opened
+pub mod Closed

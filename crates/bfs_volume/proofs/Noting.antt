@@ -1,0 +1,114 @@
+-- Entries of a volume: what may follow, and what the device knows of them.
+use Rattle.std.proofs.Common.{◌≡◌, ◌≢◌, ◌≤◌, ◌<◌, ◌+◌, ◌++◌, ℕ, ℤ, List, [], ◌∷◌, length, Bool, true, false, cond, ◌==◌, Option, Some, None, refl, sym, ◌∙◌, ap, subst, arith}
+use Rattle.std.specs.Prelude.{IsTrue}
+use Rattle.std.specs.List.{list_any}
+use Rattle.std.proofs.lemmas.Bool.{true≢false}
+use Rattle.std.proofs.lemmas.Grind.{fold-append}
+use Rattle.bfs_tree.specs.declared.call.Call.{Call}
+use Rattle.bfs_tree.specs.declared.call.Call.TheVariants as calls
+use Rattle.bfs_tree.specs.declared.reply.Reply.{Reply}
+use Rattle.bfs_tree.specs.declared.reply.Reply.TheVariants as replies
+use Rattle.bfs_tree.specs.declared.reply.Entry.{Entry}
+use Rattle.bfs_tree.specs.Histories.{Mounted, Follows, Legal, after, state_after, start, is_stop, is_stopped, last_place_from}
+use Rattle.bfs_tree.specs.States.{State}
+use Rattle.bfs_tree.specs.Steps.{ByTree, Turn, next, is_by_disk, is_for_room}
+use Rattle.bfs_tree.proofs.Stamps.{drawn-later}
+use Rattle.bfs_disk.specs.State as disks
+use Rattle.bfs_txn.specs.Changed.{over}
+use Rattle.bfs_bitmap.specs.Runs.{Fits}
+use Rattle.bfs_device.specs.Books.{Books, durable_of}
+use Rattle.bfs_core.specs.Spaces.{SpaceView, Entered, IsSoundOver, noted}
+use Rattle.bfs_core.specs.Cores.{IsKnown, newest_map}
+use Rattle.bfs_core.proofs.Notes.{note_entered}
+use Rattle.bfs_core.proofs.Onward.{core_entered}
+use Rattle.bfs_space.specs.Books.{SpaceBooks, entry_noted, with_note}
+use Rattle.bfs_space.proofs.Following.{follows, tree_after, tree_unsynced}
+use Rattle.bfs_volume.specs.Volumes.{AreFitted, AreJoined, Stands}
+use Rattle.bfs_volume.specs.Entries.{IsToldBy}
+use Rattle.bfs_volume.proofs.Joined.{going_more}
+
+-- ---- a call is not answered by a number of durable entries
+
+pub turn_unsynced : (session : ℕ) (stamp : ℤ) (call : Call) (reply : Reply) (s t : State) → call ≢ calls.Sync → Turn session stamp call reply s t → (upto : ℕ) → reply ≡ replies.Synced upto → ⊥
+turn_unsynced session stamp call reply s t other (Turn.by_tree tree) upto is = tree_unsynced session stamp call reply s t other tree upto is
+turn_unsynced session stamp call reply s t other (Turn.by_disk disk same) upto is = let bad : false ≡ true = subst (λ (r : Reply). IsTrue (is_by_disk r)) is disk in true≢false (sym bad)
+turn_unsynced session stamp call reply s t other (Turn.no_room none changes room same) upto is = let bad : false ≡ true = subst (λ (r : Reply). IsTrue (is_for_room r)) is room in true≢false (sym bad)
+
+-- ---- a sync's entry
+
+last_low : (session at found : ℕ) (es : List Entry) → found ≤ at → last_place_from session at found es ≤ at + length es
+last_low session at found [] le = omega (arith, le)
+last_low session at found (e ∷ es) le = let more = last_low session (at + 1) (cond (e.session == session) (at + 1) found) es (either (e.session == session)) in omega (arith, more)
+  where
+    either : (d : Bool) → cond d (at + 1) found ≤ at + 1
+    either true = omega arith
+    either false = omega (arith, le)
+
+same_upto : (a b : ℕ) → replies.Synced a ≡ replies.Synced b → a ≡ b
+same_upto a b is = cc
+
+module _ (t0 : Mounted) (sp : SpaceBooks) (session tag now upto : ℕ) (other : session ≢ 0) (legal : Legal t0 sp.view.history) (all : upto ≡ length sp.view.history) (quiet : list_any (λ (e : Entry). is_stop e.reply) sp.view.history ≡ false) where
+  abbrev synced : Entry
+  synced = entry_noted sp session tag now calls.Sync (replies.Synced upto)
+
+  sync_follows : Follows t0 sp.view.history synced
+  sync_follows = record {
+    step = Turn.by_tree (ByTree.answered refl (upto, refl) refl);
+    later = drawn-later t0 sp.view.history now legal;
+    service = λ zero. absurd (other zero);
+    durable = λ u same. (let e = same_upto upto u same in let le = last_low session 0 0 sp.view.history (omega arith) in (omega (arith, e, all, le), omega (arith, e, all)));
+    stopped = λ any needs. absurd (true≢false (sym (as_true any) ∙ quiet));
+  }
+    where
+      as_true : IsTrue (list_any (λ (e : Entry). is_stop e.reply) sp.view.history) → list_any (λ (e : Entry). is_stop e.reply) sp.view.history ≡ true
+      as_true t = t
+
+  sync_tree : after t0 (sp.view.history ++ synced ∷ []) ≡ after t0 sp.view.history
+  sync_tree = ap (λ (s : State). s.tree) (fold-append next (start t0) sp.view.history (synced ∷ []))
+
+-- ---- what the device tells of an entry
+
+module _ (t0 : Mounted) (sp : SpaceBooks) (b : Books) (session tag now : ℕ) (call : Call) (other : session ≢ 0) (legal : Legal t0 sp.view.history) (going : b.stop ≡ None → list_any (λ (e : Entry). is_stop e.reply) sp.view.history ≡ false) where
+  by_disk : (reply : Reply) → IsTrue (is_by_disk reply) → ((upto : ℕ) → reply ≡ replies.Synced upto → ⊥) → (list_any (λ (e : Entry). is_stop e.reply) sp.view.history ≡ true → is_stopped reply ≡ true)
+      → Follows t0 sp.view.history (entry_noted sp session tag now call reply) × (after t0 (sp.view.history ++ entry_noted sp session tag now call reply ∷ []) ≡ after t0 sp.view.history)
+  by_disk reply disk unsynced quiet = (
+    follows t0 sp.view.history session tag now call reply (state_after t0 sp.view.history) other legal (Turn.by_disk disk refl) unsynced quiet,
+    tree_after t0 sp.view.history session tag now call reply (state_after t0 sp.view.history) other legal (Turn.by_disk disk refl) unsynced quiet,
+  )
+
+  pub told_follows : (reply : Reply) → IsToldBy b sp.view.history call reply
+      → Follows t0 sp.view.history (entry_noted sp session tag now call reply) × (after t0 (sp.view.history ++ entry_noted sp session tag now call reply ∷ []) ≡ after t0 sp.view.history)
+  told_follows (replies.Synced upto) told = subst (λ (c : Call). Follows t0 sp.view.history (entry_noted sp session tag now c (replies.Synced upto)) × (after t0 (sp.view.history ++ entry_noted sp session tag now c (replies.Synced upto) ∷ []) ≡ after t0 sp.view.history)) (sym told.0)
+      (sync_follows t0 sp session tag now upto other legal told.1 (going told.3), sync_tree t0 sp session tag now upto other legal told.1 (going told.3))
+  told_follows (replies.DiskFault before after stops) told = by_disk (replies.DiskFault before after stops) refl (λ upto bad. cc) (λ any. absurd (true≢false (sym any ∙ told.0)))
+  told_follows (replies.Stopped durable faults) told = by_disk (replies.Stopped durable faults) refl (λ upto bad. cc) (λ any. refl)
+  told_follows _ told = absurd told
+
+pub told_is_known : (sp : SpaceBooks) (b : Books) (session tag now : ℕ) (call : Call) (reply : Reply) → IsToldBy b sp.view.history call reply → IsKnown b (entry_noted sp session tag now call reply)
+told_is_known sp b session tag now call (replies.Synced upto) told = ((λ u same. let e = same_upto upto u same in let low = told.2 in omega (arith, e, low)), λ none. refl)
+told_is_known sp b session tag now call (replies.DiskFault before after stops) told = ((λ u bad. absurd cc), λ none. absurd (told.1 none))
+told_is_known sp b session tag now call (replies.Stopped durable faults) told = ((λ u bad. absurd cc), λ none. refl)
+told_is_known sp b session tag now call _ told = absurd told
+
+pub told_entered : (t0 : Mounted) (sp : SpaceBooks) (b : Books) (m : ℕ → Option (List ℕ)) (session tag now : ℕ) (call : Call) (reply : Reply) → session ≢ 0 → AreFitted sp.view b → IsToldBy b sp.view.history call reply → IsSoundOver t0 sp.view m
+    → Entered t0 sp.view (noted sp.view (entry_noted sp session tag now call reply)) m (entry_noted sp session tag now call reply) × IsKnown b (entry_noted sp session tag now call reply)
+told_entered t0 sp b m session tag now call reply other fitted told sound =
+    let f = told_follows t0 sp b session tag now call other sound.legal fitted.going reply told in
+    (note_entered t0 sp.view m (entry_noted sp session tag now call reply) sound f.0 f.1, told_is_known sp b session tag now call reply told)
+
+-- a note keeps the two joined
+pub joined_noted : (sp space : SpaceBooks) (b : Books) (told : Option disks.State) (session tag now durable : ℕ) (call : Call) (reply : Reply) → session ≢ 0 → IsToldBy b sp.view.history call reply → space ≡ with_note sp session (entry_noted sp session tag now call reply) durable
+    → AreJoined sp b told → AreJoined space b told
+joined_noted sp space b told session tag now durable call reply other tells is joined = subst (λ (x : SpaceBooks). AreJoined x b told) (sym is) (record {
+  fitted = record {
+    geometry = joined.fitted.geometry;
+    sealed = joined.fitted.sealed;
+    sealed_used = joined.fitted.sealed_used;
+    idle = joined.fitted.idle;
+    going = λ none. going_more sp.view.history (entry_noted sp session tag now call reply) ((told_is_known sp b session tag now call reply tells).1 none) (joined.fitted.going none);
+  };
+  stands = λ st told_st.
+      let s = joined.stands st told_st in
+      let e = told_entered s.t0 sp b (newest_map b st) session tag now call reply other joined.fitted tells s.core.space in
+      record { t0 = s.t0; touched = s.touched; core = core_entered s.t0 sp.view (noted sp.view (entry_noted sp session tag now call reply)) b s.touched st (entry_noted sp session tag now call reply) s.core e.0 e.1; fits = s.fits };
+})

@@ -1,0 +1,54 @@
+-- The entries that calls of a volume append.
+use Rattle.std.specs.Prelude.{◌≡◌, ◌≢◌, ◌≤◌, ℕ, ℤ, List, [], ◌∷◌, ◌++◌, Bool, true, false, Option, Some, None, length}
+use Rattle.std.specs.List.{list_any}
+use Rattle.std.specs.Option.{option_map}
+use Rattle.bfs_txn.specs.Faults.{Counts}
+use Rattle.bfs_tree.specs.declared.call.Call.{Call}
+use Rattle.bfs_tree.specs.declared.call.Call.TheVariants as calls
+use Rattle.bfs_tree.specs.declared.reply.Reply.{Reply}
+use Rattle.bfs_tree.specs.declared.reply.Reply.TheVariants as replies
+use Rattle.bfs_tree.specs.declared.reply.Entry.{Entry}
+use Rattle.bfs_tree.specs.Histories.{is_stop}
+use Rattle.bfs_device.specs.Books.{Books, durable_of}
+use Rattle.bfs_device.specs.declared.journal.DeviceFault.{DeviceFault}
+use Rattle.bfs_device.specs.declared.journal.DeviceFault.TheVariants as device
+use Rattle.bfs_device.specs.declared.journal.Stop.{Stop}
+use Rattle.bfs_volume.specs.declared.events.SyncFault.{SyncFault}
+use Rattle.bfs_volume.specs.declared.events.SyncFault.TheVariants as syncs
+
+-- one entry of this call was appended, with this session, tag and reply
+pub record HasEntryOf (before now : List Entry) (session tag : ℕ) (call : Call) (reply : Reply) : Type 0 where
+  pub stamp : ℤ
+  pub appended : now ≡ before ++ record { session = session; tag = tag; stamp = stamp; call = call; reply = reply } ∷ []
+
+-- one of this call, with some reply
+pub record HasEntry (before now : List Entry) (session tag : ℕ) (call : Call) : Type 0 where
+  pub reply : Reply
+  pub entry : HasEntryOf before now session tag call reply
+
+-- the counts of a device and its disk, as those of blocks
+abbrev pub counts_of : ℕ → ℕ → Option Stop → Counts
+counts_of faults stops stop = record { faults = faults; stops = stops; stop = option_map (λ (s : Stop). (s.durable, s.faults)) stop }
+
+-- the reply to a fault of the device, and that of a sync that met it
+abbrev pub reply_of : DeviceFault → Reply
+reply_of (device.Disk before after stops) = replies.DiskFault before after stops
+reply_of (device.Stopped durable faults) = replies.Stopped durable faults
+
+abbrev pub sync_fault_of : DeviceFault → SyncFault
+sync_fault_of (device.Disk before after stops) = syncs.Disk before after stops
+sync_fault_of (device.Stopped durable faults) = syncs.Stopped durable faults
+
+-- What a device tells of an entry: all entries before it are durable, of a device that goes on; or a fault has stopped the device, of which no
+-- entry tells yet; or the device has stopped.
+abbrev pub IsToldBy : Books → List Entry → Call → Reply → Type 0
+IsToldBy b history call (replies.Synced upto) = (call ≡ calls.Sync) × (upto ≡ length history) × (upto ≤ durable_of b) × (b.stop ≡ None)
+IsToldBy b history call (replies.DiskFault before after stops) = (list_any (λ e. is_stop e.reply) history ≡ false) × (b.stop ≢ None)
+IsToldBy b history call (replies.Stopped durable faults) = Unit {0}
+IsToldBy b history call _ = ⊥
+
+-- A sync that failed has an entry with its fault, but for want of memory, where nothing has changed.
+abbrev pub HasFailedSync : List Entry → List Entry → ℕ → ℕ → SyncFault → Type 0
+HasFailedSync before now session tag (syncs.Disk from to stops) = HasEntryOf before now session tag calls.Sync (replies.DiskFault from to stops)
+HasFailedSync before now session tag (syncs.Stopped durable faults) = HasEntryOf before now session tag calls.Sync (replies.Stopped durable faults)
+HasFailedSync before now session tag syncs.NoMemory = now ≡ before

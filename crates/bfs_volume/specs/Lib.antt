@@ -1,0 +1,4 @@
+pub mod Volumes
+pub mod Faults
+pub mod Entries
+pub mod Causes

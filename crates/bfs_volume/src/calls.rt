@@ -1,0 +1,155 @@
+// Calls and syncs of a session: each appends one entry, or finds no memory and changes nothing of the history.
+ghost use Rattle.std.specs.Prelude.{◌≡◌, ◌≢◌, ◌≤◌, ◌<◌, ◌^◌, ℕ, [], ◌∷◌, true, length, IfOk, IfErr, OnOk, OnErr};
+ghost use Rattle.bfs_tree.specs.declared.call.Call.TheVariants.{Sync};
+ghost use Rattle.bfs_tree.specs.declared.reply.Reply.TheVariants.{Synced};
+ghost use Rattle.bfs_tree.specs.Answers.{KeepsRanges};
+ghost use Rattle.bfs_tree.specs.Histories.{Mounted};
+ghost use Rattle.bfs_device.specs.Books.{durable_of};
+ghost use Rattle.bfs_device_blocks.specs.Lent.{HasCore};
+ghost use Rattle.bfs_volume.specs.Volumes.{AreJoined};
+ghost use Rattle.bfs_volume.specs.Causes.{HasSyncCause};
+ghost use Rattle.bfs_volume.specs.Entries.{HasEntry, HasEntryOf, HasFailedSync, sync_fault_of};
+
+use crate::events::{SyncFault, ask};
+use crate::notes::{as_reply, note};
+use crate::settle::{make_durable, settle};
+use bfs_device::{Device, DeviceFault, Stop};
+use bfs_disk::Disk;
+use bfs_space::{Answers, Outcome, Space};
+use bfs_tree::{Call, Reply};
+use std::alloc::AllocError;
+
+/// Room for an entry of the session and for the marks of a seal; without both nothing is promised.
+fn prepare<D: Disk>(space: &mut Space, device: &mut Device<D>, session: u32) -> Result<(), AllocError>
+    requires joined { AreJoined space.old device.old.books (D.state device.old.disk) }
+    requires promised { space.old.promised ≡ 0 ∷ [] }
+    requires session { session ≢ 0 }
+    requires spare { 1 ≤ device.old.books.spare }
+    ensures joined { AreJoined space.new device.new.books (D.state device.new.disk) }
+    ensures history { space.new.view.history ≡ space.old.view.history }
+    ensures ok { OnOk result ((space.new.promised ≡ 0 ∷ session ∷ []) × (2 ≤ device.new.books.spare)) }
+    ensures err { OnErr result ((space.new.promised ≡ 0 ∷ []) × (1 ≤ device.new.books.spare)) }
+    ensures stop { device.new.books.stop ≡ device.old.books.stop }
+    ensures disk { device.new.disk ≡ device.old.disk }
+    ensures core { (t0 : Mounted) (adopted : ℕ) → HasCore t0 adopted space.old.view device.old.books (D.state device.old.disk) (D.clock device.old.disk) (D.since device.old.disk)
+        → HasCore t0 adopted space.new.view device.new.books (D.state device.new.disk) (D.clock device.new.disk) (D.since device.new.disk) }
+{
+    device.room()?;
+    device.steady();
+    let _durable = device.durable();
+    space.promise(session)
+}
+
+/// Answers a call once no more is held back than the log and the bitmap have room for. Where it is put off, what is open is sealed and all that
+/// waits leaves the log first.
+pub fn answer<A: Answers, D: Disk>(
+    space: &mut Space,
+    device: &mut Device<D>,
+    answers: &A,
+    session: u32,
+    tag: u32,
+    now: u64,
+    call: Call,
+) -> Result<(), AllocError>
+    requires joined { AreJoined space.old device.old.books (D.state device.old.disk) }
+    requires promised { space.old.promised ≡ 0 ∷ [] }
+    requires now { now < 2 ^ 40 }
+    requires session { session ≢ 0 }
+    requires call { call ≢ Sync }
+    requires serves { A.serves call ≡ true }
+    requires ranges { KeepsRanges call }
+    requires spare { 1 ≤ device.old.books.spare }
+    ensures joined { AreJoined space.new device.new.books (D.state device.new.disk) }
+    ensures promised { space.new.promised ≡ 0 ∷ [] }
+    ensures spare { 1 ≤ device.new.books.spare }
+    ensures entry { OnOk result (HasEntry space.old.view.history space.new.view.history session tag call) }
+    ensures no_memory { OnErr result (space.new.view.history ≡ space.old.view.history) }
+    ensures core { (t0 : Mounted) (adopted : ℕ) → HasCore t0 adopted space.old.view device.old.books (D.state device.old.disk) (D.clock device.old.disk) (D.since device.old.disk)
+        → HasCore t0 adopted space.new.view device.new.books (D.state device.new.disk) (D.clock device.new.disk) (D.since device.new.disk) }
+{
+    prepare(space, device, session)?;
+    if let Some(Stop { durable, faults }) = device.stopped() {
+        let reply = Reply::Stopped { durable, faults };
+        note(space, device, session, tag, now, call, reply);
+        return Ok(());
+    }
+    let call = match ask(space, device, answers, session, tag, now, call) {
+        Ok(Outcome::Drain(call)) => call,
+        Ok(Outcome::Replied) => {
+            space.unpromise(session);
+            return Ok(());
+        }
+        Err(fault) => {
+            space.unpromise(session);
+            return Err(fault);
+        }
+    };
+    if let Err(fault) = settle(space, device) {
+        note(space, device, session, tag, now, call, as_reply(fault));
+        return Ok(());
+    }
+    let outcome = ask(space, device, answers, session, tag, now, call);
+    space.unpromise(session);
+    match outcome {
+        Ok(Outcome::Replied) => Ok(()),
+        Ok(Outcome::Drain(_)) => Err(AllocError),
+        Err(fault) => Err(fault),
+    }
+}
+
+/// The fault of a sync that met a fault of the device.
+fn as_sync_fault(fault: DeviceFault) -> SyncFault
+    ensures { result ≡ sync_fault_of fault }
+{
+    match fault {
+        DeviceFault::Disk {
+            before,
+            after,
+            stops,
+        } => SyncFault::Disk {
+            before,
+            after,
+            stops,
+        },
+        DeviceFault::Stopped { durable, faults } => SyncFault::Stopped { durable, faults },
+    }
+}
+
+/// Makes all entries durable, and appends one that says so, or why it wasn't done.
+pub fn sync<D: Disk>(
+    space: &mut Space,
+    device: &mut Device<D>,
+    session: u32,
+    tag: u32,
+    now: u64,
+) -> Result<u64, SyncFault>
+    requires joined { AreJoined space.old device.old.books (D.state device.old.disk) }
+    requires promised { space.old.promised ≡ 0 ∷ [] }
+    requires now { now < 2 ^ 40 }
+    requires session { session ≢ 0 }
+    requires spare { 1 ≤ device.old.books.spare }
+    ensures joined { AreJoined space.new device.new.books (D.state device.new.disk) }
+    ensures promised { space.new.promised ≡ 0 ∷ [] }
+    ensures spare { 1 ≤ device.new.books.spare }
+    ensures ok { IfOk result (λ n. (n ≡ length space.old.view.history) × (n ≤ durable_of device.new.books)) }
+    ensures entry { IfOk result (λ n. HasEntryOf space.old.view.history space.new.view.history session tag Sync (Synced n)) }
+    ensures failed { IfErr result (HasFailedSync space.old.view.history space.new.view.history session tag) }
+    ensures cause { IfErr result (HasSyncCause device.old.books.stop (D.faults device.old.disk) (D.faults device.new.disk)) }
+    ensures core { (t0 : Mounted) (adopted : ℕ) → HasCore t0 adopted space.old.view device.old.books (D.state device.old.disk) (D.clock device.old.disk) (D.since device.old.disk)
+        → HasCore t0 adopted space.new.view device.new.books (D.state device.new.disk) (D.clock device.new.disk) (D.since device.new.disk) }
+{
+    if prepare(space, device, session).is_err() {
+        return Err(SyncFault::NoMemory);
+    }
+    let upto = space.history().len() as u64;
+    match make_durable(space, device) {
+        Ok(()) => {
+            note(space, device, session, tag, now, Call::Sync, Reply::Synced { upto });
+            Ok(upto)
+        }
+        Err(fault) => {
+            note(space, device, session, tag, now, Call::Sync, as_reply(fault));
+            Err(as_sync_fault(fault))
+        }
+    }
+}

@@ -1,0 +1,14 @@
+// A volume: a space over a device with a journal. A call of the space reads what the device tells; what is sealed goes to the device; what has left the
+// log is told to the space. What is true of the two together is `AreJoined` in specs/Volumes.antt. Each function keeps it, and keeps Core from
+// mounting on: the history is one of the plain tree, and whatever a crash leaves at any moment recovers to the tree after a prefix that holds all
+// that a sync has acknowledged.
+#![tactic(auto)]
+
+mod calls;
+mod events;
+mod notes;
+mod settle;
+mod volume;
+
+pub use events::SyncFault;
+pub use volume::Volume;

@@ -1,0 +1,154 @@
+// A mounted volume.
+ghost use Rattle.std.specs.Prelude.{◌≡◌, ◌≢◌, ◌≤◌, ℕ, List, [], ◌∷◌, true, length, IfOk, IfErr, OnOk, OnErr};
+ghost use Rattle.bfs_disk.specs.State.{Tells, Holds};
+ghost use Rattle.bfs_disk.specs.Disk.{MayLeave};
+ghost use Rattle.bfs_replay.specs.Recover.{HasCauseIn};
+ghost use Rattle.bfs_tree.specs.declared.call.Call.TheVariants.{Sync};
+ghost use Rattle.bfs_tree.specs.declared.reply.Reply.TheVariants.{Synced};
+ghost use Rattle.bfs_tree.specs.Answers.{KeepsRanges};
+ghost use Rattle.bfs_tree.specs.Histories.{Mounted, after};
+ghost use Rattle.bfs_sound.specs.Whole.{Recovers};
+ghost use Rattle.bfs_device.specs.Books.{durable_of};
+ghost use Rattle.bfs_device_blocks.specs.Lent.{HasCore};
+ghost use Rattle.bfs_space.specs.Looks.{is_built};
+ghost use Rattle.bfs_volume.specs.Volumes.{MayBeMounted};
+ghost use Rattle.bfs_volume.specs.Entries.{HasEntry, HasEntryOf, HasFailedSync};
+ghost use Rattle.bfs_volume.specs.Causes.{HasSyncCause, HasStopCause};
+
+use crate::calls::{answer, sync};
+use crate::events::SyncFault;
+use crate::settle::settle;
+use bfs_cache::Cache;
+use bfs_device::{Device, DeviceFault};
+use bfs_disk::Disk;
+use bfs_ports::Clock;
+use bfs_replay::{MountFault, recover};
+use bfs_space::{Calls, Space};
+use bfs_tree::{Call, Entry};
+use std::alloc::{AllocError, Global};
+use std::marker::Model;
+
+/// A mounted volume: the space of its names, over the device with its journal, and the clock that gives stamps. One session at a time calls it.
+#[derive(Drop)]
+pub struct Volume<D: Disk, C: Clock> {
+    space: Space,
+    device: Device<D>,
+    clock: C,
+}
+
+impl<D: Disk, C: Clock> Model for Volume<D, C> {
+    ghost use Rattle.std.specs.Prelude.{◌≡◌, ◌≤◌, [], ◌∷◌};
+    ghost use Rattle.bfs_volume.specs.Volumes.{VolumeView, AreJoined};
+
+    ghost Value = { VolumeView D };
+
+    ghost view = { λ v. record { space = v.space; device = v.device } };
+
+    ghost invariant = { λ v. AreJoined v.space v.device.books (D.state v.device.disk) × (v.space.promised ≡ 0 ∷ []) × (1 ≤ v.device.books.spare) };
+}
+
+impl<D: Disk, C: Clock> Volume<D, C> {
+    /// Opens a volume that is known to be whole, with an empty history, after its log was replayed. `cache` is for how many read blocks there is
+    /// room. Where it can't be opened, disk and clock are handed back.
+    pub fn open(
+        alloc: Global,
+        disk: D,
+        clock: C,
+        cache: u32,
+    ) -> Result<Volume<D, C>, (MountFault, D, C)>
+        requires whole { MayBeMounted (D.state disk) }
+        ensures core { (t0 : Mounted) (image : List ℕ) → Tells (D.state disk) (Holds image) → Recovers image t0.tree
+            → IfOk result (λ v. HasCore t0 (D.clock v.device.disk) v.space.view v.device.books (D.state v.device.disk) (D.clock v.device.disk) (D.since v.device.disk)) }
+        ensures fresh { IfOk result (λ v. v.space.view.history ≡ []) }
+        ensures cause { IfErr result (λ e. HasCauseIn (D.faults disk) (D.faults e.1) e.0) }
+    {
+        let mut disk = disk;
+        let sup = match recover(alloc, &mut disk) {
+            Ok(sup) => sup,
+            Err(fault) => return Err((fault, disk, clock)),
+        };
+        // (a whole volume has no more blocks in use than there are)
+        let geometry = sup.geometry();
+        if geometry.used > geometry.blocks {
+            return Err((MountFault::NoMemory, disk, clock));
+        }
+        let Ok(kept) = Cache::new(alloc, cache) else {
+            return Err((MountFault::NoMemory, disk, clock));
+        };
+        let Ok(space) = Space::open(alloc, sup) else {
+            return Err((MountFault::NoMemory, disk, clock));
+        };
+        let device = match Device::adopt(alloc, disk, sup) {
+            Ok(device) => device.cached(kept),
+            Err(disk) => return Err((MountFault::NoMemory, disk, clock)),
+        };
+        device.steady();
+        Ok(Volume {
+            space,
+            device,
+            clock,
+        })
+    }
+
+    /// The entries, in their order. Takes no memory.
+    pub fn history(&self) -> &[Entry]
+        ensures { result.now ≡ self.now.space.view.history }
+    {
+        self.space.history()
+    }
+
+    /// Answers a call of a session. Its entry is the last one of the history, with the reply. Where no memory was found, there is none.
+    pub fn call(&mut self, session: u32, tag: u32, call: Call) -> Result<(), AllocError>
+        requires session { session ≢ 0 }
+        requires call { call ≢ Sync }
+        requires serves { is_built call ≡ true }
+        requires ranges { KeepsRanges call }
+        ensures entry { OnOk result (HasEntry self.old.space.view.history self.new.space.view.history session tag call) }
+        ensures no_memory { OnErr result (self.new.space.view.history ≡ self.old.space.view.history) }
+        ensures core { (t0 : Mounted) (adopted : ℕ) → HasCore t0 adopted self.old.space.view self.old.device.books (D.state self.old.device.disk) (D.clock self.old.device.disk) (D.since self.old.device.disk)
+            → HasCore t0 adopted self.new.space.view self.new.device.books (D.state self.new.device.disk) (D.clock self.new.device.disk) (D.since self.new.device.disk) }
+    {
+        let now = self.clock.seconds();
+        answer(
+            &mut self.space,
+            &mut self.device,
+            &Calls {},
+            session,
+            tag,
+            now,
+            call,
+        )
+    }
+
+    /// Makes all entries durable, and tells how many there are. The sync's own entry comes behind them.
+    pub fn sync(&mut self, session: u32, tag: u32) -> Result<u64, SyncFault>
+        requires session { session ≢ 0 }
+        ensures ok { IfOk result (λ n. (n ≡ length self.old.space.view.history) × (n ≤ durable_of self.new.device.books)) }
+        ensures entry { IfOk result (λ n. HasEntryOf self.old.space.view.history self.new.space.view.history session tag Sync (Synced n)) }
+        ensures failed { IfErr result (HasFailedSync self.old.space.view.history self.new.space.view.history session tag) }
+        ensures cause { IfErr result (HasSyncCause self.old.device.books.stop (D.faults self.old.device.disk) (D.faults self.new.device.disk)) }
+        ensures core { (t0 : Mounted) (adopted : ℕ) → HasCore t0 adopted self.old.space.view self.old.device.books (D.state self.old.device.disk) (D.clock self.old.device.disk) (D.since self.old.device.disk)
+            → HasCore t0 adopted self.new.space.view self.new.device.books (D.state self.new.device.disk) (D.clock self.new.device.disk) (D.since self.new.device.disk) }
+    {
+        let now = self.clock.seconds();
+        sync(&mut self.space, &mut self.device, session, tag, now)
+    }
+
+    /// Closes the volume: all that was done is made durable and leaves the log. The history is handed back with disk and clock. Takes no memory.
+    pub fn close(self) -> (D, C, Vec<Entry>, Result<(), DeviceFault>)
+        ensures history { result.2.items ≡ self.space.view.history }
+        // What a crash leaves after a close that went well recovers to the tree after all entries.
+        ensures all { (t0 : Mounted) (adopted : ℕ) → HasCore t0 adopted self.space.view self.device.books (D.state self.device.disk) (D.clock self.device.disk) (D.since self.device.disk)
+            → OnOk result.3 ((image : List ℕ) → MayLeave (D.state result.0) image → Recovers image (after t0 self.space.view.history)) }
+        ensures cause { IfErr result.3 (HasStopCause self.device.books.stop (D.faults self.device.disk) (D.faults result.0)) }
+    {
+        let Volume {
+            mut space,
+            mut device,
+            clock,
+        } = self;
+        let ended = settle(&mut space, &mut device);
+        let _durable = device.durable();
+        (device.into_disk(), clock, space.into_history(), ended)
+    }
+}

@@ -46,6 +46,11 @@ for size in 1024 2048 4096 8192; do
     else
         skip 'blkid is not installed'
     fi
+    if command -v wipefs >/dev/null 2>&1; then
+        check "wipefs knows it, $size" sh -c "wipefs --noheadings --output OFFSET,TYPE,LABEL '$image' | tr -s ' ' | grep -q '^0x220 befs archive *\$'"
+    else
+        skip 'wipefs is not installed'
+    fi
     if command -v disktype >/dev/null 2>&1; then
         check "disktype knows it, $size" sh -c "disktype '$image' | grep -q 'BeOS BFS (BeFS) file system'"
     else
@@ -57,4 +62,15 @@ for size in 1024 2048 4096 8192; do
         skip 'grub-fstest is not installed'
     fi
 done
+
+# blkid and wipefs look for this file system from 1,474,560 bytes on.
+if command -v blkid >/dev/null 2>&1; then
+    for blocks in 1439 1440; do
+        image=$work/$blocks.img
+        truncate -s $((blocks * 1024)) "$image"
+        "$root/bfs" "$image" mk --blocks $blocks >/dev/null
+    done
+    check 'blkid knows 1,440 blocks of 1,024 bytes' sh -c "blkid -p '$work/1440.img' | grep -q 'TYPE=\"befs\"'"
+    check 'and not one block less' sh -c "! blkid -p '$work/1439.img' | grep -q befs"
+fi
 finish

@@ -17,9 +17,10 @@ use bfs_disk::FileDisk;
 use bfs_ports::{Mem, NoGate, Output, SystemClock};
 use bfs_words::Argument;
 use std::alloc::{AllocError, Global};
+use std::env::{Env, FillError};
 use std::fs::File;
 use std::process::ExitCode;
-use std::{env, io};
+use std::{env, io, str};
 
 /// Files that keep the descriptors of standard input, output and error taken. Where one of the three is closed when the
 /// program begins, the next file that is opened would get its number, and what is printed would go into the image.
@@ -43,11 +44,29 @@ impl StandardFiles {
     }
 }
 
-/// The image's path, and the words behind it. A word that isn't UTF-8 stands for a faulty command line.
+/// The image's path, and the words behind it. A word that isn't UTF-8 makes a faulty command line: it stands alone there, with an
+/// escape `\xNN` for each byte that isn't ASCII.
 #[derive(Drop)]
 struct CommandLine {
     image: Option<String>,
     words: Vec<Argument>,
+}
+
+// The first word that isn't UTF-8, with its bytes as escapes; an empty one where a word of more than 1,024 bytes hides it.
+fn unreadable_word(rt: &HostRuntime) -> Result<String, AllocError> {
+    let mut word = [0u8; 1024];
+    for i in 1..65536usize {
+        match rt.arg(i, &mut word) {
+            Ok(n) => {
+                if str::from_utf8(&word[..n]).is_err() {
+                    return format!(in rt.alloc(); "{}", word[..n].escape_ascii());
+                }
+            }
+            Err(FillError::TooLong) => {}
+            Err(FillError::NotPresent) => break,
+        }
+    }
+    Ok(String::new(rt.alloc()))
 }
 
 fn command_line(rt: &HostRuntime) -> Result<CommandLine, AllocError> {
@@ -57,7 +76,8 @@ fn command_line(rt: &HostRuntime) -> Result<CommandLine, AllocError> {
         words: Vec::new(alloc),
     };
     let Ok(args) = env::args(rt) else {
-        line.words.push(Argument::of(alloc, "")?)?;
+        let word = unreadable_word(rt)?;
+        line.words.push(Argument::of(alloc, word.as_str())?)?;
         return Ok(line);
     };
     for (i, word) in args.enumerate() {
@@ -79,8 +99,12 @@ fn main(rt: HostRuntime) -> ExitCode {
         Some(path) => path.as_str(),
         None => "",
     };
-    let Ok(held) = StandardFiles::hold(&rt) else {
-        return ExitCode::from(4);
+    let held = match StandardFiles::hold(&rt) {
+        Ok(held) => held,
+        Err(error) => {
+            let _ = eprintln!(rt; "bfs: neither /dev/null nor / can be opened: {error}");
+            return ExitCode::from(4);
+        }
     };
     let Ok(disk) = FileDisk::named(&rt, path) else {
         return ExitCode::from(7);

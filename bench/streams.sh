@@ -1,9 +1,11 @@
 #!/bin/sh
 # Grows a stream to 1 GiB by pieces of 64 KiB, and cuts it to nothing in one call, or by pieces while nothing that was given back is
 # released, on a volume of 4,194,304 blocks of 4,096 bytes that is empty, and on one where every second block is taken. Prints the
-# time of each quarter: where they are alike, time is linear in the blocks. Beside it, `fallocate` of the same pieces on a file of the system's own, where there is one. Only what is written of
-# the volume is in memory: data blocks are taken, not written. Builds a small program over the crates here, outside the repository;
-# where they aren't proved yet, that takes some minutes.
+# time of each quarter: where they are alike, time is linear in the blocks. Beside it, `fallocate` of the same pieces on a file of the
+# system's own, where there is one. Then how many blocks all calls together changed, by the growth and after the removal: those that a
+# removal changes are few, so that a file of hundreds of tables passes the log. Only what is written of the volume is in memory: data blocks
+# are taken, not written. Builds a small program over the crates here, outside the repository; where they aren't proved yet, that takes
+# some minutes.
 # usage: bench/streams.sh [PIECES]
 set -eu
 root=$(dirname "$(dirname "$(readlink -f "$0")")")
@@ -216,11 +218,12 @@ fn times(rt: &(impl Print + Clock), alloc: Global, byte: u8, whole: bool) -> io:
     let mut stream = Stream::at(alloc, 900, &sup);
     let grown = up(rt, &mut stream, &mut bitmap, &mut group, &mut under)?;
     println!(rt; "changed {}", group.len())?;
-    if whole {
-        let gone = all_down(rt, &mut stream, &mut bitmap, &mut group, &mut under)?;
-        return Ok(grown && gone);
-    }
-    let gone = down(rt, &mut stream, &mut bitmap, &mut group, &mut under)?;
+    let gone = if whole {
+        all_down(rt, &mut stream, &mut bitmap, &mut group, &mut under)?
+    } else {
+        down(rt, &mut stream, &mut bitmap, &mut group, &mut under)?
+    };
+    println!(rt; "after {}", group.len())?;
     Ok(grown && gone)
 }
 
@@ -282,4 +285,6 @@ cat "$work/ours" "$work/own" | awk '
     $1 == "cut" { cut = cut sprintf("%s%.0f", cut == "" ? "" : ", ", $2 / 1e6) }
     $1 == "remove" { remove = sprintf("%.0f", $2 / 1e6) }
     END { line() }'
-grep '^changed ' "$work/ours" | awk '{ printf "%s%d", n++ ? ", " : "\nBlocks that were changed: ", $2 } END { print "." }'
+for moment in 'changed by the growth' 'after by the growth and the removal'; do
+    grep "^${moment%% *} " "$work/ours" | awk -v moment="${moment#* }" '{ printf "%s%d", n++ ? ", " : "\nBlocks that were changed " moment ": ", $2 } END { print "." }'
+done

@@ -1,6 +1,6 @@
 -- The inodes that the rows of an attribute directory name, and the rows of attributes.
-use Rattle.std.proofs.Common.{◌≡◌, inl, inr, ◌≤◌, ◌<◌, ◌^◌, ℕ, List, [], ◌∷◌, ◌++◌, Bool, true, false, cond, Option, Some, None, refl, sym, ◌∙◌, ap, subst, arith, map, append_assoc}
-use Rattle.std.specs.Prelude.{not, IsSome, nat_lt}
+use Rattle.std.proofs.Common.{◌≡◌, inl, inr, ◌≤◌, ◌<◌, ◌^◌, ℕ, suc, List, [], ◌∷◌, ◌++◌, length, Bool, true, false, cond, Option, Some, None, refl, sym, ◌∙◌, ap, subst, arith, map, append_assoc}
+use Rattle.std.specs.Prelude.{not, ◌==◌, ◌↔◌, IsSome, nat_lt}
 use Rattle.std.specs.List.{filter, flat_map, AllByRecursion}
 use Rattle.std.specs.Option.{option_map}
 use Rattle.std.proofs.lemmas.Bool.{cond-true, cond-false, lt-ltb, ltb-true}
@@ -13,6 +13,7 @@ use Rattle.bfs_range.specs.declared.ranged.RangedRow.{RangedRow}
 use Rattle.bfs_values.specs.Values.{values_in, numbers_in}
 use Rattle.bfs_smalldata.specs.Items.{Item}
 use Rattle.bfs_stream.specs.Sizes.{Origin}
+use Rattle.bfs_stream.proofs.Taking.{zero_test}
 use Rattle.bfs_tree.specs.Answers.{rows_of_attributes}
 use Rattle.bfs_tree.specs.declared.rows.AttributeRow.{AttributeRow}
 use Rattle.bfs_maps.specs.Mapped.{HasReadable}
@@ -79,6 +80,11 @@ directory_rows v blocks (r ∷ rs) all below = ((all.0.number, below (id_of r) (
 pub all_between : (rows : List Row) → rows_between Text None None rows ≡ rows
 all_between [] = refl
 all_between (r ∷ rs) = ap (λ (l : List Row). r ∷ l) (all_between rs)
+
+-- no inodes are named where there are no rows, and nowhere else
+pub no_rows : (rows : List Row) (items : List InodeRow) (n : ℕ) → items ≡ map (λ row. record { name = row.0; id = id_of row }) rows → n ≡ length items → ((n == 0) ≡ true) ↔ (rows ≡ [])
+no_rows [] items n is len = (λ t. refl, λ e. zero_test n (len ∙ ap length is))
+no_rows (r ∷ rs) items n is len = (λ t. let z : n ≡ 0 = grind (arith, t) in let some = ap length is in absurd (omega (arith, some, len, z)), λ e. let bad : r ∷ rs ≡ [] = e in cc)
 
 -- the inodes that rows name are told, where their streams can be read
 pub rows_there : (m : ℕ → Option (List ℕ)) (at : ℕ → Origin) → ((k : ℕ) → (at k).id ≡ k) → (rows : List Row) → ((k : ℕ) → In k (map id_of rows) → HasReadable (at k) m) → AreThere m (map (λ row. record { name = row.0; id = id_of row }) rows)

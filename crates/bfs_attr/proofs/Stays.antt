@@ -17,7 +17,7 @@ use Rattle.bfs_stream.specs.Told.{contents}
 use Rattle.bfs_stream.specs.Grown.{IsOutside, AreWritten, is_new}
 use Rattle.bfs_stream.proofs.AddsDirect.{same_test}
 use Rattle.bfs_stream.proofs.Doubles.{times-append}
-use Rattle.bfs_stream.proofs.Finish.{free_same, marked_same, fits_same}
+use Rattle.bfs_stream.proofs.Finish.{free_same, marked_same, fits_same, counted_same}
 use Rattle.bfs_stream.proofs.Frames.{has_first, has_left, agree_left, levels_same}
 use Rattle.bfs_stream_pages.specs.Held.{Held}
 use Rattle.bfs_stream_pages.proofs.Writing.{is_equal}
@@ -108,12 +108,12 @@ module _ (v : Room) (m : ℕ → Option (List ℕ)) (id : ℕ) (block : List ℕ
     }
 
 -- what is taken and not new
-none_taken : (b : Bool) (n : ℕ) → (0 < n → b ≡ false) → b ≡ (b && (n == 0))
+pub none_taken : (b : Bool) (n : ℕ) → (0 < n → b ≡ false) → b ≡ (b && (n == 0))
 none_taken true zero taken = refl
 none_taken false zero taken = refl
 none_taken b (suc n) taken = let used = taken (omega arith) in used ∙ ap (λ (c : Bool). c && (suc n == 0)) (sym used)
 
-none_new : (b : Bool) (x : ℕ) → x ≡ cond (b && not b) 1 (cond (b && not b) 0 x)
+pub none_new : (b : Bool) (x : ℕ) → x ≡ cond (b && not b) 1 (cond (b && not b) 0 x)
 none_new true x = refl
 none_new false x = refl
 
@@ -215,6 +215,10 @@ module _ (b : Bearer) (v : Room) (m : ℕ → Option (List ℕ)) (holds : Holds 
       first = λ none. block_other m b.id block 0 (other_here 0 none);
       kept = subst (λ (l : List ℕ). inode_at l ≡ record (inode_at (contents m b.id)) { attributes = (inode_at l).attributes; small_data = (inode_at l).small_data }) (sym here) (inode_front block (contents m b.id) before);
       written = wrote;
+      counted = λ used count. counted_same v m now (λ k low. marked_same v m now (bits_stay v m b.id block holds.outside) k low) count;
+      entered = λ k has none.
+          let some : 0 < times k (attribute_blocks b.geometry m b.id) = subst (λ (l : List ℕ). Has l k) blocks_same has in
+          absurd (omega (arith, some, none));
     }
 
     -- and the map is this one

@@ -1,5 +1,5 @@
 -- What the attributes of an inode are where they stand, by what its bytes say.
-use Rattle.std.proofs.Common.{◌≡◌, inl, inr, ◌≤◌, ◌<◌, ◌*◌, ◌^◌, ℕ, ℤ, pos, negsuc, List, [], ◌++◌, ◌-◌, length, take, drop, true, Option, Some, None, refl, sym, ◌∙◌, ap, ap₂, subst, arith, length-drop}
+use Rattle.std.proofs.Common.{◌≡◌, ◌⊎◌, inl, inr, ◌≤◌, ◌<◌, ◌*◌, ◌^◌, ℕ, ℤ, pos, negsuc, List, [], ◌++◌, ◌-◌, length, take, drop, true, Option, Some, None, refl, sym, ◌∙◌, ap, ap₂, subst, arith, length-drop}
 use Rattle.std.specs.Prelude.{IfSome, IfErr, Result, Ok, Err, MatchResult, unwrap_or}
 use Rattle.std.proofs.lemmas.Bool.{ltb-true}
 use Rattle.std.proofs.lemmas.List.{take_all, map-append}
@@ -32,7 +32,9 @@ use Rattle.bfs_smalldata.specs.Items.{Item, items_of}
 use Rattle.bfs_smalldata.specs.Edits.{named, AreDistinct}
 use Rattle.bfs_values.specs.Reached.{IsWholeTree}
 use Rattle.bfs_values.specs.Rows.{rows_in}
-use Rattle.bfs_maps.specs.Refused.{HasReadCause, IsUndone}
+use Rattle.bfs_maps.specs.Refused.{HasReadCause, IsUndone, IsReadFault, IsUnsized}
+use Rattle.bfs_stream_pages.specs.Steps.{IsUndamaged}
+use Rattle.bfs_values.specs.Kinds.{IsWanted}
 use Rattle.bfs_sound.specs.Volumes.{Volume, sizes}
 use Rattle.bfs_sound.specs.Owners.{In}
 use Rattle.bfs_sound.specs.Attributes.{Named, is_name_item, attributes_in, attributes_of, attribute_at, attribute_directory, attribute_inodes, HasDirectory, IsAttributeDirectory}
@@ -45,7 +47,9 @@ use Rattle.bfs_tree.specs.Answers.{rows_of_attributes}
 use Rattle.bfs_tree.specs.Trees.{Attribute}
 use Rattle.bfs_tree.specs.declared.rows.AttributeRow.{AttributeRow}
 use Rattle.bfs_attr.specs.Directories.{AreInodes, directory_in}
-use Rattle.bfs_attr.specs.Refused.{IsDirectoryFault, IsAttributeFault, IsNoPage}
+use Rattle.bfs_attr.specs.Refused.{HasRows, IsBlamed, IsDirectoryFault, IsAttributeFault, IsNoPage, IsFaultOf}
+use Rattle.bfs_attr.specs.declared.directory.Shortage.{Shortage}
+use Rattle.bfs_attr.specs.declared.directory.Shortage.TheVariants as short
 use Rattle.bfs_attr.proofs.Finds.{small_none, small_own, small_there}
 use Rattle.bfs_attr.proofs.Listed.{directory_rows, small_are}
 
@@ -86,15 +90,62 @@ cause_sound old new (block.Stopped durable faults) cause = λ h. h
 cause_sound old new (block.Damaged k) cause = λ h. cause
 cause_sound old new block.NoMemory cause = λ h. h
 
-pub no_page_is : (v : Volume) (o : Option ℕ) (f : TreeFault GrowFault) → IsNoPage f → IsDirectoryFault v o f
-no_page_is v o Exists h = h
-no_page_is v o Absent h = h
-no_page_is v o (Damaged page sort) h = absurd h
-no_page_is v o (Pages fault) h = tt
-no_page_is v o NoMemory h = tt
+-- the directory's tree was not read
+pub directory_fault : (v : Volume) (d : ℕ) (o : Origin) (m : ℕ → Option (List ℕ)) → o.id ≡ d → (f : TreeFault GrowFault) → IsReadFault (IsWanted Text (content v d)) o m f → IsDirectoryFault v d (Some d) f
+directory_fault v d o m is Exists h = h
+directory_fault v d o m is Absent h = h
+directory_fault v d o m is (Damaged page sort) h = (d, refl, h)
+directory_fault v d o m is (Pages fault) h = by_side h
+  where
+    by_side : IsUnsized o m fault → IsUndamaged fault ⊎ ((k : ℕ) × (fault ≡ grow.Block (block.Damaged k)) × IsBlamed v d (Some d) k)
+    by_side (inl sound) = inl sound
+    by_side (inr at) = inr (o.id, at.0, inl is)
+directory_fault v d o m is NoMemory h = tt
+
+-- its rows name no inodes
+pub shortage_fault : (v : Volume) (d : ℕ) (s : Shortage) (f : TreeFault GrowFault) → IsFaultOf d s f → IsDirectoryFault v d (Some d) f
+shortage_fault v d short.Unsound f e = subst (IsDirectoryFault v d (Some d)) (sym e) (inr (d, refl, inl refl))
+shortage_fault v d short.NoMemory f e = subst (IsDirectoryFault v d (Some d)) (sym e) tt
+
+-- an inode that a row names was not read
+pub inode_fault : (v : Volume) (d : ℕ) (f : TreeFault GrowFault) (old new : Counts) → IsNoPage f → HasReadCause old new f → (HasRows v d → IsUndone f) → IsDirectoryFault v d (Some d) f
+inode_fault v d Exists old new page cause undone = page
+inode_fault v d Absent old new page cause undone = page
+inode_fault v d (Damaged at sort) old new page cause undone = absurd page
+inode_fault v d (Pages (grow.NoRun wanted free)) old new page cause undone = absurd cause.0
+inode_fault v d (Pages (grow.Full room)) old new page cause undone = absurd cause.0
+inode_fault v d (Pages (grow.Block (block.Disk before after))) old new page cause undone = inl (λ h. h)
+inode_fault v d (Pages (grow.Block (block.Stopped durable faults))) old new page cause undone = inl (λ h. h)
+inode_fault v d (Pages (grow.Block (block.Damaged k))) old new page cause undone = inr (k, refl, inr (inr (d, refl, λ rows. undone rows tt)))
+inode_fault v d (Pages (grow.Block block.NoMemory)) old new page cause undone = inl (λ h. h)
+inode_fault v d NoMemory old new page cause undone = tt
+
+-- the inode that bears the attributes is damaged
+pub bearer_fault : (v : Volume) (id : ℕ) (o : Option ℕ) (f : TreeFault GrowFault) → f ≡ Pages (grow.Block (block.Damaged id)) → IsDirectoryFault v id o f
+bearer_fault v id o f e = subst (IsDirectoryFault v id o) (sym e) (inr (id, refl, inl refl))
+
+-- the fault of a directory, as one of the inode that names it
+pub named_fault : {T : Type 0} (v : Volume) (id d : ℕ) (o : Option ℕ) (r : Result T (TreeFault GrowFault)) → o ≡ Some d → IfErr r (IsDirectoryFault v d (Some d)) → IfErr r (IsDirectoryFault v id o)
+named_fault v id d o (Ok x) e h = tt
+named_fault v id d o (Err f) e h = subst (λ (x : Option ℕ). IsDirectoryFault v id x f) (sym e) (wider f h)
+  where
+    blame : (k : ℕ) → IsBlamed v d (Some d) k → IsBlamed v id (Some d) k
+    blame k (inl is) = inr (inl (ap (λ (n : ℕ). Some n) (sym is)))
+    blame k (inr more) = inr more
+
+    wider : (f : TreeFault GrowFault) → IsDirectoryFault v d (Some d) f → IsDirectoryFault v id (Some d) f
+    wider Exists h = h
+    wider Absent h = h
+    wider (Damaged page sort) h = h
+    wider (Pages fault) h = by_side h
+      where
+        by_side : IsUndamaged fault ⊎ ((k : ℕ) × (fault ≡ grow.Block (block.Damaged k)) × IsBlamed v d (Some d) k) → IsUndamaged fault ⊎ ((k : ℕ) × (fault ≡ grow.Block (block.Damaged k)) × IsBlamed v id (Some d) k)
+        by_side (inl sound) = inl sound
+        by_side (inr at) = inr (at.0, at.1, blame at.0 at.2)
+    wider NoMemory h = tt
 
 -- why attributes were not read, by its causes
-pub attribute_fault : (v : Volume) (id : ℕ) (f : TreeFault GrowFault) (old new : Counts) → IsDirectoryFault v (attribute_directory v id) f → HasReadCause old new f → (HasAttributes v id → IsUndone f) → IsAttributeFault v id f
+pub attribute_fault : (v : Volume) (id : ℕ) (f : TreeFault GrowFault) (old new : Counts) → IsDirectoryFault v id (attribute_directory v id) f → HasReadCause old new f → (HasAttributes v id → IsUndone f) → IsAttributeFault v id f
 attribute_fault v id Exists old new page cause undone = page
 attribute_fault v id Absent old new page cause undone = page
 attribute_fault v id (Damaged at sort) old new page cause undone = page
@@ -102,7 +153,11 @@ attribute_fault v id (Pages (grow.NoRun wanted free)) old new page cause undone 
 attribute_fault v id (Pages (grow.Full room)) old new page cause undone = absurd cause.0
 attribute_fault v id (Pages (grow.Block (block.Disk before after))) old new page cause undone = inl (λ h. h)
 attribute_fault v id (Pages (grow.Block (block.Stopped durable faults))) old new page cause undone = inl (λ h. h)
-attribute_fault v id (Pages (grow.Block (block.Damaged k))) old new page cause undone = inr (k, refl, λ has. undone has tt)
+attribute_fault v id (Pages (grow.Block (block.Damaged k))) old new page cause undone = by_side page
+  where
+    by_side : IsDirectoryFault v id (attribute_directory v id) (Pages (grow.Block (block.Damaged k))) → IsAttributeFault v id (Pages (grow.Block (block.Damaged k)))
+    by_side (inl sound) = inl sound
+    by_side (inr at) = inr (at.0, at.1, at.2, λ has. undone has tt)
 attribute_fault v id (Pages (grow.Block block.NoMemory)) old new page cause undone = inl (λ h. h)
 attribute_fault v id NoMemory old new page cause undone = tt
 
@@ -177,7 +232,7 @@ rows_are v id has small e o same =
     ∙ ap (λ (o : Option (List Item)). rows_of_attributes (entries_with v id (unwrap_or o []))) (sym has.area)
 
 -- why a reading of attributes was refused
-pub read_refused : {T : Type 0} (v : Volume) (id : ℕ) (r : Result T (TreeFault GrowFault)) (P : T → Type 0) (old new : Counts) → IfErr r (IsDirectoryFault v (attribute_directory v id)) → IfErr r (HasReadCause old new)
+pub read_refused : {T : Type 0} (v : Volume) (id : ℕ) (r : Result T (TreeFault GrowFault)) (P : T → Type 0) (old new : Counts) → IfErr r (IsDirectoryFault v id (attribute_directory v id)) → IfErr r (HasReadCause old new)
     → (HasAttributes v id → MatchResult r P IsUndone) → IfErr r (IsAttributeFault v id)
 read_refused v id (Ok x) P old new page cause undone = tt
 read_refused v id (Err f) P old new page cause undone = attribute_fault v id f old new page cause undone

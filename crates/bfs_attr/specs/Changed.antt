@@ -3,13 +3,14 @@ use Rattle.std.specs.Prelude.{true, false, ◌≡◌, ◌<◌, ◌↔◌, ℕ, �
 use Rattle.std.specs.FinMap.{get, insert, remove}
 use Rattle.std.specs.List.{flat_map}
 use Rattle.bfs_base.specs.Lists.{times, Has, IsOnce}
-use Rattle.bfs_bitmap.specs.Runs.{Room, Fits, per_block, is_free, marked}
+use Rattle.bfs_bitmap.specs.Runs.{Room, Fits, IsCounted, per_block, is_free, marked}
 use Rattle.bfs_super.specs.declared.geometry.Geometry.{Geometry}
 use Rattle.bfs_inode.specs.Inode.{inode_at}
 use Rattle.bfs_smalldata.specs.Items.{Item, items_of, size_of}
 use Rattle.bfs_smalldata.specs.Edits.{named, IsFitting}
 use Rattle.bfs_stream.specs.Grown.{IsOutside, AreWritten, is_new}
 use Rattle.bfs_stream.specs.Places.{whole_at}
+use Rattle.bfs_stream.specs.Trimmed.{AreMarked}
 use Rattle.bfs_stream.specs.Told.{contents}
 use Rattle.bfs_tree.specs.Trees.{Attribute, Attributes}
 use Rattle.bfs_maps.specs.Mapped.{HasHeld}
@@ -37,8 +38,9 @@ pub record Holds (b : Bearer) (v : Room) (m : ℕ → Option (List ℕ)) : Type 
   pub fits : Fits v m
 
 -- The attributes are these since, and are held. Blocks that they have now and had not were free, and are marked; those that they had
--- and have no more are marked no more, and are given back; no other bit changed. But for bits and their own blocks nothing
--- changed, block 0 among the rest, and of the bearing inode the address of the attribute directory and the small data alone.
+-- and have no more are marked no more, and are given back; no other bit changed; and where their blocks were marked, a right count
+-- of the used blocks stays right. But for bits and their own blocks nothing changed, block 0 among the rest, and of the bearing
+-- inode the address of the attribute directory and the small data alone. Each block that they have now and had not is changed since.
 pub record AttributesNow (b : Bearer) (v now : Room) (m : ℕ → Option (List ℕ)) (attributes : Attributes) (told : Option (ℕ → Option (List ℕ))) (old new : ℕ → Bool) : Type 0 where
   pub map : ℕ → Option (List ℕ)
   pub is : told ≡ Some map
@@ -52,6 +54,8 @@ pub record AttributesNow (b : Bearer) (v now : Room) (m : ℕ → Option (List �
   pub first : times 0 (attribute_blocks b.geometry m b.id ++ attribute_blocks b.geometry map b.id) ≡ 0 → map 0 ≡ m 0
   pub kept : inode_at (contents map b.id) ≡ record (inode_at (contents m b.id)) { attributes = (inode_at (contents map b.id)).attributes; small_data = (inode_at (contents map b.id)).small_data }
   pub written : AreWritten v old new (attribute_blocks b.geometry m b.id ++ attribute_blocks b.geometry map b.id)
+  pub counted : AreMarked v (attribute_blocks b.geometry m b.id) m → IsCounted v m → IsCounted now map
+  pub entered : (k : ℕ) → Has (attribute_blocks b.geometry map b.id) k → times k (attribute_blocks b.geometry m b.id) ≡ 0 → new k ≡ true
 
 -- an attribute of this name stands in small data
 abbrev pub IsInSmallData : Volume → ℕ → List ℕ → Type 0

@@ -10,26 +10,40 @@ use Rattle.bfs_stream_pages.specs.Steps.{IsUndamaged}
 use Rattle.bfs_values.specs.Kinds.{IsWanted}
 use Rattle.bfs_sound.specs.Volumes.{Volume}
 use Rattle.bfs_sound.specs.Inodes.{content}
+use Rattle.bfs_values.specs.Reached.{IsWholeTree}
+use Rattle.bfs_values.specs.Rows.{rows_in}
 use Rattle.bfs_sound.specs.Attributes.{attribute_directory}
 use Rattle.bfs_attr.specs.Bearers.{HasAttributes}
+use Rattle.bfs_attr.specs.Directories.{AreInodes}
 use Rattle.bfs_attr.specs.declared.directory.Shortage.{Shortage}
 use Rattle.bfs_attr.specs.declared.directory.Shortage.TheVariants as short
 
--- in the attribute directory a page that is called damaged isn't as it has to be
-abbrev pub IsDirectoryFault : Volume → Option ℕ → TreeFault GrowFault → Type 0
-IsDirectoryFault v directory Exists = ⊥
-IsDirectoryFault v directory Absent = ⊥
-IsDirectoryFault v directory (Damaged page sort) = (d : ℕ) × (directory ≡ Some d) × ¬ IsWanted Text (content v d) page sort
-IsDirectoryFault v directory (Pages fault) = Unit {0}
-IsDirectoryFault v directory NoMemory = Unit {0}
+-- the bytes of an attribute directory are a whole tree, and each row of it but `.` and `..` names a block of the volume
+abbrev pub HasRows : Volume → ℕ → Type 0
+HasRows v d = IsWholeTree Text (content v d) × AreInodes v.geometry.blocks (rows_in Text (content v d))
+
+-- A block that may be called damaged: the inode that bears the attributes; the inode of the attribute directory; or, where the
+-- directory's rows aren't as they have to be, a block that was reached by one.
+abbrev pub IsBlamed : Volume → ℕ → Option ℕ → ℕ → Type 0
+IsBlamed v id directory k = (k ≡ id) ⊎ ((directory ≡ Some k) ⊎ ((d : ℕ) × (directory ≡ Some d) × ¬ HasRows v d))
+
+-- in the attribute directory a page that is called damaged isn't as it has to be; or a block could not be had, and one that is
+-- damaged is one that may be blamed
+abbrev pub IsDirectoryFault : Volume → ℕ → Option ℕ → TreeFault GrowFault → Type 0
+IsDirectoryFault v id directory Exists = ⊥
+IsDirectoryFault v id directory Absent = ⊥
+IsDirectoryFault v id directory (Damaged page sort) = (d : ℕ) × (directory ≡ Some d) × ¬ IsWanted Text (content v d) page sort
+IsDirectoryFault v id directory (Pages fault) = IsUndamaged fault ⊎ ((k : ℕ) × (fault ≡ grow.Block (block.Damaged k)) × IsBlamed v id directory k)
+IsDirectoryFault v id directory NoMemory = Unit {0}
 
 -- Attributes that are told were not read: a page of the attribute directory isn't as it has to be; or a block could not be had,
--- and none is damaged, unless the attributes don't stand; or there is no room for the answer.
+-- and none is damaged, unless the attributes don't stand, and then it is one that may be blamed; or there is no room for the
+-- answer.
 abbrev pub IsAttributeFault : Volume → ℕ → TreeFault GrowFault → Type 0
 IsAttributeFault v id Exists = ⊥
 IsAttributeFault v id Absent = ⊥
 IsAttributeFault v id (Damaged page sort) = (d : ℕ) × (attribute_directory v id ≡ Some d) × ¬ IsWanted Text (content v d) page sort
-IsAttributeFault v id (Pages fault) = IsUndamaged fault ⊎ ((k : ℕ) × (fault ≡ grow.Block (block.Damaged k)) × ¬ HasAttributes v id)
+IsAttributeFault v id (Pages fault) = IsUndamaged fault ⊎ ((k : ℕ) × (fault ≡ grow.Block (block.Damaged k)) × IsBlamed v id (attribute_directory v id) k × ¬ HasAttributes v id)
 IsAttributeFault v id NoMemory = Unit {0}
 
 -- no page is called damaged

@@ -1,5 +1,5 @@
 // The attribute directory of an inode: where it is, and the inodes that its rows name.
-ghost use Rattle.std.specs.Prelude.{◌≡◌, ◌≢◌, ◌≤◌, ◌<◌, ◌++◌, ℕ, [], ◌∷◌, List, None, Option, Some, length, IfOk, IfErr, IfSome, MatchResult};
+ghost use Rattle.std.specs.Prelude.{◌≡◌, ◌≢◌, ◌≤◌, ◌<◌, ◌↔◌, ◌++◌, ℕ, [], ◌∷◌, List, None, Option, Some, length, IfOk, IfErr, IfSome, IsTrue, MatchResult};
 ghost use Rattle.std.specs.Option.{option_copied};
 ghost use Rattle.bfs_base.specs.declared.kind.KeyKind.TheVariants.{Text};
 ghost use Rattle.bfs_super.specs.Conditions.{IsValid, natural, block_of_run};
@@ -12,10 +12,10 @@ ghost use Rattle.bfs_range.specs.Ranges.{rows_between};
 ghost use Rattle.bfs_maps.specs.Mapped.{HasReadable};
 ghost use Rattle.bfs_maps.specs.Refused.{HasReadCause, IsUndone};
 ghost use Rattle.bfs_sound.specs.Attributes.{is_zero};
-ghost use Rattle.bfs_sound.specs.Inodes.{is_proper};
+ghost use Rattle.bfs_sound.specs.Inodes.{is_proper, proper_rows};
 ghost use Rattle.bfs_attr.specs.Bearers.{volume_at};
 ghost use Rattle.bfs_attr.specs.Directories.{IsDirectoryOf, AreInodes, inode_rows, inodes_among, AreBelow, IsPushed, IsShort};
-ghost use Rattle.bfs_attr.specs.Refused.{IsDirectoryFault, IsFaultOf};
+ghost use Rattle.bfs_attr.specs.Refused.{HasRows, IsDirectoryFault, IsFaultOf};
 ghost use Rattle.bfs_make.specs.Sites.{stream_in};
 
 use crate::inode::damaged;
@@ -208,7 +208,7 @@ pub(crate) fn named_inodes<B: Blocks>(
     requires stream { (m : ℕ → Option (List ℕ)) → B.told under.old ≡ Some m → HasReadable (stream_in site directory) m }
     ensures found { (m : ℕ → Option (List ℕ)) → B.told under.old ≡ Some m → IsWholeTree Text (stream_of (stream_in site directory) m) → AreInodes (natural site.sup.num_blocks) (rows_in Text (stream_of (stream_in site directory) m)) → MatchResult result (λ v. v.items ≡ inode_rows (rows_between Text (option_copied low.entry) (option_copied high.entry) (rows_in Text (stream_of (stream_in site directory) m)))) IsUndone }
     ensures below { IfOk result (λ v. AreBelow (natural site.sup.num_blocks) v.items) }
-    ensures refused { (m : ℕ → Option (List ℕ)) → B.told under.old ≡ Some m → IfErr result (IsDirectoryFault (volume_at (geometry_of site.sup) m) (Some directory)) }
+    ensures refused { (m : ℕ → Option (List ℕ)) → B.told under.old ≡ Some m → IfErr result (IsDirectoryFault (volume_at (geometry_of site.sup) m) directory (Some directory)) }
     ensures told { B.told under.new ≡ B.told under.old }
     ensures changed { B.changed under.new ≡ B.changed under.old }
     ensures pairs { B.pairs under.new ≡ B.pairs under.old }
@@ -230,5 +230,31 @@ pub(crate) fn named_inodes<B: Blocks>(
     match inodes_of(site.alloc, &ranged, blocks_in(site.sup)) {
         Ok(rows) => Ok(rows),
         Err(shortage) => Err(fault_of(shortage, directory)),
+    }
+}
+
+/// Does the attribute directory at a block name no attribute? The rows `.` and `..` are passed over.
+pub fn is_directory_empty<B: Blocks>(
+    site: Site,
+    under: &mut B,
+    directory: u64,
+) -> Result<bool, MapFault>
+    requires valid { IsValid site.sup }
+    requires inside { directory < natural site.sup.num_blocks }
+    requires size { B.size under.old ≡ site.sup.block_size }
+    requires stream { (m : ℕ → Option (List ℕ)) → B.told under.old ≡ Some m → HasReadable (stream_in site directory) m }
+    ensures found { (m : ℕ → Option (List ℕ)) → B.told under.old ≡ Some m → HasRows (volume_at (geometry_of site.sup) m) directory → MatchResult result (λ empty. IsTrue empty ↔ (proper_rows (volume_at (geometry_of site.sup) m) directory ≡ [])) IsUndone }
+    ensures refused { (m : ℕ → Option (List ℕ)) → B.told under.old ≡ Some m → IfErr result (IsDirectoryFault (volume_at (geometry_of site.sup) m) directory (Some directory)) }
+    ensures told { B.told under.new ≡ B.told under.old }
+    ensures changed { B.changed under.new ≡ B.changed under.old }
+    ensures pairs { B.pairs under.new ≡ B.pairs under.old }
+    ensures size { B.size under.new ≡ B.size under.old }
+    ensures frame { B.frame under.new ≡ B.frame under.old }
+    ensures later { AreLater (B.counts under.old) (B.counts under.new) }
+    ensures cause { IfErr result (HasReadCause (B.counts under.old) (B.counts under.new)) }
+{
+    match named_inodes(site, under, directory, None, None) {
+        Ok(rows) => Ok(rows.len() == 0),
+        Err(fault) => Err(fault),
     }
 }

@@ -1,5 +1,5 @@
 // Attributes, read: one by its name, or the rows of all.
-ghost use Rattle.std.specs.Prelude.{◌≡◌, ◌≤◌, ◌<◌, ◌++◌, ℕ, List, [], ◌∷◌, Option, Some, length, map, IfOk, IfErr, IsSome, MatchResult};
+ghost use Rattle.std.specs.Prelude.{◌≡◌, ◌≤◌, ◌<◌, ◌++◌, ℕ, List, [], ◌∷◌, Option, Some, length, map, IfOk, IfErr, IfSome, IsSome, MatchResult};
 ghost use Rattle.std.specs.List.{flat_map};
 ghost use Rattle.std.specs.Option.{option_map};
 ghost use Rattle.bfs_base.specs.declared.kind.KeyKind.TheVariants.{Text};
@@ -15,9 +15,10 @@ ghost use Rattle.bfs_values.specs.Reached.{IsWholeTree};
 ghost use Rattle.bfs_values.specs.Rows.{rows_in};
 ghost use Rattle.bfs_maps.specs.Mapped.{HasReadable};
 ghost use Rattle.bfs_maps.specs.Refused.{HasReadCause, IsUndone};
-ghost use Rattle.bfs_sound.specs.Attributes.{attribute_at, attributes_of};
+ghost use Rattle.bfs_sound.specs.Attributes.{attribute_at, attributes_of, attribute_directory};
 ghost use Rattle.bfs_sound.specs.Inodes.{inodes_of};
 ghost use Rattle.bfs_sound.specs.Owners.{In};
+ghost use Rattle.bfs_sound.specs.Volumes.{Volume};
 ghost use Rattle.bfs_attr.specs.Bearers.{volume_at, bearer_of, HasAttributes, CanRead, entries_at, shown, value_at};
 ghost use Rattle.bfs_attr.specs.Directories.{AreInodes, directory_in, kind_row, AreThere};
 ghost use Rattle.bfs_attr.specs.Refused.{IsDirectoryFault, IsAttributeFault, IsNoPage};
@@ -101,7 +102,7 @@ fn attribute_named<B: Blocks>(
     requires size { B.size under.old ≡ site.sup.block_size }
     requires streams { (m : ℕ → Option (List ℕ)) → B.told under.old ≡ Some m → (k : ℕ) → In k (inodes_of (volume_at (geometry_of site.sup) m) (Some directory)) → HasReadable (stream_in site k) m }
     ensures found { (m : ℕ → Option (List ℕ)) → B.told under.old ≡ Some m → IsWholeTree Text (stream_of (stream_in site directory) m) → AreInodes (natural site.sup.num_blocks) (rows_in Text (stream_of (stream_in site directory) m)) → MatchResult result (λ o. option_map shown o ≡ value_at (attributes_of (volume_at (geometry_of site.sup) m) (Some directory)) name.now) IsUndone }
-    ensures refused { (m : ℕ → Option (List ℕ)) → B.told under.old ≡ Some m → IfErr result (IsDirectoryFault (volume_at (geometry_of site.sup) m) (Some directory)) }
+    ensures refused { (m : ℕ → Option (List ℕ)) → B.told under.old ≡ Some m → IfErr result (IsDirectoryFault (volume_at (geometry_of site.sup) m) directory (Some directory)) }
     ensures told { B.told under.new ≡ B.told under.old }
     ensures changed { B.changed under.new ≡ B.changed under.old }
     ensures pairs { B.pairs under.new ≡ B.pairs under.old }
@@ -137,7 +138,7 @@ fn attribute_behind<B: Blocks>(
     requires size { B.size under.old ≡ site.sup.block_size }
     requires streams { (m : ℕ → Option (List ℕ)) → B.told under.old ≡ Some m → (k : ℕ) → In k (inodes_of (volume_at (geometry_of site.sup) m) (directory_in site.sup block.now)) → HasReadable (stream_in site k) m }
     ensures found { (m : ℕ → Option (List ℕ)) → B.told under.old ≡ Some m → block.now ≡ contents m inode → HasAttributes (volume_at (geometry_of site.sup) m) inode → MatchResult result (λ o. option_map shown o ≡ value_at (attributes_of (volume_at (geometry_of site.sup) m) (directory_in site.sup block.now)) name.now) IsUndone }
-    ensures refused { (m : ℕ → Option (List ℕ)) → B.told under.old ≡ Some m → IfErr result (IsDirectoryFault (volume_at (geometry_of site.sup) m) (directory_in site.sup block.now)) }
+    ensures refused { (m : ℕ → Option (List ℕ)) → B.told under.old ≡ Some m → IfErr result (IsDirectoryFault (volume_at (geometry_of site.sup) m) inode (directory_in site.sup block.now)) }
     ensures told { B.told under.new ≡ B.told under.old }
     ensures changed { B.changed under.new ≡ B.changed under.old }
     ensures pairs { B.pairs under.new ≡ B.pairs under.old }
@@ -153,8 +154,39 @@ fn attribute_behind<B: Blocks>(
     }
 }
 
+/// The attribute directory that an inode names, or None where it names none.
+pub fn directory_at<B: Blocks>(
+    site: Site,
+    under: &mut B,
+    inode: u64,
+) -> Result<Option<u64>, MapFault>
+    requires valid { IsValid site.sup }
+    requires size { B.size under.old ≡ site.sup.block_size }
+    ensures found { (m : ℕ → Option (List ℕ)) → B.told under.old ≡ Some m → IsSome (m inode) → IfOk result (λ o. o ≡ attribute_directory (volume_at (geometry_of site.sup) m) inode) }
+    ensures below { IfOk result (λ o. IfSome o (λ d. d < natural site.sup.num_blocks)) }
+    ensures sound { (m : ℕ → Option (List ℕ)) → B.told under.old ≡ Some m → IsSome (m inode) → HasAttributes (volume_at (geometry_of site.sup) m) inode → IfErr result IsUndone }
+    ensures refused { (m : ℕ → Option (List ℕ)) → B.told under.old ≡ Some m → IsSome (m inode) → IfErr result (IsAttributeFault (volume_at (geometry_of site.sup) m) inode) }
+    ensures told { B.told under.new ≡ B.told under.old }
+    ensures changed { B.changed under.new ≡ B.changed under.old }
+    ensures pairs { B.pairs under.new ≡ B.pairs under.old }
+    ensures size { B.size under.new ≡ B.size under.old }
+    ensures frame { B.frame under.new ≡ B.frame under.old }
+    ensures later { AreLater (B.counts under.old) (B.counts under.new) }
+    ensures cause { IfErr result (HasReadCause (B.counts under.old) (B.counts under.new)) }
+{
+    let block = match read_block(site, under, inode) {
+        Ok(block) => block,
+        Err(fault) => return Err(blocked(fault)),
+    };
+    match directory_of(site.sup, &block) {
+        Directory::Missing => Ok(None),
+        Directory::At(directory) => Ok(Some(directory)),
+        Directory::Broken => Err(damaged(inode)),
+    }
+}
+
 /// The attribute of a name.
-pub(crate) fn attribute_of<B: Blocks>(
+pub fn attribute_of<B: Blocks>(
     site: Site,
     under: &mut B,
     inode: u64,
@@ -265,7 +297,7 @@ fn rows_with<B: Blocks>(
     requires size { B.size under.old ≡ site.sup.block_size }
     requires streams { (m : ℕ → Option (List ℕ)) → B.told under.old ≡ Some m → (k : ℕ) → In k (inodes_of (volume_at (geometry_of site.sup) m) (Some directory)) → HasReadable (stream_in site k) m }
     ensures found { (m : ℕ → Option (List ℕ)) → B.told under.old ≡ Some m → IsWholeTree Text (stream_of (stream_in site directory) m) → AreInodes (natural site.sup.num_blocks) (rows_in Text (stream_of (stream_in site directory) m)) → MatchResult result (λ rows. rows ≡ small.items ++ rows_of_attributes (attributes_of (volume_at (geometry_of site.sup) m) (Some directory))) IsUndone }
-    ensures refused { (m : ℕ → Option (List ℕ)) → B.told under.old ≡ Some m → IfErr result (IsDirectoryFault (volume_at (geometry_of site.sup) m) (Some directory)) }
+    ensures refused { (m : ℕ → Option (List ℕ)) → B.told under.old ≡ Some m → IfErr result (IsDirectoryFault (volume_at (geometry_of site.sup) m) directory (Some directory)) }
     ensures told { B.told under.new ≡ B.told under.old }
     ensures changed { B.changed under.new ≡ B.changed under.old }
     ensures pairs { B.pairs under.new ≡ B.pairs under.old }
@@ -299,7 +331,7 @@ fn rows_behind<B: Blocks>(
     requires size { B.size under.old ≡ site.sup.block_size }
     requires streams { (m : ℕ → Option (List ℕ)) → B.told under.old ≡ Some m → (k : ℕ) → In k (inodes_of (volume_at (geometry_of site.sup) m) (directory_in site.sup block.now)) → HasReadable (stream_in site k) m }
     ensures found { (m : ℕ → Option (List ℕ)) → B.told under.old ≡ Some m → block.now ≡ contents m inode → HasAttributes (volume_at (geometry_of site.sup) m) inode → MatchResult result (λ rows. rows ≡ small.items ++ rows_of_attributes (attributes_of (volume_at (geometry_of site.sup) m) (directory_in site.sup block.now))) IsUndone }
-    ensures refused { (m : ℕ → Option (List ℕ)) → B.told under.old ≡ Some m → IfErr result (IsDirectoryFault (volume_at (geometry_of site.sup) m) (directory_in site.sup block.now)) }
+    ensures refused { (m : ℕ → Option (List ℕ)) → B.told under.old ≡ Some m → IfErr result (IsDirectoryFault (volume_at (geometry_of site.sup) m) inode (directory_in site.sup block.now)) }
     ensures told { B.told under.new ≡ B.told under.old }
     ensures changed { B.changed under.new ≡ B.changed under.old }
     ensures pairs { B.pairs under.new ≡ B.pairs under.old }
@@ -318,7 +350,7 @@ fn rows_behind<B: Blocks>(
 /// The rows of an area of small data; or an item runs past it; or there is no memory for them.
 fn area_rows(site: Site, inode: u64, area: &[u8]) -> Result<Vec<AttributeRow>, MapFault>
     ensures found { (items : List Item) → items_of area.now ≡ Some items → MatchResult result (λ rows. rows.items ≡ flat_map item_rows items) IsUndone }
-    ensures page { IfErr result IsNoPage }
+    ensures blamed { (v : Volume) (directory : Option ℕ) → IfErr result (IsDirectoryFault v inode directory) }
     ensures cause { (old new : Counts) → IfErr result (HasReadCause old new) }
 {
     match list_end(area) {
@@ -331,11 +363,7 @@ fn area_rows(site: Site, inode: u64, area: &[u8]) -> Result<Vec<AttributeRow>, M
 }
 
 /// The rows of all attributes.
-pub(crate) fn rows_of<B: Blocks>(
-    site: Site,
-    under: &mut B,
-    inode: u64,
-) -> Result<AttrRows, MapFault>
+pub fn rows_of<B: Blocks>(site: Site, under: &mut B, inode: u64) -> Result<AttrRows, MapFault>
     requires valid { IsValid site.sup }
     requires size { B.size under.old ≡ site.sup.block_size }
     requires readable { (m : ℕ → Option (List ℕ)) → B.told under.old ≡ Some m → CanRead (bearer_of inode site.sup) m }

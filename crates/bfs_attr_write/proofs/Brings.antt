@@ -30,6 +30,7 @@ new_exchange o v now m map s = record {
   were_free = λ k has none. s.were_free k has;
   free = s.free;
   marks = λ k low. new_marks (times k (whole_at o.sizes (contents map) o.id) == 0) (marked (per_block v) m k) (marked (per_block v) map k) (s.marks k low);
+  counted = λ used. s.counted;
   others = s.others;
   first = λ none. s.first;
 }
@@ -53,6 +54,7 @@ moved_exchange o v now m map s =
       were_free = s.were_free;
       free = s.free;
       marks = λ k low. moved_marks (times k before == 0) (times k after == 0) (marked (per_block v) m k) (marked (per_block v) map k) (keeps_test (times k before) (times k after) (whole_moves o v now m map s k)) (s.marks k low);
+      counted = λ used. s.counted;
       others = λ k out none. let parts = times-append k before after in s.others k out (omega (arith, parts, none));
       first = λ none. let parts = times-append 0 before after in s.first (omega (arith, parts, none));
     }
@@ -75,6 +77,7 @@ gone_exchange o v now m told old new g rest =
       were_free = λ k has none. let bad : 0 < 0 = has in absurd (omega (arith, bad));
       free = λ k. g.free k ∙ and_true (is_free v m k);
       marks = λ k low. gone_marks (times k whole == 0) (marked (per_block v) m k) (marked (per_block v) g.map k) (g.marks k low);
+      counted = g.counted;
       others = λ k out none. g.others k out (first_none k (times k behind) (let parts : times k (whole ++ []) ≡ times k whole + 0 = times-append k whole [] in let h : cond (o.id == k) 1 0 + times k behind ≡ 0 = (let w : times k whole ≡ 0 = omega (arith, parts, none) in w) in h));
       first = λ none. g.first (first_none 0 (times 0 behind) (let parts : times 0 (whole ++ []) ≡ times 0 whole + 0 = times-append 0 whole [] in let h : cond (o.id == 0) 1 0 + times 0 behind ≡ 0 = (let w : times 0 whole ≡ 0 = omega (arith, parts, none) in w) in h));
     }

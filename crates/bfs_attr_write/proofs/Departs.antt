@@ -16,6 +16,7 @@ use Rattle.bfs_txn.specs.declared.fault.BlockFault.TheVariants as block
 use Rattle.bfs_stream.specs.declared.fault.GrowFault.{GrowFault}
 use Rattle.bfs_stream.specs.declared.fault.GrowFault.TheVariants as grow
 use Rattle.bfs_stream_pages.specs.Held.{stream_of}
+use Rattle.bfs_txn.specs.Told.{StaysChanged}
 use Rattle.bfs_tree.specs.Trees.{Attribute}
 use Rattle.bfs_maps.specs.Mapped.{HasHeld, rows_of}
 use Rattle.bfs_maps.specs.Refused.{IsNumberPage, IsTakeFault, IsTakingFault, IsUndone, HasTakeCause}
@@ -27,13 +28,12 @@ use Rattle.bfs_values.specs.Rows.{rows_in}
 use Rattle.bfs_sound.specs.Attributes.{attributes_of, attribute_at, attribute_inodes}
 use Rattle.bfs_sound.specs.Owners.{In}
 use Rattle.bfs_attr.specs.Bearers.{Bearer, bearer_of, volume_at, origin, entries_at, attributes_at}
-use Rattle.bfs_attr.specs.Changed.{AttributesNow}
 use Rattle.bfs_attr.specs.Laws.{HasNone, HasNoRow}
 use Rattle.bfs_attr.specs.Refused.{IsNoPage}
 use Rattle.bfs_attr.proofs.Tops.{directory_stands, few_blocks, value_is}
-use Rattle.bfs_attr_write.specs.Removal.{CanTake, IsNotTakenOut, IsTakenOutFault}
+use Rattle.bfs_attr_write.specs.Removal.{CanTake, HasRowTaken, IsNotTakenOut, IsTakenOutFault}
 use Rattle.bfs_attr_write.proofs.Brings.{gone_exchange}
-use Rattle.bfs_attr_write.proofs.Leaving.{low, stream_taken, attributes_left, was_there}
+use Rattle.bfs_attr_write.proofs.Leaving.{low, stream_taken, row_taken, was_there}
 use Rattle.bfs_attr_write.proofs.Picked.{number_named, none_behind}
 
 module _ (s : Super) (valid : IsValid s) (inode : ℕ) (v : Room) (m : ℕ → Option (List ℕ)) (d : ℕ) (name : List ℕ) (can : CanTake (bearer_of inode s) v m d name) where
@@ -74,11 +74,11 @@ module _ (s : Super) (valid : IsValid s) (inode : ℕ) (v : Room) (m : ℕ → O
       pub named_held : HasHeld (origin bearer.geometry id) mid now.map
       named_held = stream_taken bearer v m can.holds d can.there name can.proper id there mid now.map now.moved now.held
 
-      pub left : (later : Room) (since : Option (ℕ → Option (List ℕ))) (new : ℕ → Bool) → later ≡ record mid { given = later.given; tally = later.tally } → HasGivenBack (origin bearer.geometry id) mid later now.map since half new
-          → AttributesNow bearer v later m (remove (attributes_at volume inode) name) since old new
-      left later since new rest gone =
-          attributes_left bearer v m can.holds d can.there name can.proper id there mid now.map now.moved now.held later gone.map
-          (gone_exchange (origin bearer.geometry id) mid later now.map since half new gone rest) now.bytes since gone.is old half new now.written gone.written
+      pub left : (later : Room) (since : Option (ℕ → Option (List ℕ))) (new : ℕ → Bool) → later ≡ record mid { given = later.given; tally = later.tally } → StaysChanged half new → HasGivenBack (origin bearer.geometry id) mid later now.map since half new
+          → HasRowTaken bearer v later m (remove (attributes_at volume inode) name) since old new
+      left later since new rest stays gone =
+          row_taken bearer v m can.holds d can.there name can.proper id there mid now.map now.moved now.held later gone.map
+          (gone_exchange (origin bearer.geometry id) mid later now.map since half new gone rest) now.bytes since gone.is old half new now.written gone.written now.fresh stays
 
 undone_out : (v : Volume) (id : ℕ) (name : List ℕ) (fault : TreeFault GrowFault) → IsUndone fault → IsNotTakenOut v id name fault
 undone_out v id name Exists h = h

@@ -4,6 +4,8 @@ use Rattle.std.specs.Prelude.{◌==◌}
 use Rattle.bfs_base.specs.Lists.{times, Has}
 use Rattle.bfs_bitmap.specs.Runs.{Room, per_block, is_free, marked}
 use Rattle.bfs_stream.specs.Grown.{IsOutside, is_new}
+use Rattle.bfs_stream.specs.Trimmed.{AreMarked}
+use Rattle.bfs_stream.proofs.Frames.{has_right}
 use Rattle.bfs_stream.proofs.Doubles.{times-append}
 use Rattle.bfs_stream.proofs.Taking.{zero_test, some_test}
 use Rattle.bfs_attr_write.specs.Exchanged.{Exchanged}
@@ -34,6 +36,13 @@ module _ (v now : Room) (m map : ℕ → Option (List ℕ)) (before after first 
       by_count zero z = let none : times k second ≡ 0 = count_zero (times k second) (also k ∙ zero_test (times k after) z) in let some : 0 < times k second = has in absurd (omega (arith, some, none))
       by_count (suc n) z = let h : 0 < times k after = omega (arith, z) in h
 
+  has_before : (k : ℕ) → Has before k → Has first k
+  has_before k has = by_count (times k first) refl
+    where
+      by_count : (n : ℕ) → times k first ≡ n → Has first k
+      by_count zero z = let none : times k before ≡ 0 = count_zero (times k before) (sym (same k) ∙ zero_test (times k first) z) in let some : 0 < times k before = has in absurd (omega (arith, some, none))
+      by_count (suc n) z = let h : 0 < times k first = omega (arith, z) in h
+
   pub exchanged_as : Exchanged v now m map first second
   exchanged_as = record {
     rest = e.rest;
@@ -41,6 +50,7 @@ module _ (v now : Room) (m map : ℕ → Option (List ℕ)) (before after first 
     were_free = λ k has none. e.were_free k (has_second k has) (count_zero (times k before) (sym (same k) ∙ zero_test (times k first) none));
     free = λ k. e.free k ∙ ap (λ (b : Bool). is_free v m k && b) (sym (also k));
     marks = λ k low. e.marks k low ∙ ap₂ (λ (a b : Bool). cond (a && not b) 1 (cond (b && not a) 0 (marked (per_block v) m k))) (sym (same k)) (sym (also k));
+    counted = λ used. e.counted (λ k low has. used k low (has_before k has));
     others = λ k out none. e.others k out (none_both k none);
     first = λ none. e.first (none_both 0 none);
   }
@@ -102,6 +112,7 @@ module _ (v now : Room) (m map : ℕ → Option (List ℕ)) (before after beside
         e.marks k low
         ∙ framed_marks (times k before == 0) (times k after == 0) (times k beside == 0) (marked (per_block v) m k) (λ t. (zero_test (times k before) (apart k (is_beside k t)), zero_test (times k after) (not_after k (is_beside k t))))
         ∙ ap₂ (λ (a b : Bool). cond (a && not b) 1 (cond (b && not a) 0 (marked (per_block v) m k))) (sym (zero_append k beside before)) (sym (zero_append k beside after));
+    counted = λ used. e.counted (λ k low has. used k low (has_right beside before k has));
     others = λ k out none. e.others k out (no_part k none);
     first = λ none. e.first (no_part 0 none);
   }
@@ -185,6 +196,19 @@ module _ (v mid now : Room) (m m1 map : ℕ → Option (List ℕ)) (xs ys zs : L
       subst (λ (x : Room). marked (per_block x) map k ≡ cond (is_new ys zs k) 1 (cond (is_new zs ys k) 0 (marked (per_block x) m1 k))) one.rest
       (two.marks k (subst (λ (x : Room). k < x.blocks) (sym one.rest) low))
 
+  -- what stands in the middle is marked there
+  mark_mid : (a b : Bool) (x y : ℕ) → b ≡ false → (a ≡ false → x ≡ 1) → y ≡ cond (a && not b) 1 (cond (b && not a) 0 x) → y ≡ 1
+  mark_mid true false x y e had f = f
+  mark_mid false false x y e had f = f ∙ had refl
+  mark_mid true true x y e had f = let bad : true ≡ false = e in cc
+  mark_mid false true x y e had f = let bad : true ≡ false = e in cc
+
+  marked_mid : AreMarked v xs m → AreMarked mid ys m1
+  marked_mid used k low has =
+      let below : k < v.blocks = subst (λ (x : Room). k < x.blocks) one.rest low in
+      subst (λ (x : Room). marked (per_block x) m1 k ≡ 1) (sym one.rest)
+      (mark_mid (times k xs == 0) (times k ys == 0) (marked (per_block v) m k) (marked (per_block v) m1 k) (some_test (times k ys) has) (λ t. used k below (some_of xs k t)) (one.marks k below))
+
   pub exchanged_twice : Exchanged v now m map xs zs
   exchanged_twice = record {
     rest = two.rest ∙ ap (λ (x : Room). record x { given = now.given; tally = now.tally }) one.rest;
@@ -192,6 +216,7 @@ module _ (v mid now : Room) (m m1 map : ℕ → Option (List ℕ)) (xs ys zs : L
     were_free = free_first;
     free = λ k. two.free k ∙ ap (λ (b : Bool). b && (times k zs == 0)) (one.free k) ∙ twice_free (is_free v m k) (times k ys == 0) (times k zs == 0) (went_used k);
     marks = λ k low. twice_marks (times k xs == 0) (times k ys == 0) (times k zs == 0) (marked (per_block v) m k) (marked (per_block v) m1 k) (marked (per_block v) map k) (sides k) (not_back k) (one.marks k low) (marks_two k low);
+    counted = λ used count. two.counted (marked_mid used) (one.counted used count);
     others = λ k out none.
         let a = times-append k xs zs in
         let b = times-append k ys zs in

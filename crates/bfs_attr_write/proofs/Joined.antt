@@ -22,8 +22,10 @@ use Rattle.bfs_stream.specs.Told.{contents}
 use Rattle.bfs_stream.proofs.Doubles.{times-append}
 use Rattle.bfs_stream.proofs.Frames.{has_first, has_right}
 use Rattle.bfs_stream.proofs.Writes.{wrote_more, wrote_twice}
+use Rattle.bfs_txn.specs.Told.{StaysChanged}
 use Rattle.bfs_stream_pages.specs.Held.{stream_of}
 use Rattle.bfs_stream_pages.specs.Moves.{Moved}
+use Rattle.bfs_stream_pages.specs.MovesLaws.{whole_moves}
 use Rattle.bfs_tree.specs.Trees.{Attribute}
 use Rattle.bfs_values.specs.Rows.{rows_in}
 use Rattle.bfs_values.proofs.RowLists.{put-split}
@@ -41,6 +43,7 @@ use Rattle.bfs_make.specs.Made.{IsNewStream}
 use Rattle.bfs_attr.specs.Bearers.{Bearer, volume_at, origin, HasAttributes, entries_with, entries_at, attributes_at}
 use Rattle.bfs_attr.specs.Changed.{attribute_blocks, Holds, AttributesNow}
 use Rattle.bfs_attr.specs.Made.{IsAttributeInode}
+use Rattle.bfs_attr_write.specs.Adding.{HasRowPut}
 use Rattle.bfs_attr_write.specs.Exchanged.{Exchanged}
 use Rattle.bfs_attr_write.proofs.Exchanges.{exchanged_as, exchanged_beside, exchanged_twice}
 use Rattle.bfs_attr_write.proofs.Brings.{moved_exchange}
@@ -428,7 +431,8 @@ module _ (b : Bearer) (v mid now : Room) (m m1 map' : ℕ → Option (List ℕ))
       taken_since : (k : ℕ) → Has (attribute_blocks b.geometry map' b.id) k → is_free now map' k ≡ false
       taken_since = come_used v now m map' (attribute_blocks b.geometry m b.id) (attribute_blocks b.geometry map' b.id) exchanged
 
-  module _ (told : Option (ℕ → Option (List ℕ))) (is : told ≡ Some map') (old half since_changed : ℕ → Bool) (stored_written : AreWritten v old half made) (put_written : AreWritten mid half since_changed after) where
+  module _ (told : Option (ℕ → Option (List ℕ))) (is : told ≡ Some map') (old half since_changed : ℕ → Bool) (stored_written : AreWritten v old half made) (put_written : AreWritten mid half since_changed after)
+      (stored_entered : (k : ℕ) → Has made k → half k ≡ true) (put_fresh : (k : ℕ) → Has after k → times k middle ≡ 0 → since_changed k ≡ true) (put_stays : StaysChanged half since_changed) where
     these : List ℕ
     these = attribute_blocks b.geometry m b.id ++ attribute_blocks b.geometry map' b.id
 
@@ -441,6 +445,18 @@ module _ (b : Bearer) (v mid now : Room) (m m1 map' : ℕ → Option (List ℕ))
         (wrote_more (IsBitmapBlock v) old half made these (λ k has. in_these k (let c = count_since k in let h : 0 < times k made = has in let s : 0 < times k (attribute_blocks b.geometry map' b.id) = omega (arith, c, h) in s)) stored_written)
         (wrote_more (IsBitmapBlock v) half since_changed after these (λ k has. in_these k (let c = count_since k in let h : 0 < times k after = has in let s : 0 < times k (attribute_blocks b.geometry map' b.id) = omega (arith, c, h) in s))
         (subst (λ (x : Room). AreWritten x half since_changed after) fresh.rest put_written))
+
+    entered : (k : ℕ) → Has (attribute_blocks b.geometry map' b.id) k → times k (attribute_blocks b.geometry m b.id) ≡ 0 → since_changed k ≡ true
+    entered k has none = by_count (times k made) refl
+      where
+        by_count : (n : ℕ) → times k made ≡ n → since_changed k ≡ true
+        by_count zero z =
+            let c = count_since k in
+            let p = count_before k in
+            let e : times k middle ≡ times k before = ap (times k) middle_is in
+            let h : 0 < times k (attribute_blocks b.geometry map' b.id) = has in
+            put_fresh k (let s : 0 < times k after = omega (arith, c, p, h, z, none) in s) (omega (arith, e, p, none))
+        by_count (suc n) z = put_stays k (stored_entered k (let s : 0 < times k made = omega (arith, z) in s))
 
     pub attributes_joined : AttributesNow b v now m (insert (attributes_at volume b.id) name attribute) told old since_changed
     unfolding these
@@ -456,4 +472,26 @@ module _ (b : Bearer) (v mid now : Room) (m m1 map' : ℕ → Option (List ℕ))
       first = exchanged.first;
       kept = subst (λ (l : List ℕ). inode_at l ≡ record (inode_at (contents m b.id)) { attributes = (inode_at l).attributes; small_data = (inode_at l).small_data }) (sym bearer_bytes) refl;
       written = wrote;
+      counted = exchanged.counted;
+      entered = entered;
     }
+
+    keeps : (k : ℕ) → Has (attribute_blocks b.geometry m b.id) k → Has (attribute_blocks b.geometry map' b.id) k
+    keeps k has = by_count (times k before) refl
+      where
+        by_count : (n : ℕ) → times k before ≡ n → Has (attribute_blocks b.geometry map' b.id) k
+        by_count zero z =
+            let p = count_before k in
+            let c = count_since k in
+            let h : 0 < times k (attribute_blocks b.geometry m b.id) = has in
+            let s : 0 < times k (attribute_blocks b.geometry map' b.id) = omega (arith, p, c, h, z) in s
+        by_count (suc n) z =
+            let e : times k middle ≡ times k before = ap (times k) middle_is in
+            let there : 0 < times k middle = omega (arith, e, z) in
+            let h : 0 < times k after = whole_moves (origin b.geometry d) mid now m1 map' moved k there in
+            let c = count_since k in
+            let s : 0 < times k (attribute_blocks b.geometry map' b.id) = omega (arith, c, h) in s
+
+    pub row_put : HasRowPut b v now m (insert (attributes_at volume b.id) name attribute) told old since_changed
+    unfolding attributes_joined
+    row_put = record { now_are = attributes_joined; bearer = bearer_same; keeps = keeps }

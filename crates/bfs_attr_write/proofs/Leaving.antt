@@ -22,6 +22,7 @@ use Rattle.bfs_stream.specs.Told.{contents}
 use Rattle.bfs_stream.proofs.Doubles.{times-append}
 use Rattle.bfs_stream.proofs.Frames.{bytes_same, has_first, has_left, has_right}
 use Rattle.bfs_stream.proofs.Writes.{wrote_more, wrote_twice}
+use Rattle.bfs_txn.specs.Told.{StaysChanged}
 use Rattle.bfs_stream_pages.specs.Held.{stream_of}
 use Rattle.bfs_stream_pages.specs.Moves.{Moved}
 use Rattle.bfs_values.specs.Reached.{IsWholeTree}
@@ -37,6 +38,7 @@ use Rattle.bfs_sound.proofs.Counts.{has_member}
 use Rattle.bfs_sound.proofs.Rows.{directory_same, inodes_stay}
 use Rattle.bfs_attr.specs.Bearers.{Bearer, volume_at, origin, HasAttributes, entries_with, entries_at, attributes_at}
 use Rattle.bfs_attr.specs.Changed.{attribute_blocks, Holds, AttributesNow}
+use Rattle.bfs_attr_write.specs.Removal.{HasRowTaken}
 use Rattle.bfs_attr_write.specs.Exchanged.{Exchanged}
 use Rattle.bfs_attr_write.proofs.Exchanges.{exchanged_as, exchanged_beside, exchanged_twice}
 use Rattle.bfs_attr_write.proofs.Brings.{moved_exchange}
@@ -468,7 +470,8 @@ module _ (b : Bearer) (v : Room) (m : ℕ → Option (List ℕ)) (holds : Holds 
         fits = exchanged.fits;
       }
 
-      module _ (told : Option (ℕ → Option (List ℕ))) (is : told ≡ Some map') (old half new : ℕ → Bool) (row_written : AreWritten v old half middle) (gone_written : AreWritten mid half new (id ∷ [])) where
+      module _ (told : Option (ℕ → Option (List ℕ))) (is : told ≡ Some map') (old half new : ℕ → Bool) (row_written : AreWritten v old half middle) (gone_written : AreWritten mid half new (id ∷ []))
+          (row_fresh : (k : ℕ) → Has middle k → times k before ≡ 0 → half k ≡ true) (gone_stays : StaysChanged half new) where
         these : List ℕ
         these = attribute_blocks b.geometry m b.id ++ attribute_blocks b.geometry map' b.id
 
@@ -487,6 +490,13 @@ module _ (b : Bearer) (v : Room) (m : ℕ → Option (List ℕ)) (holds : Holds 
             (wrote_more (IsBitmapBlock v) old half middle these in_middle_these row_written)
             (wrote_more (IsBitmapBlock v) half new (id ∷ []) these in_gone_these (subst (λ (x : Room). AreWritten x half new (id ∷ [])) moved.rest gone_written))
 
+        entered : (k : ℕ) → Has (attribute_blocks b.geometry map' b.id) k → times k (attribute_blocks b.geometry m b.id) ≡ 0 → new k ≡ true
+        entered k has none =
+            let c = count_since k in
+            let p = count_before k in
+            let h : 0 < times k (attribute_blocks b.geometry map' b.id) = has in
+            gone_stays k (row_fresh k (let s : 0 < times k middle = omega (arith, c, p, h, none) in s) (omega (arith, p, none)))
+
         pub attributes_left : AttributesNow b v now m (remove (attributes_at volume b.id) name) told old new
         unfolding these
         attributes_left = record {
@@ -501,4 +511,10 @@ module _ (b : Bearer) (v : Room) (m : ℕ → Option (List ℕ)) (holds : Holds 
           first = exchanged.first;
           kept = subst (λ (l : List ℕ). inode_at l ≡ record (inode_at (contents m b.id)) { attributes = (inode_at l).attributes; small_data = (inode_at l).small_data }) (sym bearer_bytes) refl;
           written = wrote;
+          counted = exchanged.counted;
+          entered = entered;
         }
+
+        pub row_taken : HasRowTaken b v now m (remove (attributes_at volume b.id) name) told old new
+        unfolding attributes_left
+        row_taken = record { now_are = attributes_left; bearer = bearer_same }

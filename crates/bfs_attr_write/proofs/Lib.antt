@@ -11,3 +11,7 @@ pub mod Parted
 pub mod Picked
 pub mod Leaving
 pub mod Departs
+pub mod Addressed
+pub mod MakesDirectory
+pub mod DropsDirectory
+pub mod Follows

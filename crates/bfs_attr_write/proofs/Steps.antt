@@ -22,11 +22,10 @@ use Rattle.bfs_sound.specs.Volumes.{Volume}
 use Rattle.bfs_sound.specs.Inodes.{content, id_of}
 use Rattle.bfs_sound.specs.Attributes.{attributes_in, attributes_of, attribute_at, attribute_directory}
 use Rattle.bfs_attr.specs.Bearers.{Bearer, volume_at, origin, entries_at, entries_with, attributes_at}
-use Rattle.bfs_attr.specs.Changed.{AttributesNow}
 use Rattle.bfs_attr.proofs.Tops.{value_is}
-use Rattle.bfs_attr_write.specs.Adding.{CanAdd, IsStored, IsRowFault}
+use Rattle.bfs_attr_write.specs.Adding.{CanAdd, IsStored, HasRowPut, IsRowFault}
 use Rattle.bfs_attr_write.proofs.Begun.{tree_begun, bytes_begun}
-use Rattle.bfs_attr_write.proofs.Joined.{attributes_joined}
+use Rattle.bfs_attr_write.proofs.Joined.{row_put}
 use Rattle.bfs_attr_write.proofs.Unknown.{find_behind, no_row}
 
 put_fault_row : (o : Origin) (v : Room) (m : ℕ → Option (List ℕ)) (rows : List Row) (key : Key) (fault : TreeFault GrowFault) → ((value : ℤ) → assoc Text rows key ≡ Some value → ⊥) → IsPutFault Text o v m rows key fault → IsRowFault o v m fault
@@ -51,10 +50,10 @@ module _ (b : Bearer) (v mid : Room) (m map : ℕ → Option (List ℕ)) (d id :
   directory_tree = tree_begun b v mid m map can.holds id d stored.fresh can.there
 
   pub row_joined : id < b.geometry.blocks → (later : Room) (told : Option (ℕ → Option (List ℕ))) (new : ℕ → Bool) → AreRowsNow Text (origin b.geometry d) mid later map (put Text (rows_of Text (origin b.geometry d) map) name (pos id)) told half new
-      → AttributesNow b v later m (insert (attributes_at volume b.id) name attribute) told old new
+      → HasRowPut b v later m (insert (attributes_at volume b.id) name attribute) told old new
   row_joined low later told new now =
-      attributes_joined b v mid later m map now.map can.holds id d stored.fresh can.there stored.held name attribute stored.inode low can.proper not_there
-      now.held now.bytes now.moved told now.is old half new stored.written now.written
+      row_put b v mid later m map now.map can.holds id d stored.fresh can.there stored.held name attribute stored.inode low can.proper not_there
+      now.held now.bytes now.moved told now.is old half new stored.written now.written stored.entered now.fresh now.stays
 
   -- no row has the name
   behind_none : find text_cmp name (attributes_of volume (Some d)) ≡ None

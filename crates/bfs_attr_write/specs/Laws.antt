@@ -12,18 +12,19 @@ use Rattle.bfs_super.specs.Conditions.{IsValid}
 use Rattle.bfs_super.specs.Geometry.{geometry_of}
 use Rattle.bfs_super.specs.declared.sup.Super.{Super}
 use Rattle.bfs_stream.specs.Sizes.{sizes_of, first_block}
-use Rattle.bfs_tree.specs.Trees.{Attribute}
+use Rattle.bfs_txn.specs.Told.{StaysChanged}
+use Rattle.bfs_tree.specs.Trees.{Attribute, Attributes}
 use Rattle.bfs_maps.specs.Mapped.{HasHeld, rows_of}
 use Rattle.bfs_rows.specs.RowTrees.{AreRowsNow}
 use Rattle.bfs_make.specs.Given.{HasGivenBack}
 use Rattle.bfs_make.specs.Made.{HasStored}
 use Rattle.bfs_make.specs.declared.making.NewInode.{NewInode}
 use Rattle.bfs_attr.specs.Bearers.{Bearer, bearer_of, volume_at, origin, attributes_at}
-use Rattle.bfs_attr.specs.Changed.{AttributesNow}
+use Rattle.bfs_attr.specs.Changed.{attribute_blocks, Holds, AttributesNow}
 use Rattle.bfs_attr.specs.Made.{IsAttributeInode}
 use Rattle.bfs_attr_write.specs.Adding.{CanAdd, IsStored}
 use Rattle.bfs_attr_write.specs.Exchanged.{Exchanged}
-use Rattle.bfs_attr_write.specs.Removal.{CanTake}
+use Rattle.bfs_attr_write.specs.Removal.{CanTake, HasRowTaken}
 
 -- An inode that was stored with a stream, and is that of an attribute, is that attribute stored.
 abbrev pub AttributesAreStored : Type 0
@@ -53,5 +54,14 @@ abbrev pub RowsLeave : Type 0
 RowsLeave = (s : Super) (inode : ℕ) (v mid now : Room) (m : ℕ → Option (List ℕ)) (d id : ℕ) (name : List ℕ) (taken told : Option (ℕ → Option (List ℕ))) (old half new : ℕ → Bool)
     → IsValid s → CanTake (bearer_of inode s) v m d name → assoc Text (rows_of Text (origin (geometry_of s) d) m) name ≡ Some (pos id)
     → (row : AreRowsNow Text (origin (geometry_of s) d) v mid m (without Text (rows_of Text (origin (geometry_of s) d) m) name) taken old half)
-    → now ≡ record mid { given = now.given; tally = now.tally } → HasGivenBack (origin (geometry_of s) id) mid now row.map told half new
-    → AttributesNow (bearer_of inode s) v now m (remove (attributes_at (volume_at (geometry_of s) m) inode) name) told old new
+    → now ≡ record mid { given = now.given; tally = now.tally } → HasGivenBack (origin (geometry_of s) id) mid now row.map told half new → StaysChanged half new
+    → HasRowTaken (bearer_of inode s) v now m (remove (attributes_at (volume_at (geometry_of s) m) inode) name) told old new
+
+-- Two changes of the attributes of an inode, of which the second begins with what the first has left, are one, where what the first
+-- brought stays, or was there before.
+abbrev pub ChangesFollow : Type 0
+ChangesFollow = (b : Bearer) (v mid now : Room) (m : ℕ → Option (List ℕ)) (first second : Attributes) (told later : Option (ℕ → Option (List ℕ))) (old half new : ℕ → Bool)
+    → mid ≡ record v { given = mid.given; tally = mid.tally } → now ≡ record mid { given = now.given; tally = now.tally } → Holds b v m
+    → (one : AttributesNow b v mid m first told old half) → (two : AttributesNow b mid now one.map second later half new) → StaysChanged half new
+    → ((k : ℕ) → Has (attribute_blocks b.geometry one.map b.id) k → Has (attribute_blocks b.geometry m b.id) k ⊎ Has (attribute_blocks b.geometry two.map b.id) k)
+    → AttributesNow b v now m second later old new

@@ -1,4 +1,5 @@
 pub mod Exchanged
 pub mod Adding
 pub mod Removal
+pub mod Directories
 pub mod Laws

@@ -1,5 +1,5 @@
 -- A row that is taken out of an attribute directory, with the inode that it names.
-use Rattle.std.specs.Prelude.{◌≡◌, ◌⊎◌, ℕ, true, List, Option, Some, IfSome}
+use Rattle.std.specs.Prelude.{◌≡◌, ◌⊎◌, ℕ, true, List, Bool, Option, Some, IfSome}
 use Rattle.bfs_base.specs.declared.kind.KeyKind.TheVariants.{Text}
 use Rattle.bfs_bitmap.specs.Runs.{Room}
 use Rattle.bfs_node.specs.declared.fault.TreeFault.{TreeFault}
@@ -14,7 +14,8 @@ use Rattle.bfs_sound.specs.Attributes.{attribute_directory}
 use Rattle.bfs_sound.specs.Inodes.{is_proper}
 use Rattle.bfs_sound.specs.Volumes.{Volume}
 use Rattle.bfs_attr.specs.Bearers.{Bearer, bearer_of, volume_at, origin}
-use Rattle.bfs_attr.specs.Changed.{Holds}
+use Rattle.bfs_tree.specs.Trees.{Attributes}
+use Rattle.bfs_attr.specs.Changed.{Holds, AttributesNow}
 use Rattle.bfs_attr.specs.Laws.{HasNoRow}
 
 -- The attributes of an inode are held, their attribute directory stands at this block, and the name is neither `.` nor `..`.
@@ -22,6 +23,11 @@ pub record CanTake (b : Bearer) (v : Room) (m : ℕ → Option (List ℕ)) (d : 
   pub holds : Holds b v m
   pub there : attribute_directory (volume_at b.geometry m) b.id ≡ Some d
   pub proper : is_proper name ≡ true
+
+-- A row was taken, and the inode that it named given back: the attributes are these since, and the inode that bears them is as it was.
+pub record HasRowTaken (b : Bearer) (v now : Room) (m : ℕ → Option (List ℕ)) (attributes : Attributes) (told : Option (ℕ → Option (List ℕ))) (old new : ℕ → Bool) : Type 0 where
+  pub now_are : AttributesNow b v now m attributes told old new
+  pub bearer : now_are.map b.id ≡ m b.id
 
 -- Why no row was taken: the attribute directory has none of this name; or a block could not be had, and none is damaged; or there
 -- is no memory.

@@ -15,8 +15,7 @@ ghost use Rattle.bfs_tree.specs.Trees.{Attribute};
 ghost use Rattle.bfs_maps.specs.Mapped.{HasHeld};
 ghost use Rattle.bfs_maps.specs.Refused.{IsChangeFault, HasPutCause};
 ghost use Rattle.bfs_attr.specs.Bearers.{bearer_of, volume_at, origin, attributes_at};
-ghost use Rattle.bfs_attr.specs.Changed.{AttributesNow};
-ghost use Rattle.bfs_attr_write.specs.Adding.{CanAdd, IsStored, IsRowFault};
+ghost use Rattle.bfs_attr_write.specs.Adding.{CanAdd, IsStored, HasRowPut, IsRowFault};
 
 use bfs_bitmap::Bitmap;
 use bfs_make::Site;
@@ -44,7 +43,7 @@ pub fn put_attribute_row<E: Edits>(
     requires short { length name.now ≤ 255 }
     requires number { id < natural site.sup.num_blocks }
     requires stream { (m : ℕ → Option (List ℕ)) → E.told edits.old ≡ Some m → HasHeld (origin (geometry_of site.sup) directory) bitmap.old m }
-    ensures added { (inode : ℕ) (v : Room) (m map : ℕ → Option (List ℕ)) (attribute : Attribute) (old : ℕ → Bool) → E.told edits.old ≡ Some map → CanAdd (bearer_of inode site.sup) v m directory name.now → IsStored (bearer_of inode site.sup) v bitmap.old m map id attribute old (E.changed edits.old) → OnOk result (AttributesNow (bearer_of inode site.sup) v bitmap.new m (insert (attributes_at (volume_at (geometry_of site.sup) m) inode) name.now attribute) (E.told edits.new) old (E.changed edits.new)) }
+    ensures added { (inode : ℕ) (v : Room) (m map : ℕ → Option (List ℕ)) (attribute : Attribute) (old : ℕ → Bool) → E.told edits.old ≡ Some map → CanAdd (bearer_of inode site.sup) v m directory name.now → IsStored (bearer_of inode site.sup) v bitmap.old m map id attribute old (E.changed edits.old) → OnOk result (HasRowPut (bearer_of inode site.sup) v bitmap.new m (insert (attributes_at (volume_at (geometry_of site.sup) m) inode) name.now attribute) (E.told edits.new) old (E.changed edits.new)) }
     ensures faults { (inode : ℕ) (v : Room) (m map : ℕ → Option (List ℕ)) (attribute : Attribute) (old : ℕ → Bool) → E.told edits.old ≡ Some map → CanAdd (bearer_of inode site.sup) v m directory name.now → IsStored (bearer_of inode site.sup) v bitmap.old m map id attribute old (E.changed edits.old) → IfErr result (IsRowFault (origin (geometry_of site.sup) directory) bitmap.old map) }
     ensures blamed { (m : ℕ → Option (List ℕ)) → E.told edits.old ≡ Some m → IfErr result (IsChangeFault (IsOfKind Text) (origin (geometry_of site.sup) directory) bitmap.old m (E.told edits.new)) }
     ensures rest { bitmap.new ≡ record bitmap.old { tally = bitmap.new.tally } }

@@ -1,5 +1,5 @@
 // How the steps of a call follow one another: the contracts of functions that do nothing.
-ghost use Rattle.bfs_attr_write.specs.Laws.{AttributesAreStored, DirectoriesStayHeld, EntriesPart, ExchangesFollow, RowsLeave};
+ghost use Rattle.bfs_attr_write.specs.Laws.{AttributesAreStored, ChangesFollow, DirectoriesStayHeld, EntriesPart, ExchangesFollow, RowsLeave};
 
 /// What storing an attribute's inode leaves is what putting its row begins with.
 pub fn attributes_are_stored()
@@ -9,6 +9,11 @@ pub fn attributes_are_stored()
 /// While an attribute is stored, the attribute directory's stream stays held.
 pub fn directories_stay_held()
     ensures { DirectoriesStayHeld }
+{}
+
+/// Two changes of attributes that follow one another are one.
+pub fn changes_follow()
+    ensures { ChangesFollow }
 {}
 
 /// Two exchanges of blocks that follow one another are one.

@@ -13,9 +13,8 @@ ghost use Rattle.bfs_maps.specs.Refused.{IsUndone, HasTakeCause};
 ghost use Rattle.bfs_make.specs.Given.{HasGivenBack};
 ghost use Rattle.bfs_make.specs.Sites.{stream_in};
 ghost use Rattle.bfs_attr.specs.Bearers.{bearer_of, volume_at, origin, attributes_at};
-ghost use Rattle.bfs_attr.specs.Changed.{AttributesNow};
 ghost use Rattle.bfs_attr.specs.Refused.{IsNoPage};
-ghost use Rattle.bfs_attr_write.specs.Removal.{CanTake, IsNotTakenOut, IsTakenOutFault};
+ghost use Rattle.bfs_attr_write.specs.Removal.{CanTake, HasRowTaken, IsNotTakenOut, IsTakenOutFault};
 
 use bfs_bitmap::Bitmap;
 use bfs_make::{Site, blocks_in, give_inode};
@@ -72,7 +71,7 @@ pub fn take_attribute_row<E: Edits>(
     requires size { E.size edits.old ≡ site.sup.block_size }
     requires volume { IsOfVolume (sizes_of site.sup) bitmap.old }
     requires stream { (m : ℕ → Option (List ℕ)) → E.told edits.old ≡ Some m → HasHeld (origin (geometry_of site.sup) directory) bitmap.old m }
-    ensures taken { (inode : ℕ) (m : ℕ → Option (List ℕ)) → E.told edits.old ≡ Some m → CanTake (bearer_of inode site.sup) bitmap.old m directory name.now → OnOk result (AttributesNow (bearer_of inode site.sup) bitmap.old bitmap.new m (remove (attributes_at (volume_at (geometry_of site.sup) m) inode) name.now) (E.told edits.new) (E.changed edits.old) (E.changed edits.new)) }
+    ensures taken { (inode : ℕ) (m : ℕ → Option (List ℕ)) → E.told edits.old ≡ Some m → CanTake (bearer_of inode site.sup) bitmap.old m directory name.now → OnOk result (HasRowTaken (bearer_of inode site.sup) bitmap.old bitmap.new m (remove (attributes_at (volume_at (geometry_of site.sup) m) inode) name.now) (E.told edits.new) (E.changed edits.old) (E.changed edits.new)) }
     ensures there { (inode : ℕ) (m : ℕ → Option (List ℕ)) → E.told edits.old ≡ Some m → CanTake (bearer_of inode site.sup) bitmap.old m directory name.now → OnOk result (IsSome (get (attributes_at (volume_at (geometry_of site.sup) m) inode) name.now)) }
     ensures faults { (inode : ℕ) (m : ℕ → Option (List ℕ)) → E.told edits.old ≡ Some m → CanTake (bearer_of inode site.sup) bitmap.old m directory name.now → IfErr result (IsNotTakenOut (volume_at (geometry_of site.sup) m) inode name.now) }
     ensures blamed { (m : ℕ → Option (List ℕ)) → E.told edits.old ≡ Some m → IfErr result (IsTakenOutFault site.sup directory name.now bitmap.old m (E.told edits.new)) }

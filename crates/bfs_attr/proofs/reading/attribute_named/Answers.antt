@@ -17,6 +17,7 @@ use Rattle.bfs_attr.specs.Directories.{inode_rows}
 use Rattle.bfs_make.specs.Sites.{stream_in}
 use Rattle.bfs_attr.specs.declared.directory.InodeRow.{InodeRow}
 use Rattle.bfs_attr.proofs.Finds.{first_of, first_none, first_is, first_below, first_in, behind_is}
+use Rattle.bfs_attr.proofs.Tops.{inode_fault}
 use Rattle.bfs_attr.proofs.reading.attribute_named.Goals as goal
 
 pub returns-then-len-eq0-clause-found : goal.returns-then-len-eq0-clause-found
@@ -57,3 +58,8 @@ returns-clause-found g c m told tree inodes =
     let among : first_of (inode_rows (rows_between Text (Some name) (Some name) rows)) ≡ Some x = ap first_of (sym is) ∙ first in
     let can : HasReadable (stream_in c.args.site x.id) m = c.requires.streams m told x.id (inr (first_in (λ r. is_proper r.0) (λ r. is_from Text (Some name) r.0 && is_upto Text (Some name) r.0) rows x among)) in
     c.in-Err-attribute_in_inode.ensures.found m (c.in-Ok.ensures.told ∙ told) can
+
+pub returns-clause-refused : goal.returns-clause-refused
+returns-clause-refused g c m told =
+    inode_fault (volume_at (geometry_of c.args.site.sup) m) c.args.directory c.in-Err-attribute_in_inode.fault (g.B.Blocks.counts c.named_inodes.new.under) (g.B.Blocks.counts c.attribute_in_inode.new.under)
+    c.in-Err-attribute_in_inode.ensures.page c.in-Err-attribute_in_inode.ensures.cause (λ rows. returns-clause-found g c m told rows.0 rows.1)

@@ -1,4 +1,4 @@
-use Rattle.std.proofs.Common.{◌≡◌, ◌∙◌, ◌-◌, inr, ℕ, length, take, drop, Option, refl, sym, subst}
+use Rattle.std.proofs.Common.{◌≡◌, ◌∙◌, ◌-◌, inl, inr, ℕ, length, take, drop, Option, refl, sym, subst}
 use Rattle.std.specs.Prelude.{IfErr}
 use Rattle.std.specs.Option.{option_map}
 use Rattle.bfs_super.specs.Geometry.{geometry_of}
@@ -44,7 +44,7 @@ returns-in-Missing-clause-refused g c m told =
     let f : c.deref-in-Missing.result.now ≡ contents m c.args.inode = c.deref-in-Missing.ensures.value ∙ c.in-Ok.ensures.read m told can.inode in
     let o = directory_in c.args.site.sup c.deref-in-Missing.result.now in
     read_refused v c.args.inode c.attribute_behind.result (λ x. option_map shown x ≡ value_at (attributes_of v o) c.args.name.now) (g.B.Blocks.counts c.read_block.new.under) (g.B.Blocks.counts c.attribute_behind.new.under)
-    (subst (λ (d : Option ℕ). IfErr c.attribute_behind.result (IsDirectoryFault v d)) (directory_is c.args.site.sup m c.args.inode c.deref-in-Missing.result.now f) (c.attribute_behind.ensures.refused m (c.in-Ok.ensures.told ∙ told)))
+    (subst (λ (d : Option ℕ). IfErr c.attribute_behind.result (IsDirectoryFault v c.args.inode d)) (directory_is c.args.site.sup m c.args.inode c.deref-in-Missing.result.now f) (c.attribute_behind.ensures.refused m (c.in-Ok.ensures.told ∙ told)))
     c.attribute_behind.ensures.cause
     (λ has. c.attribute_behind.ensures.found m (c.in-Ok.ensures.told ∙ told) f has)
 
@@ -60,4 +60,4 @@ returns-in-Broken-clause-refused g c m told =
     let now = c.deref.result.now in
     let e : now ≡ contents m c.args.inode = c.deref.ensures.value ∙ c.in-Ok.ensures.read m told (c.requires.readable m told).inode in
     subst (IsAttributeFault v c.args.inode) (sym c.damaged.ensures)
-    (inr (c.args.inode, refl, λ has. value_broken v c.args.inode has c.args.name.now (take (length now - 232) (drop 232 now)) (area_is now (contents m c.args.inode) e) c.in-Broken.ensures))
+    (inr (c.args.inode, refl, inl refl, λ has. value_broken v c.args.inode has c.args.name.now (take (length now - 232) (drop 232 now)) (area_is now (contents m c.args.inode) e) c.in-Broken.ensures))

@@ -11,7 +11,7 @@ use Rattle.bfs_sound.specs.Owners.{In}
 use Rattle.bfs_attr.specs.Bearers.{volume_at, entries_at}
 use Rattle.bfs_attr.specs.Directories.{directory_in}
 use Rattle.bfs_attr.specs.Refused.{IsDirectoryFault}
-use Rattle.bfs_attr.proofs.Tops.{area_is, directory_is, rows_are, ok_map, read_refused, attribute_fault, no_page_is}
+use Rattle.bfs_attr.proofs.Tops.{area_is, directory_is, rows_are, ok_map, read_refused, attribute_fault}
 use Rattle.bfs_attr.proofs.reading.rows_of.Goals as goal
 
 pub returns-in-Err-area_rows-clause-found : goal.returns-in-Err-area_rows-clause-found
@@ -26,7 +26,7 @@ returns-in-Err-area_rows-clause-refused g c m told =
     let now = c.deref.result.now in
     let e : now ≡ contents m c.args.inode = c.deref.ensures.value ∙ c.in-Ok.ensures.read m told (c.requires.readable m told).inode in
     attribute_fault v c.args.inode c.in-Err-area_rows.fault (g.B.Blocks.counts c.args.under.now) (g.B.Blocks.counts c.read_block.new.under)
-    (no_page_is v (attribute_directory v c.args.inode) c.in-Err-area_rows.fault c.in-Err-area_rows.ensures.page)
+    (c.in-Err-area_rows.ensures.blamed v (attribute_directory v c.args.inode))
     (c.in-Err-area_rows.ensures.cause (g.B.Blocks.counts c.args.under.now) (g.B.Blocks.counts c.read_block.new.under))
     (λ has. c.in-Err-area_rows.ensures.found has.items (ap items_of (area_is now (contents m c.args.inode) e) ∙ has.area))
 
@@ -59,6 +59,6 @@ returns-clause-refused g c m told =
     let f : c.deref-2.result.now ≡ contents m c.args.inode = c.deref-2.ensures.value ∙ c.in-Ok.ensures.read m told can.inode in
     let o = directory_in c.args.site.sup c.deref-2.result.now in
     read_refused v c.args.inode c.rows_behind.result (λ rows. rows ≡ c.in-Ok-area_rows.small.items ++ rows_of_attributes (attributes_of v o)) (g.B.Blocks.counts c.read_block.new.under) (g.B.Blocks.counts c.rows_behind.new.under)
-    (subst (λ (d : Option ℕ). IfErr c.rows_behind.result (IsDirectoryFault v d)) (directory_is c.args.site.sup m c.args.inode c.deref-2.result.now f) (c.rows_behind.ensures.refused m (c.in-Ok.ensures.told ∙ told)))
+    (subst (λ (d : Option ℕ). IfErr c.rows_behind.result (IsDirectoryFault v c.args.inode d)) (directory_is c.args.site.sup m c.args.inode c.deref-2.result.now f) (c.rows_behind.ensures.refused m (c.in-Ok.ensures.told ∙ told)))
     c.rows_behind.ensures.cause
     (λ has. c.rows_behind.ensures.found m (c.in-Ok.ensures.told ∙ told) f has)

@@ -45,7 +45,7 @@ returns-clause-taken g c inode m told can =
     let there = c.in-Ok.ensures.number m told tree in
     let now = c.in-Ok.ensures.taken m told tree in
     on_ok _ _ c.give_named.result (c.give_named.ensures.given now.map now.is (named_held s valid inode v m d name can id there mid told1 old half now))
-    (left s valid inode v m d name can id there mid told1 old half now c.give_named.new.bitmap (g.E.Blocks.told c.give_named.new.edits) (g.E.Blocks.changed c.give_named.new.edits) c.give_named.ensures.rest)
+    (left s valid inode v m d name can id there mid told1 old half now c.give_named.new.bitmap (g.E.Blocks.told c.give_named.new.edits) (g.E.Blocks.changed c.give_named.new.edits) c.give_named.ensures.rest c.give_named.ensures.stays)
 
 pub returns-clause-there : goal.returns-clause-there
 returns-clause-there g c inode m told can =

@@ -1,1 +1,4 @@
 pub mod Tours
+pub mod Pairs
+pub mod Shared
+pub mod Touring

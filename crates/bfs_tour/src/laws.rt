@@ -1,5 +1,23 @@
 // Laws of a tour over the nodes of a volume: each is the contract of a function that does nothing.
+ghost use Rattle.bfs_tour.specs.Pairs.{PairsAreListed};
+ghost use Rattle.bfs_tour.specs.Shared.{TakenIsShared};
+ghost use Rattle.bfs_tour.specs.Touring.{TourBegins, TourEnds, TourGoesOn};
 ghost use Rattle.bfs_tour.specs.Tours.{TourReaches, TourStands};
+
+/// A tour begins with the root, whose rows lead on.
+pub fn tour_begins()
+    ensures { TourBegins }
+{}
+
+/// It goes on with the first row that leads on.
+pub fn tour_goes_on()
+    ensures { TourGoesOn }
+{}
+
+/// Where no row leads on, it is whole.
+pub fn tour_ends()
+    ensures { TourEnds }
+{}
 
 /// What was claimed on a tour is what the tree reaches that was toured.
 pub fn tour_reaches()
@@ -9,4 +27,14 @@ pub fn tour_reaches()
 /// Where no block was claimed twice and none outside of the volume, the tree that was toured stands on the volume.
 pub fn tour_stands()
     ensures { TourStands }
+{}
+
+/// A block that is claimed a second time on a tour is shared.
+pub fn taken_is_shared()
+    ensures { TakenIsShared }
+{}
+
+/// Pairs that rise and are those of the nodes that were visited are what the tree lists.
+pub fn pairs_are_listed()
+    ensures { PairsAreListed }
 {}

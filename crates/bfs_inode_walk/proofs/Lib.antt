@@ -1,0 +1,5 @@
+pub mod Blocks
+pub mod Claiming
+pub mod Ways
+pub mod Visits
+pub mod Recorded

@@ -77,7 +77,7 @@ work_begins g v m tree of fits counted sound told = (
 )
 
 -- where nothing is loose, what is marked is what is reached
-reached : (v : Volume) (tree : Tree) (lists : Lists) → Stocked v tree lists [] → (k : ℕ) → IsMarked v k ↔ Has (reach v tree) k
+pub reached : (v : Volume) (tree : Tree) (lists : Lists) → Stocked v tree lists [] → (k : ℕ) → IsMarked v k ↔ Has (reach v tree) k
 reached v tree lists stocked k = (
   λ marked. let h : 0 < times k (reach v tree ++ []) = (stocked.marks k).0 marked in let a = times-append k (reach v tree) [] in omega (arith, h, a),
   λ has. (stocked.marks k).1 (let h : 0 < times k (reach v tree) = has in let a = times-append k (reach v tree) [] in let r : 0 < times k (reach v tree ++ []) = omega (arith, h, a) in r),

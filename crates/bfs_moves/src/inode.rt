@@ -23,7 +23,7 @@ use std::alloc::Global;
 
 /// Room for a block.
 #[tactic(auto, using(bfs_shift::proofs::Basics::least_bytes))]
-pub(crate) fn buffer(alloc: Global, sup: &Super) -> Result<Vec<u8>, BlockFault>
+pub fn buffer(alloc: Global, sup: &Super) -> Result<Vec<u8>, BlockFault>
     requires valid { IsValid sup.now }
     ensures length { IfOk result (λ v. length v.items ≡ sup.now.block_size) }
     ensures long { IfOk result (λ v. 1024 ≤ length v.items) }
@@ -54,11 +54,7 @@ pub(crate) fn note_words(block: &[u8])
 }
 
 /// Reads the inode at a block.
-pub(crate) fn load_inode<B: Blocks>(
-    under: &mut B,
-    block: &mut [u8],
-    inode: u64,
-) -> Result<(), BlockFault>
+pub fn load_inode<B: Blocks>(under: &mut B, block: &mut [u8], inode: u64) -> Result<(), BlockFault>
     requires size { length block.old ≡ B.size under.old }
     requires long { 1024 ≤ length block.old }
     ensures read { (m : ℕ → Option (List ℕ)) → B.told under.old ≡ Some m → IsSome (m inode) → OnOk result (block.new ≡ contents m inode) }
@@ -126,7 +122,7 @@ fn of_block(fault: BlockFault) -> MapFault
 }
 
 /// Reads the inode at a block, of which then is known that its mode and its flags take four bytes each.
-pub(crate) fn check_inode<B: Blocks>(
+pub fn check_inode<B: Blocks>(
     alloc: Global,
     sup: &Super,
     under: &mut B,

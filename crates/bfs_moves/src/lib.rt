@@ -18,6 +18,7 @@ mod take;
 
 pub use find::find_index;
 pub use grown::{make_directory, make_long_link};
+pub use inode::{buffer, check_inode, load_inode};
 pub use laws::{
     call_is_kept, goes_on_same, goes_on_twice, node_is_listed, used_is_reach, work_begins,
     work_ends,

@@ -20,3 +20,11 @@ all_recovers t0 adopted sp history b told clock since same low recovers core ima
     let from : RecoversFrom t0 sp.history (durable_of b) image = recovers_from t0 sp b core.0.2.0 core.0.0 image core.0.2.1 one in
     let all : RecoversFrom t0 sp.history (length sp.history) image = recovers_less t0 sp.history (length sp.history) (durable_of b) image (let e = ap length same in omega (arith, e, low)) from in
     subst (λ (h : List Entry). Recovers image (after t0 h)) same (recovers_all t0 sp.history image all)
+
+-- and else at least those that were durable before
+pub some_recovers : (t0 : Mounted) (adopted n : ℕ) (sp : SpaceView) (history : List Entry) (b : Books) (told : Option State) (clock : ℕ) (since : ℕ → List ℕ → Type 0) → sp.history ≡ history → n ≤ durable_of b
+    → ((t : ℕ → Bool) (right : Tells told (IsRight b t)) (image : List ℕ) → MayLeave told image → RecoversOne b t right.0 image) → HasCore t0 adopted sp b told clock since → (image : List ℕ) → MayLeave told image → RecoversFrom t0 history n image
+some_recovers t0 adopted n sp history b told clock since same low recovers core image left =
+    let one = recovers core.0.2.0 (core.0.0, core.0.1, core.0.2.1.right) image left in
+    let from : RecoversFrom t0 sp.history (durable_of b) image = recovers_from t0 sp b core.0.2.0 core.0.0 image core.0.2.1 one in
+    subst (λ (h : List Entry). RecoversFrom t0 h n image) same (recovers_less t0 sp.history n (durable_of b) image low from)

@@ -4,3 +4,4 @@ pub mod Noting
 pub mod Asked
 pub mod Opened
 pub mod Closed
+pub mod Images

@@ -41,6 +41,10 @@ pub record VolumeView (D : Type 0) : Type 0 where
   pub space : SpaceBooks
   pub device : View D
 
+-- an image recovers to some tree
+abbrev pub HasTree : List ℕ → Type 0
+HasTree image = (tree : Tree) × Recovers image tree
+
 -- What may be mounted: where the disk tells, it is quiet and holds an image that recovers to some tree.
 abbrev pub MayBeMounted : Option State → Type 0
 MayBeMounted told = (st : State) → told ≡ Some st → (image : List ℕ) × (tree : Tree) × Holds image st × Recovers image tree

@@ -20,7 +20,11 @@ use bfs_tree::{Call, Reply};
 use std::alloc::AllocError;
 
 /// Room for an entry of the session and for the marks of a seal; without both nothing is promised.
-fn prepare<D: Disk>(space: &mut Space, device: &mut Device<D>, session: u32) -> Result<(), AllocError>
+fn prepare<D: Disk>(
+    space: &mut Space,
+    device: &mut Device<D>,
+    session: u32,
+) -> Result<(), AllocError>
     requires joined { AreJoined space.old device.old.books (D.state device.old.disk) }
     requires promised { space.old.promised ≡ 0 ∷ [] }
     requires session { session ≢ 0 }
@@ -144,11 +148,27 @@ pub fn sync<D: Disk>(
     let upto = space.history().len() as u64;
     match make_durable(space, device) {
         Ok(()) => {
-            note(space, device, session, tag, now, Call::Sync, Reply::Synced { upto });
+            note(
+                space,
+                device,
+                session,
+                tag,
+                now,
+                Call::Sync,
+                Reply::Synced { upto },
+            );
             Ok(upto)
         }
         Err(fault) => {
-            note(space, device, session, tag, now, Call::Sync, as_reply(fault));
+            note(
+                space,
+                device,
+                session,
+                tag,
+                now,
+                Call::Sync,
+                as_reply(fault),
+            );
             Err(as_sync_fault(fault))
         }
     }

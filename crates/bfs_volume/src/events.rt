@@ -32,7 +32,10 @@ pub enum SyncFault {
         stops: bool,
     },
     #[error("the device has stopped with {durable} durable entries")]
-    Stopped { durable: u64, faults: u64 },
+    Stopped {
+        durable: u64,
+        faults: u64,
+    },
     #[error("no memory was found")]
     NoMemory,
 }

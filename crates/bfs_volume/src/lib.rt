@@ -12,3 +12,6 @@ mod volume;
 
 pub use events::SyncFault;
 pub use volume::Volume;
+
+#[cfg(test)]
+mod tests;

@@ -9,6 +9,7 @@ ghost use Rattle.bfs_tree.specs.Answers.{KeepsRanges};
 ghost use Rattle.bfs_tree.specs.Histories.{Mounted, after};
 ghost use Rattle.bfs_sound.specs.Whole.{Recovers};
 ghost use Rattle.bfs_device.specs.Books.{durable_of};
+ghost use Rattle.bfs_core.specs.Cores.{RecoversFrom};
 ghost use Rattle.bfs_device_blocks.specs.Lent.{HasCore};
 ghost use Rattle.bfs_space.specs.Looks.{is_built};
 ghost use Rattle.bfs_volume.specs.Volumes.{MayBeMounted};
@@ -137,7 +138,10 @@ impl<D: Disk, C: Clock> Volume<D, C> {
     /// Closes the volume: all that was done is made durable and leaves the log. The history is handed back with disk and clock. Takes no memory.
     pub fn close(self) -> (D, C, Vec<Entry>, Result<(), DeviceFault>)
         ensures history { result.2.items ≡ self.space.view.history }
-        // What a crash leaves after a close that went well recovers to the tree after all entries.
+        // However it ends, what a crash leaves recovers to the tree after a prefix of the entries that has all which were durable before. Where it
+        // went well, that is the tree after all of them.
+        ensures held { (t0 : Mounted) (adopted : ℕ) → HasCore t0 adopted self.space.view self.device.books (D.state self.device.disk) (D.clock self.device.disk) (D.since self.device.disk)
+            → (image : List ℕ) → MayLeave (D.state result.0) image → RecoversFrom t0 self.space.view.history (durable_of self.device.books) image }
         ensures all { (t0 : Mounted) (adopted : ℕ) → HasCore t0 adopted self.space.view self.device.books (D.state self.device.disk) (D.clock self.device.disk) (D.since self.device.disk)
             → OnOk result.3 ((image : List ℕ) → MayLeave (D.state result.0) image → Recovers image (after t0 self.space.view.history)) }
         ensures cause { IfErr result.3 (HasStopCause self.device.books.stop (D.faults self.device.disk) (D.faults result.0)) }

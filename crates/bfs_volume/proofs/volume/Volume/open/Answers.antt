@@ -29,7 +29,7 @@ invariant_of-result g c =
     let first = joined_first (g.D.Disk.state c.args.disk) (g.D.Disk.state disk) (g.D.Disk.size disk) s c.requires.whole c.in-Ok.ensures.silent (λ quiet image q held. c.in-Ok.ensures.recovered true image held) (g.met.D.Disk.filled disk) (g.met.D.Disk.sized disk) on steady in
     let spare : v.books.spare ≡ 1 = ap (λ (x : View g.row.D.Denot). x.books.spare) is ∙ ap (λ (b : Books). b.spare) books in (
       subst (λ (x : View g.row.D.Denot). AreJoined space x.books (g.D.Disk.state x.disk)) (sym is)
-      (subst (λ k. AreJoined space d.books (g.D.Disk.state k)) (sym same) (subst (λ (b : Books). AreJoined space b (g.D.Disk.state disk)) (sym books) (subst (λ (x : SpaceBooks). AreJoined x (adopted s) (g.D.Disk.state disk)) (sym c.in-Ok-open.ensures) first))),
+          (subst (λ k. AreJoined space d.books (g.D.Disk.state k)) (sym same) (subst (λ (b : Books). AreJoined space b (g.D.Disk.state disk)) (sym books) (subst (λ (x : SpaceBooks). AreJoined x (adopted s) (g.D.Disk.state disk)) (sym c.in-Ok-open.ensures) first))),
       ap (λ (x : SpaceBooks). x.promised) c.in-Ok-open.ensures,
       omega (arith, spare),
     )

@@ -1,5 +1,5 @@
 -- An inode that bears attributes, whose block was written: the exchange of its blocks, and its fields.
-use Rattle.std.proofs.Common.{◌≡◌, ◌≢◌, ◌⊎◌, inl, inr, ◌≤◌, ◌<◌, ◌+◌, ◌∙◌, ℕ, zero, suc, List, [], ◌∷◌, ◌++◌, Bool, true, false, Option, Some, refl, sym, ap, subst, arith}
+use Rattle.std.proofs.Common.{◌≡◌, ◌≢◌, ◌⊎◌, inl, inr, ◌<◌, ◌+◌, ◌∙◌, ℕ, List, ◌++◌, Bool, true, false, Option, Some, refl, sym, ap, subst, arith}
 use Rattle.std.specs.Prelude.{◌==◌, ◌&&◌}
 use Rattle.bfs_base.specs.Lists.{times, Has}
 use Rattle.bfs_bitmap.specs.Fills.{IsBitmapBlock}

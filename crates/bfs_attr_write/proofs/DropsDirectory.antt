@@ -1,6 +1,6 @@
 -- An attribute directory that was given back, and is named by the inode that bears the attributes no more.
 use Rattle.std.proofs.Common.{◌≡◌, ◌⊎◌, inl, inr, ◌≤◌, ◌<◌, ◌+◌, ◌∙◌, ℕ, List, [], ◌∷◌, ◌++◌, Bool, true, false, cond, Option, Some, None, refl, sym, ap, subst, arith, map, drop}
-use Rattle.std.specs.Prelude.{◌==◌, IsSome, unwrap_or}
+use Rattle.std.specs.Prelude.{IsSome, unwrap_or}
 use Rattle.std.specs.FinMap.{from_entries}
 use Rattle.std.specs.List.{flat_map}
 use Rattle.std.proofs.lemmas.List.{append-nil}
@@ -22,12 +22,11 @@ use Rattle.bfs_stream.proofs.Frames.{has_first, has_left, has_right}
 use Rattle.bfs_maps.specs.Mapped.{HasHeld}
 use Rattle.bfs_sound.specs.Volumes.{Volume, sizes}
 use Rattle.bfs_sound.specs.Owners.{In}
-use Rattle.bfs_sound.specs.Inodes.{proper_rows, id_of}
+use Rattle.bfs_sound.specs.Inodes.{id_of}
 use Rattle.bfs_sound.specs.Nodes.{AreApart}
 use Rattle.bfs_sound.specs.Attributes.{Named, is_zero, attributes_in, attributes_of, attribute_at, attribute_directory, attribute_inodes, HasDirectory}
 use Rattle.bfs_make.specs.Given.{HasGivenBack}
 use Rattle.bfs_make.specs.Made.{zero_run}
-use Rattle.bfs_make.proofs.News.{is_only}
 use Rattle.bfs_make.proofs.Written.{block_here}
 use Rattle.bfs_attr.specs.Bearers.{Bearer, volume_at, origin, HasAttributes, entries_with, entries_at, attributes_at}
 use Rattle.bfs_attr.specs.Changed.{attribute_blocks, Holds, AttributesNow}
@@ -35,7 +34,7 @@ use Rattle.bfs_attr_write.specs.Directories.{CanDrop, HasAddress, HasDirectoryDr
 use Rattle.bfs_attr_write.specs.Exchanged.{Exchanged}
 use Rattle.bfs_attr_write.proofs.Exchanges.{exchanged_beside, exchanged_twice}
 use Rattle.bfs_attr_write.proofs.Brings.{gone_exchange}
-use Rattle.bfs_attr_write.proofs.Beside.{come_used, still_used, still_outside, bits_used, block_same}
+use Rattle.bfs_attr_write.proofs.Beside.{come_used, still_outside, bits_used, block_same}
 use Rattle.bfs_attr_write.proofs.Addressed.{block_exchange, now_exchanged, kept_of, wrote_then}
 
 module _ (b : Bearer) (v mid : Room) (m : ℕ → Option (List ℕ)) (d : ℕ) (can : CanDrop b v m d) where

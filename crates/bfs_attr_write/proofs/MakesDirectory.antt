@@ -1,6 +1,6 @@
 -- An attribute directory that was stored, and named by the inode that bears the attributes.
-use Rattle.std.proofs.Common.{◌≡◌, ◌⊎◌, inl, inr, ◌≤◌, ◌<◌, ◌+◌, ◌/◌, ◌%◌, ◌^◌, ◌∙◌, ℕ, ℤ, zero, suc, pos, List, [], ◌∷◌, ◌++◌, Bool, true, false, cond, Option, Some, None, refl, sym, ap, subst, arith, map, drop}
-use Rattle.std.specs.Prelude.{◌==◌, IsSome, unwrap_or}
+use Rattle.std.proofs.Common.{◌≡◌, ◌⊎◌, inl, inr, ◌≤◌, ◌<◌, ◌+◌, ◌/◌, ◌%◌, ◌^◌, ◌∙◌, ℕ, ℤ, zero, suc, List, [], ◌∷◌, ◌++◌, Bool, true, false, cond, Option, Some, None, refl, sym, ap, subst, arith, map, drop}
+use Rattle.std.specs.Prelude.{IsSome, unwrap_or}
 use Rattle.std.specs.FinMap.{from_entries}
 use Rattle.std.specs.List.{filter, flat_map, AllByRecursion}
 use Rattle.std.proofs.lemmas.List.{append-nil}
@@ -39,13 +39,13 @@ use Rattle.bfs_make.proofs.News.{is_only}
 use Rattle.bfs_make.proofs.Written.{block_here}
 use Rattle.bfs_attr.specs.Bearers.{Bearer, bearer_of, volume_at, origin, HasAttributes, entries_with, entries_at, attributes_at}
 use Rattle.bfs_attr.specs.Changed.{attribute_blocks, Holds, AttributesNow}
-use Rattle.bfs_attr.specs.Made.{directory_form, directory_mode, directory_flags}
+use Rattle.bfs_attr.specs.Made.{directory_form}
 use Rattle.bfs_attr.proofs.Owned.{names_run, owner_is, bits_are}
 use Rattle.bfs_attr_write.specs.Directories.{CanMake, HasAddress, IsDirectoryInode, HasDirectoryMade}
 use Rattle.bfs_attr_write.specs.Exchanged.{Exchanged}
 use Rattle.bfs_attr_write.proofs.Exchanges.{exchanged_beside, exchanged_twice}
 use Rattle.bfs_attr_write.proofs.Brings.{new_exchange}
-use Rattle.bfs_attr_write.proofs.Beside.{not_come, still_used, come_used, still_outside, bits_used, block_same, once_beside, agree_beside, whole_beside, held_beside}
+use Rattle.bfs_attr_write.proofs.Beside.{not_come, come_used, still_outside, bits_used, block_same, once_beside, agree_beside, whole_beside, held_beside}
 use Rattle.bfs_attr_write.proofs.Addressed.{block_exchange, now_exchanged, kept_of, not_zero, wrote_then}
 
 module _ (s : Super) (inode : ℕ) (v mid : Room) (m : ℕ → Option (List ℕ)) (can : CanMake (bearer_of inode s) v m) (address parent : Run) (stamp : ℤ) (bytes : List ℕ) (told1 : Option (ℕ → Option (List ℕ))) (old half : ℕ → Bool)

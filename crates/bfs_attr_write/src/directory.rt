@@ -3,7 +3,6 @@ ghost use Rattle.std.specs.Prelude.{◌≡◌, ◌≤◌, ◌<◌, ◌⊎◌, �
 ghost use Rattle.bfs_bitmap.specs.Runs.{as_kept};
 ghost use Rattle.bfs_inode.specs.Inode.{inode_at};
 ghost use Rattle.bfs_super.specs.Conditions.{IsValid, natural};
-ghost use Rattle.bfs_super.specs.Geometry.{geometry_of};
 ghost use Rattle.bfs_txn.specs.Faults.{AreLater, IsCauseOf};
 ghost use Rattle.bfs_txn.specs.Told.{StaysChanged};
 ghost use Rattle.bfs_stream.specs.Grown.{IsOfVolume};

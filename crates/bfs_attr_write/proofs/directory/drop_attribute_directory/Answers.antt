@@ -1,4 +1,4 @@
-use Rattle.std.proofs.Common.{ap, subst}
+use Rattle.std.proofs.Common.{subst}
 use Rattle.bfs_attr.specs.Bearers.{bearer_of}
 use Rattle.bfs_bytes.specs.declared.Run.{Run}
 use Rattle.bfs_stream.proofs.Stops.{cause_later, caused_in}

@@ -5,7 +5,7 @@ use Rattle.bfs_inode.specs.Refusals.{Names}
 use Rattle.bfs_super.specs.Conditions.{ceil}
 use Rattle.bfs_super.specs.Geometry.{geometry_of}
 use Rattle.bfs_stream.specs.Faults.{IsGrowCause}
-use Rattle.bfs_stream.specs.Sizes.{sizes_of, first_block}
+use Rattle.bfs_stream.specs.Sizes.{sizes_of}
 use Rattle.bfs_stream.specs.declared.fault.GrowFault.TheVariants as grow
 use Rattle.bfs_stream.proofs.Stops.{cause_wider, caused_in}
 use Rattle.bfs_stream_pages.specs.GoesLaws.{sized_of}

@@ -9,3 +9,4 @@ pub mod Apart
 pub mod Stays
 pub mod Puts
 pub mod Owned
+pub mod Rowed

@@ -1,5 +1,5 @@
 // The attribute directory of an inode: where it is, and the inodes that its rows name.
-ghost use Rattle.std.specs.Prelude.{◌≡◌, ◌≢◌, ◌≤◌, ◌<◌, ◌↔◌, ◌++◌, ℕ, [], ◌∷◌, List, None, Option, Some, length, IfOk, IfErr, IfSome, IsTrue, MatchResult};
+ghost use Rattle.std.specs.Prelude.{◌≡◌, ◌≢◌, ◌≤◌, ◌<◌, ◌↔◌, ◌++◌, ℕ, [], ◌∷◌, List, None, Option, Some, length, IfOk, IfErr, IfSome, IsSome, IsTrue, MatchResult};
 ghost use Rattle.std.specs.Option.{option_copied};
 ghost use Rattle.bfs_base.specs.declared.kind.KeyKind.TheVariants.{Text};
 ghost use Rattle.bfs_super.specs.Conditions.{IsValid, natural, block_of_run};
@@ -11,9 +11,9 @@ ghost use Rattle.bfs_values.specs.Rows.{rows_in};
 ghost use Rattle.bfs_range.specs.Ranges.{rows_between};
 ghost use Rattle.bfs_maps.specs.Mapped.{HasReadable};
 ghost use Rattle.bfs_maps.specs.Refused.{HasReadCause, IsUndone};
-ghost use Rattle.bfs_sound.specs.Attributes.{is_zero};
+ghost use Rattle.bfs_sound.specs.Attributes.{is_zero, attributes_of};
 ghost use Rattle.bfs_sound.specs.Inodes.{is_proper, proper_rows};
-ghost use Rattle.bfs_attr.specs.Bearers.{volume_at};
+ghost use Rattle.bfs_attr.specs.Bearers.{volume_at, value_at};
 ghost use Rattle.bfs_attr.specs.Directories.{IsDirectoryOf, AreInodes, inode_rows, inodes_among, AreBelow, IsPushed, IsShort};
 ghost use Rattle.bfs_attr.specs.Refused.{HasRows, IsDirectoryFault, IsFaultOf};
 ghost use Rattle.bfs_make.specs.Sites.{stream_in};
@@ -255,6 +255,33 @@ pub fn is_directory_empty<B: Blocks>(
 {
     match named_inodes(site, under, directory, None, None) {
         Ok(rows) => Ok(rows.len() == 0),
+        Err(fault) => Err(fault),
+    }
+}
+
+/// Does the attribute directory at a block name an attribute of a name?
+pub fn has_attribute_row<B: Blocks>(
+    site: Site,
+    under: &mut B,
+    directory: u64,
+    name: &[u8],
+) -> Result<bool, MapFault>
+    requires valid { IsValid site.sup }
+    requires inside { directory < natural site.sup.num_blocks }
+    requires size { B.size under.old ≡ site.sup.block_size }
+    requires stream { (m : ℕ → Option (List ℕ)) → B.told under.old ≡ Some m → HasReadable (stream_in site directory) m }
+    ensures found { (m : ℕ → Option (List ℕ)) → B.told under.old ≡ Some m → HasRows (volume_at (geometry_of site.sup) m) directory → MatchResult result (λ there. IsTrue there ↔ IsSome (value_at (attributes_of (volume_at (geometry_of site.sup) m) (Some directory)) name.now)) IsUndone }
+    ensures refused { (m : ℕ → Option (List ℕ)) → B.told under.old ≡ Some m → IfErr result (IsDirectoryFault (volume_at (geometry_of site.sup) m) directory (Some directory)) }
+    ensures told { B.told under.new ≡ B.told under.old }
+    ensures changed { B.changed under.new ≡ B.changed under.old }
+    ensures pairs { B.pairs under.new ≡ B.pairs under.old }
+    ensures size { B.size under.new ≡ B.size under.old }
+    ensures frame { B.frame under.new ≡ B.frame under.old }
+    ensures later { AreLater (B.counts under.old) (B.counts under.new) }
+    ensures cause { IfErr result (HasReadCause (B.counts under.old) (B.counts under.new)) }
+{
+    match named_inodes(site, under, directory, Some(name), Some(name)) {
+        Ok(rows) => Ok(rows.len() > 0),
         Err(fault) => Err(fault),
     }
 }

@@ -169,3 +169,11 @@ module _ (sp space : SpaceBooks) (b new : Books) (told told' : Option State) (se
           hold_entered t0 adopted sp.view new told' clock since space.view entry
           (λ x is. subst (λ (m : ℕ → Option (List ℕ)). Entered t0 sp.view space.view m entry) (sym map_is ∙ ap (newest_map new) (let q : Some st ≡ Some x = sym now_is ∙ is in let d : st ≡ x = cc in d)) e.entered)
           (entered_known t0 sp.view space.view new (newest_map b st) entry no_sync e.entered fitted.going) core
+
+-- ---- what a reply says of the call
+
+-- with Core a space stands over what its device tells, by the tree that Core has
+pub face_core : (t0 : Mounted) (adopted : ℕ) (sp : SpaceBooks) (b : Books) (told : Option State) (clock : ℕ) (since : ℕ → List ℕ → Type 0) → AreJoined sp b told → (core : HasCore t0 adopted sp.view b told clock since) → IsFaceOf t0 sp (newest_map b core.0.0)
+face_core t0 adopted sp b told clock since joined core =
+    let over_it = core_stands t0 sp.view b (Some core.0.0) (newest_map b core.0.0) (core.0.0, refl, core.0.2) refl in
+    record { sound = over_it.sound; told = over_it.told; fits = (joined.stands core.0.0 core.0.1).fits }

@@ -5,3 +5,4 @@ pub mod Asked
 pub mod Opened
 pub mod Closed
 pub mod Images
+pub mod Ends

@@ -8,7 +8,10 @@ use Rattle.bfs_tree.specs.declared.call.Call.TheVariants as calls
 use Rattle.bfs_tree.specs.declared.reply.Reply.{Reply}
 use Rattle.bfs_tree.specs.declared.reply.Reply.TheVariants as replies
 use Rattle.bfs_tree.specs.declared.reply.Entry.{Entry}
-use Rattle.bfs_tree.specs.Histories.{is_stop}
+use Rattle.bfs_tree.specs.Histories.{Mounted, is_stop}
+use Rattle.bfs_base.specs.Counts.{Rose}
+use Rattle.bfs_space.specs.Books.{SpaceBooks}
+use Rattle.bfs_space.specs.Faces.{HasEntered, HasReplied}
 use Rattle.bfs_device.specs.Books.{Books, durable_of}
 use Rattle.bfs_device.specs.declared.journal.DeviceFault.{DeviceFault}
 use Rattle.bfs_device.specs.declared.journal.DeviceFault.TheVariants as device
@@ -40,11 +43,11 @@ sync_fault_of (device.Disk before after stops) = syncs.Disk before after stops
 sync_fault_of (device.Stopped durable faults) = syncs.Stopped durable faults
 
 -- What a device tells of an entry: all entries before it are durable, of a device that goes on; or a fault has stopped the device, of which no
--- entry tells yet; or the device has stopped.
+-- entry tells yet; or the device has stopped, with these numbers.
 abbrev pub IsToldBy : Books → List Entry → Call → Reply → Type 0
 IsToldBy b history call (replies.Synced upto) = (call ≡ calls.Sync) × (upto ≡ length history) × (upto ≤ durable_of b) × (b.stop ≡ None)
 IsToldBy b history call (replies.DiskFault before after stops) = (list_any (λ e. is_stop e.reply) history ≡ false) × (b.stop ≢ None)
-IsToldBy b history call (replies.Stopped durable faults) = Unit {0}
+IsToldBy b history call (replies.Stopped durable faults) = b.stop ≡ Some (record { durable = durable; faults = faults })
 IsToldBy b history call _ = ⊥
 
 -- A sync that failed has an entry with its fault, but for want of memory, where nothing has changed.
@@ -52,3 +55,38 @@ abbrev pub HasFailedSync : List Entry → List Entry → ℕ → ℕ → SyncFau
 HasFailedSync before now session tag (syncs.Disk from to stops) = HasEntryOf before now session tag calls.Sync (replies.DiskFault from to stops)
 HasFailedSync before now session tag (syncs.Stopped durable faults) = HasEntryOf before now session tag calls.Sync (replies.Stopped durable faults)
 HasFailedSync before now session tag syncs.NoMemory = now ≡ before
+
+-- The space was asked while its history was as before, and has replied: the entry, and its cause in the counts of the device, which lie between
+-- these. The volume's space is since as that reply left it, but for promises.
+pub record HasReplyIn (old new : SpaceBooks) (faults later session tag : ℕ) (call : Call) : Type 0 where
+  pub at : SpaceBooks
+  pub books : SpaceBooks
+  pub now : ℕ
+  pub begun : Counts
+  pub ended : Counts
+  pub same : at.view.history ≡ old.view.history
+  pub view : new.view ≡ books.view
+  pub from : faults ≤ begun.faults
+  pub upto : ended.faults ≤ later
+  pub replied : HasReplied begun ended at books session tag now call
+
+-- And over what the device told then, of a volume with this tree at mounting, the call was entered.
+pub record IsAnsweredIn (t0 : Mounted) (old new : SpaceBooks) (session tag : ℕ) (call : Call) : Type 0 where
+  pub at : SpaceBooks
+  pub books : SpaceBooks
+  pub map : ℕ → Option (List ℕ)
+  pub now : ℕ
+  pub same : at.view.history ≡ old.view.history
+  pub view : new.view ≡ books.view
+  pub entered : HasEntered t0 at books map session tag now call
+
+-- a reply that the device tells of a call: it has failed in it, or had stopped before
+abbrev pub IsDeviceEnd : Option Stop → ℕ → ℕ → Reply → Type 0
+IsDeviceEnd old faults later (replies.DiskFault before after stops) = (old ≡ None) × (faults ≤ before) × Rose before after × (after ≤ later) × (stops ≡ true)
+IsDeviceEnd old faults later (replies.Stopped durable count) = old ≡ Some (record { durable = durable; faults = count })
+IsDeviceEnd old faults later _ = ⊥
+
+pub record IsEnded (before now : List Entry) (session tag : ℕ) (call : Call) (old : Option Stop) (faults later : ℕ) : Type 0 where
+  pub reply : Reply
+  pub entry : HasEntryOf before now session tag call reply
+  pub cause : IsDeviceEnd old faults later reply

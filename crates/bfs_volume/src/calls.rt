@@ -1,5 +1,5 @@
 // Calls and syncs of a session: each appends one entry, or finds no memory and changes nothing of the history.
-ghost use Rattle.std.specs.Prelude.{◌≡◌, ◌≢◌, ◌≤◌, ◌<◌, ◌^◌, ℕ, [], ◌∷◌, true, length, IfOk, IfErr, OnOk, OnErr};
+ghost use Rattle.std.specs.Prelude.{◌≡◌, ◌≢◌, ◌≤◌, ◌<◌, ◌⊎◌, ◌^◌, ℕ, [], ◌∷◌, true, length, IfOk, IfErr, OnOk, OnErr};
 ghost use Rattle.bfs_tree.specs.declared.call.Call.TheVariants.{Sync};
 ghost use Rattle.bfs_tree.specs.declared.reply.Reply.TheVariants.{Synced};
 ghost use Rattle.bfs_tree.specs.Answers.{KeepsRanges};
@@ -8,7 +8,7 @@ ghost use Rattle.bfs_device.specs.Books.{durable_of};
 ghost use Rattle.bfs_device_blocks.specs.Lent.{HasCore};
 ghost use Rattle.bfs_volume.specs.Volumes.{AreJoined};
 ghost use Rattle.bfs_volume.specs.Causes.{HasSyncCause};
-ghost use Rattle.bfs_volume.specs.Entries.{HasEntry, HasEntryOf, HasFailedSync, sync_fault_of};
+ghost use Rattle.bfs_volume.specs.Entries.{HasEntry, HasEntryOf, HasFailedSync, HasReplyIn, IsAnsweredIn, IsEnded, sync_fault_of};
 
 use crate::events::{SyncFault, ask};
 use crate::notes::{as_reply, note};
@@ -68,6 +68,10 @@ pub fn answer<A: Answers, D: Disk>(
     ensures spare { 1 ≤ device.new.books.spare }
     ensures entry { OnOk result (HasEntry space.old.view.history space.new.view.history session tag call) }
     ensures no_memory { OnErr result (space.new.view.history ≡ space.old.view.history) }
+    // The space has replied, or the device has ended it.
+    ensures noted { OnOk result (HasReplyIn space.old space.new (D.faults device.old.disk) (D.faults device.new.disk) session tag call ⊎ IsEnded space.old.view.history space.new.view.history session tag call device.old.books.stop (D.faults device.old.disk) (D.faults device.new.disk)) }
+    ensures answered { (t0 : Mounted) (adopted : ℕ) → HasCore t0 adopted space.old.view device.old.books (D.state device.old.disk) (D.clock device.old.disk) (D.since device.old.disk)
+        → OnOk result (IsAnsweredIn t0 space.old space.new session tag call ⊎ IsEnded space.old.view.history space.new.view.history session tag call device.old.books.stop (D.faults device.old.disk) (D.faults device.new.disk)) }
     ensures core { (t0 : Mounted) (adopted : ℕ) → HasCore t0 adopted space.old.view device.old.books (D.state device.old.disk) (D.clock device.old.disk) (D.since device.old.disk)
         → HasCore t0 adopted space.new.view device.new.books (D.state device.new.disk) (D.clock device.new.disk) (D.since device.new.disk) }
 {

@@ -112,6 +112,7 @@ pub fn ask<A: Answers, D: Disk>(
     ensures joined { AreJoined space.new device.new.books (D.state device.new.disk) }
     ensures rests { IsRested device.old.books device.new.books }
     ensures state { D.state device.new.disk ≡ D.state device.old.disk }
+    ensures faults { D.faults device.old.disk ≤ D.faults device.new.disk }
     ensures noted { IfOk result (HasOutcome (counts_of (D.faults device.old.disk) (D.stops device.old.disk) device.old.books.stop) (counts_of (D.faults device.new.disk) (D.stops device.new.disk) device.new.books.stop) space.old space.new session tag now call) }
     ensures no_memory { OnErr result (space.new ≡ space.old) }
     // What the disk tells, the call is entered on, or put off.

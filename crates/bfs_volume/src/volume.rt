@@ -1,8 +1,8 @@
 // A mounted volume.
-ghost use Rattle.std.specs.Prelude.{◌≡◌, ◌≢◌, ◌≤◌, ℕ, List, [], ◌∷◌, true, length, IfOk, IfErr, OnOk, OnErr};
-ghost use Rattle.bfs_disk.specs.State.{Tells, Holds};
+ghost use Rattle.std.specs.Prelude.{◌≡◌, ◌≢◌, ◌≤◌, ◌⊎◌, ℕ, List, [], ◌∷◌, true, length, IfOk, IfErr, OnOk, OnErr};
+ghost use Rattle.bfs_disk.specs.State.{Tells, Holds, ReadsAs};
 ghost use Rattle.bfs_disk.specs.Disk.{MayLeave};
-ghost use Rattle.bfs_replay.specs.Recover.{HasCauseIn};
+ghost use Rattle.bfs_replay.specs.Recover.{HasCauseIn, IsMountFault};
 ghost use Rattle.bfs_tree.specs.declared.call.Call.TheVariants.{Sync};
 ghost use Rattle.bfs_tree.specs.declared.reply.Reply.TheVariants.{Synced};
 ghost use Rattle.bfs_tree.specs.Answers.{KeepsRanges};
@@ -13,7 +13,7 @@ ghost use Rattle.bfs_core.specs.Cores.{RecoversFrom};
 ghost use Rattle.bfs_device_blocks.specs.Lent.{HasCore};
 ghost use Rattle.bfs_space.specs.Looks.{is_built};
 ghost use Rattle.bfs_volume.specs.Volumes.{MayBeMounted};
-ghost use Rattle.bfs_volume.specs.Entries.{HasEntry, HasEntryOf, HasFailedSync};
+ghost use Rattle.bfs_volume.specs.Entries.{HasEntry, HasEntryOf, HasFailedSync, HasReplyIn, IsAnsweredIn, IsEnded};
 ghost use Rattle.bfs_volume.specs.Causes.{HasSyncCause, HasStopCause};
 
 use crate::calls::{answer, sync};
@@ -61,6 +61,8 @@ impl<D: Disk, C: Clock> Volume<D, C> {
         ensures core { (t0 : Mounted) (image : List ℕ) → Tells (D.state disk) (Holds image) → Recovers image t0.tree
             → IfOk result (λ v. HasCore t0 (D.clock v.device.disk) v.space.view v.device.books (D.state v.device.disk) (D.clock v.device.disk) (D.since v.device.disk)) }
         ensures fresh { IfOk result (λ v. v.space.view.history ≡ []) }
+        // A fault is true of what the disk reads as, and a failed disk has its cause.
+        ensures fault { (image : List ℕ) → Tells (D.state disk) (λ s. ReadsAs s image) → IfErr result (λ e. IsMountFault image e.0) }
         ensures cause { IfErr result (λ e. HasCauseIn (D.faults disk) (D.faults e.1) e.0) }
     {
         let mut disk = disk;
@@ -106,6 +108,10 @@ impl<D: Disk, C: Clock> Volume<D, C> {
         requires ranges { KeepsRanges call }
         ensures entry { OnOk result (HasEntry self.old.space.view.history self.new.space.view.history session tag call) }
         ensures no_memory { OnErr result (self.new.space.view.history ≡ self.old.space.view.history) }
+        // The space has replied, or the device has ended it; and over what the disk tells the reply is as the space's call says it.
+        ensures noted { OnOk result (HasReplyIn self.old.space self.new.space (D.faults self.old.device.disk) (D.faults self.new.device.disk) session tag call ⊎ IsEnded self.old.space.view.history self.new.space.view.history session tag call self.old.device.books.stop (D.faults self.old.device.disk) (D.faults self.new.device.disk)) }
+        ensures answered { (t0 : Mounted) (adopted : ℕ) → HasCore t0 adopted self.old.space.view self.old.device.books (D.state self.old.device.disk) (D.clock self.old.device.disk) (D.since self.old.device.disk)
+            → OnOk result (IsAnsweredIn t0 self.old.space self.new.space session tag call ⊎ IsEnded self.old.space.view.history self.new.space.view.history session tag call self.old.device.books.stop (D.faults self.old.device.disk) (D.faults self.new.device.disk)) }
         ensures core { (t0 : Mounted) (adopted : ℕ) → HasCore t0 adopted self.old.space.view self.old.device.books (D.state self.old.device.disk) (D.clock self.old.device.disk) (D.since self.old.device.disk)
             → HasCore t0 adopted self.new.space.view self.new.device.books (D.state self.new.device.disk) (D.clock self.new.device.disk) (D.since self.new.device.disk) }
     {

@@ -1,6 +1,17 @@
-use Rattle.std.proofs.Common.{◌≡◌, ℕ, sym, subst}
+use Rattle.std.proofs.Common.{rules, ◌≡◌, ◌≤◌, ◌⊎◌, inl, inr, ◌∙◌, ℕ, Result, sym, ap, subst, arith}
+use Rattle.std.specs.Prelude.{IfOk}
+use Rattle.std.specs.declared.alloc.AllocError.{AllocError}
+use Rattle.bfs_device.specs.Books.{Books}
+use Rattle.bfs_core.specs.Cores.{newest_map}
+use Rattle.bfs_tree.specs.declared.call.Call.{Call}
+use Rattle.bfs_space.specs.Faces.{HasEntered, HasOutcome, IsOutcome}
+use Rattle.bfs_space.specs.declared.space.Outcome.{Outcome}
+use Rattle.bfs_space.specs.declared.space.Outcome.TheVariants.{Replied}
 use Rattle.bfs_device_blocks.specs.Lent.{HasCore}
 use Rattle.bfs_space.specs.Books.{SpaceBooks}
+use Rattle.bfs_volume.specs.Entries.{counts_of}
+use Rattle.bfs_volume.proofs.Asked.{face_core}
+use Rattle.bfs_volume.proofs.Ends.{device_end, noted_entry}
 use Rattle.bfs_volume.proofs.Joined.{joined_unpromised}
 use Rattle.bfs_volume.proofs.calls.answer.Goals as goal
 
@@ -54,3 +65,71 @@ returns-clause-core g c = λ t0 adopted core.
     let d = c.ask-outcome.new.device in
     subst (λ (x : SpaceBooks). HasCore t0 adopted x.view d.books (g.D.Disk.state d.disk) (g.D.Disk.clock d.disk) (g.D.Disk.since d.disk)) (sym c.unpromise-2.ensures)
     (c.ask-outcome.ensures.core t0 adopted (c.settle.ensures.core t0 adopted (c.ask.ensures.core t0 adopted (c.prepare.ensures.core t0 adopted core))))
+
+pub returns-in-Ok-Replied-clause-answered : goal.returns-in-Ok-Replied-clause-answered
+returns-in-Ok-Replied-clause-answered g c = λ t0 adopted core.
+    let q = c.prepare.new.device in
+    let held = c.prepare.ensures.core t0 adopted core in
+    let face = face_core t0 adopted c.prepare.new.space q.books (g.D.Disk.state q.disk) (g.D.Disk.clock q.disk) (g.D.Disk.since q.disk) c.prepare.ensures.joined held in
+    inl (record {
+      at = c.prepare.new.space;
+      books = c.ask.new.space;
+      map = newest_map q.books held.0.0;
+      now = c.args.now;
+      same = c.prepare.ensures.history;
+      view = ap (λ (x : SpaceBooks). x.view) c.unpromise.ensures;
+      entered = subst (λ (o : Outcome). IsOutcome t0 c.prepare.new.space c.ask.new.space (newest_map q.books held.0.0) c.args.session c.args.tag c.args.now c.args.call o) c.in-Ok-Replied.field-0-is (c.in-Ok-Replied.ensures.entered t0 held.0.0 held.0.1 face);
+    })
+
+pub returns-in-Err-settle-clause-noted : goal.returns-in-Err-settle-clause-noted
+returns-in-Err-settle-clause-noted g c =
+    let q = c.prepare.new.device in
+    let u = c.ask.new.device in
+    let off = subst (λ (o : Outcome). HasOutcome (counts_of (g.D.Disk.faults q.disk) (g.D.Disk.stops q.disk) q.books.stop) (counts_of (g.D.Disk.faults u.disk) (g.D.Disk.stops u.disk) u.books.stop) c.prepare.new.space c.ask.new.space c.args.session c.args.tag c.args.now c.args.call o) c.in-Ok-Drain.field-0-is c.in-Ok-Drain.ensures.noted in
+    let history : c.settle.new.space.view.history ≡ c.args.space.now.view.history = c.settle.ensures.history ∙ ap (λ (x : SpaceBooks). x.view.history) off.1 ∙ c.prepare.ensures.history in
+    let stop : u.books.stop ≡ c.args.device.now.books.stop = ap (λ (b : Books). b.stop) c.in-Ok-Drain.ensures.rests ∙ c.prepare.ensures.stop in
+    let first : g.D.Disk.faults q.disk ≡ g.D.Disk.faults c.args.device.now.disk = ap g.D.Disk.faults c.prepare.ensures.disk in
+    let more = c.in-Ok-Drain.ensures.faults in
+    inr (record {
+      reply = _;
+      entry = noted_entry c.settle.new.space c.note-in-Err-settle.new.space c.args.space.now.view.history c.args.session c.args.tag c.args.now _ c.in-Ok-Drain.call c.args.call _ _ history off.0 c.as_reply.ensures c.note-in-Err-settle.ensures.noted;
+      cause = device_end c.args.device.now.books.stop u.books.stop c.settle.new.device.books.stop (g.D.Disk.faults c.args.device.now.disk) (g.D.Disk.faults u.disk) (g.D.Disk.faults c.settle.new.device.disk) (g.D.Disk.faults c.settle.new.device.disk) c.in-Err-settle.fault stop (omega (arith, first, more)) (omega arith) c.in-Err-settle.ensures.fault;
+    })
+
+pub returns-in-Err-settle-clause-answered : goal.returns-in-Err-settle-clause-answered
+returns-in-Err-settle-clause-answered g c = λ t0 adopted core.
+    let q = c.prepare.new.device in
+    let u = c.ask.new.device in
+    let off = subst (λ (o : Outcome). HasOutcome (counts_of (g.D.Disk.faults q.disk) (g.D.Disk.stops q.disk) q.books.stop) (counts_of (g.D.Disk.faults u.disk) (g.D.Disk.stops u.disk) u.books.stop) c.prepare.new.space c.ask.new.space c.args.session c.args.tag c.args.now c.args.call o) c.in-Ok-Drain.field-0-is c.in-Ok-Drain.ensures.noted in
+    let history : c.settle.new.space.view.history ≡ c.args.space.now.view.history = c.settle.ensures.history ∙ ap (λ (x : SpaceBooks). x.view.history) off.1 ∙ c.prepare.ensures.history in
+    let stop : u.books.stop ≡ c.args.device.now.books.stop = ap (λ (b : Books). b.stop) c.in-Ok-Drain.ensures.rests ∙ c.prepare.ensures.stop in
+    let first : g.D.Disk.faults q.disk ≡ g.D.Disk.faults c.args.device.now.disk = ap g.D.Disk.faults c.prepare.ensures.disk in
+    let more = c.in-Ok-Drain.ensures.faults in
+    inr (record {
+      reply = _;
+      entry = noted_entry c.settle.new.space c.note-in-Err-settle.new.space c.args.space.now.view.history c.args.session c.args.tag c.args.now _ c.in-Ok-Drain.call c.args.call _ _ history off.0 c.as_reply.ensures c.note-in-Err-settle.ensures.noted;
+      cause = device_end c.args.device.now.books.stop u.books.stop c.settle.new.device.books.stop (g.D.Disk.faults c.args.device.now.disk) (g.D.Disk.faults u.disk) (g.D.Disk.faults c.settle.new.device.disk) (g.D.Disk.faults c.settle.new.device.disk) c.in-Err-settle.fault stop (omega (arith, first, more)) (omega arith) c.in-Err-settle.ensures.fault;
+    })
+
+pub returns-in-Ok-Replied-outcome-clause-answered : goal.returns-in-Ok-Replied-outcome-clause-answered
+returns-in-Ok-Replied-outcome-clause-answered g c = λ t0 adopted core.
+    let q = c.prepare.new.device in
+    let u = c.ask.new.device in
+    let off = subst (λ (o : Outcome). HasOutcome (counts_of (g.D.Disk.faults q.disk) (g.D.Disk.stops q.disk) q.books.stop) (counts_of (g.D.Disk.faults u.disk) (g.D.Disk.stops u.disk) u.books.stop) c.prepare.new.space c.ask.new.space c.args.session c.args.tag c.args.now c.args.call o) c.in-Ok-Drain.field-0-is c.in-Ok-Drain.ensures.noted in
+    let history : c.settle.new.space.view.history ≡ c.args.space.now.view.history = c.settle.ensures.history ∙ ap (λ (x : SpaceBooks). x.view.history) off.1 ∙ c.prepare.ensures.history in
+    let d = c.settle.new.device in
+    let sp = c.settle.new.space in
+    let held = c.settle.ensures.core t0 adopted (c.ask.ensures.core t0 adopted (c.prepare.ensures.core t0 adopted core)) in
+    let face = face_core t0 adopted sp d.books (g.D.Disk.state d.disk) (g.D.Disk.clock d.disk) (g.D.Disk.since d.disk) c.settle.ensures.joined held in
+    let answer = subst (λ (r : Result Outcome AllocError). IfOk r (IsOutcome t0 sp c.ask-outcome.new.space (newest_map d.books held.0.0) c.args.session c.args.tag c.args.now c.in-Ok-Drain.call)) c.in-Ok-Replied-outcome.is (c.ask-outcome.ensures.entered t0 held.0.0 held.0.1 face) in
+    let is : c.in-Ok-Replied-outcome.field-0 ≡ Replied = search rules in
+    let replied = subst (λ (o : Outcome). IsOutcome t0 sp c.ask-outcome.new.space (newest_map d.books held.0.0) c.args.session c.args.tag c.args.now c.in-Ok-Drain.call o) is answer in
+    inl (record {
+      at = sp;
+      books = c.ask-outcome.new.space;
+      map = newest_map d.books held.0.0;
+      now = c.args.now;
+      same = history;
+      view = ap (λ (x : SpaceBooks). x.view) c.unpromise-2.ensures;
+      entered = subst (λ (k : Call). HasEntered t0 sp c.ask-outcome.new.space (newest_map d.books held.0.0) c.args.session c.args.tag c.args.now k) off.0 replied;
+    })

@@ -1,4 +1,4 @@
-use Rattle.std.proofs.Common.{◌≡◌, refl, sym, subst}
+use Rattle.std.proofs.Common.{◌≡◌, refl, sym, subst, ◌≤◌, arith}
 use Rattle.bfs_device.specs.Books.{View}
 use Rattle.bfs_device.specs.Data.{IsRested}
 use Rattle.bfs_device.proofs.Sizes.{sizes}
@@ -11,6 +11,7 @@ invariant_of-result g c =
     let d = c.args.device.now in
     record {
       rests = subst (λ (x : View g.row.D.Denot). IsRested x.books d.books) (sym c.of-start.ensures) refl;
+      risen = subst (λ (x : View g.row.D.Denot). g.D.Disk.faults x.disk ≤ g.D.Disk.faults d.disk) (sym c.of-start.ensures) (omega arith);
       same = subst (λ (x : View g.row.D.Denot). g.D.Disk.state d.disk ≡ g.D.Disk.state x.disk) (sym c.of-start.ensures) refl;
       fits = (sizes d.books.sup c.steady.ensures.steady.valid).2;
       sized = ∣ told_sized d.books (g.D.Disk.state d.disk) (g.D.Disk.size d.disk) c.steady.ensures.steady c.steady.ensures.on_disk (g.met.D.Disk.filled d.disk) (g.met.D.Disk.sized d.disk) ∣₁;

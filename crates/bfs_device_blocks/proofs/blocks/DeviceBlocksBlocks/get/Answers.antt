@@ -1,4 +1,4 @@
-use Rattle.std.proofs.Common.{◌≤◌, ◌∙◌, sym, subst}
+use Rattle.std.proofs.Common.{◌≤◌, ◌∙◌, sym, subst, arith}
 use Rattle.std.proofs.Math.Logic.{∥∥₁_map}
 use Rattle.bfs_super.specs.declared.sup.Super.{Super}
 use Rattle.bfs_device_blocks.proofs.Going.{read_more, rested_twice, sized_rested}
@@ -14,6 +14,7 @@ invariant_of-self-2 g c =
     record {
       rests = rested_twice start.books mid.books new.books u.rests e.rests;
       same = e.state ∙ u.same;
+      risen = omega (arith, u.risen, e.faults);
       fits = subst (λ (s : Super). s.block_size ≤ 8192) (sym e.sup) u.fits;
       sized = ∥∥₁_map u.sized (λ sized. sized_rested mid.books new.books (g.D.Disk.state mid.disk) (g.D.Disk.state new.disk) e.rests e.state sized);
       reads = ∥∥₁_map u.reads (λ reads. read_more start.books mid.books new.books (g.D.Disk.state start.disk) (g.D.Disk.state mid.disk) (g.D.Disk.state new.disk) (g.D.Disk.clock start.disk) (g.D.Disk.clock mid.disk) (g.D.Disk.clock new.disk)

@@ -1,0 +1,25 @@
+-- Entries that a device has ended.
+use Rattle.std.proofs.Common.{◌≡◌, ◌≤◌, ◌++◌, ℕ, List, [], ◌∷◌, Option, sym, ◌∙◌, ap, arith}
+use Rattle.bfs_tree.specs.declared.call.Call.{Call}
+use Rattle.bfs_tree.specs.declared.reply.Reply.{Reply}
+use Rattle.bfs_tree.specs.declared.reply.Entry.{Entry}
+use Rattle.bfs_tree.specs.Histories.{drawn, last_stamp}
+use Rattle.bfs_device.specs.declared.journal.DeviceFault.{DeviceFault}
+use Rattle.bfs_device.specs.declared.journal.DeviceFault.TheVariants.{Disk, Stopped}
+use Rattle.bfs_device.specs.declared.journal.Stop.{Stop}
+use Rattle.bfs_space.specs.Books.{SpaceBooks, entry_noted, with_note}
+use Rattle.bfs_volume.specs.Faults.{HasStepCause}
+use Rattle.bfs_volume.specs.Entries.{HasEntryOf, IsDeviceEnd, reply_of}
+
+-- the fault of steps that came after what left the stop as it was
+pub device_end : (old mid new : Option Stop) (faults f g later : ℕ) (fault : DeviceFault) → mid ≡ old → faults ≤ f → g ≤ later → HasStepCause mid new f g fault → IsDeviceEnd old faults later (reply_of fault)
+device_end old mid new faults f g later (Disk before after stops) same low high cause = let a = cause.2 in let b = cause.4 in (sym same ∙ cause.0, omega (arith, low, a), cause.3, omega (arith, high, b), cause.5)
+device_end old mid new faults f g later (Stopped durable count) same low high cause = sym same ∙ cause.0
+
+-- the entry of a note
+pub noted_entry : (sp space : SpaceBooks) (before : List Entry) (session tag now durable : ℕ) (call other : Call) (reply answer : Reply) → sp.view.history ≡ before → call ≡ other → reply ≡ answer
+    → space ≡ with_note sp session (entry_noted sp session tag now call reply) durable → HasEntryOf before space.view.history session tag other answer
+noted_entry sp space before session tag now durable call other reply answer same calls replies is = record {
+  stamp = drawn (last_stamp sp.view.history) now;
+  appended = ap (λ (x : SpaceBooks). x.view.history) is ∙ (λ i. same i ++ (record { session = session; tag = tag; stamp = drawn (last_stamp sp.view.history) now; call = calls i; reply = replies i }) ∷ []);
+}

@@ -94,36 +94,12 @@ fn make_file(
     volume.call(1, 1, call)
 }
 
-/// Makes two files in a directory of a volume whose disk fails at one call, each with a sync behind it, and then stops. How many of them a
-/// sync has acknowledged (the second acknowledges both), and what a crash leaves: sector k is new where bit k mod 64 of the pick is set.
-fn two_files(
-    alloc: Global,
-    image: Vec<u8>,
-    dir: u64,
-    failing: u64,
-    pick: u64,
-) -> Result<Option<(u64, Vec<u8>)>, AllocError>
-    requires { HasTree image.items }
-    ensures { IfOk result (λ o. IfSome o (λ r. HasTree r.1.items)) }
-{
-    let mut volume = match mounts(alloc, image, failing) {
-        Ok(volume) => volume,
-        Err(_) => return Ok(None),
-    };
-    make_file(alloc, &mut volume, dir, b'a')?;
-    let first = volume.sync(1, 2).is_ok();
-    make_file(alloc, &mut volume, dir, b'b')?;
-    let second = volume.sync(1, 4).is_ok();
-    let (disk, _clock, _history, _ended) = volume.close();
-    let left = disk.crash(pick)?;
-    let acknowledged = if second {
-        2
-    } else if first {
-        1
-    } else {
-        0
-    };
-    Ok(Some((acknowledged, left)))
+/// Whether the last entry says that a node was made.
+fn is_made(volume: &Volume<MemDisk, Fixed>) -> bool {
+    match volume.history().last() {
+        Some(entry) => matches!(entry.reply, Reply::Made { .. }),
+        None => false,
+    }
 }
 
 /// Whether the last entry says that a name was found.
@@ -134,36 +110,62 @@ fn is_found(volume: &Volume<MemDisk, Fixed>) -> bool {
     }
 }
 
-/// How many of the two names are there, of those in a row from the first on.
-fn names_there(alloc: Global, image: Vec<u8>, dir: u64) -> Result<u64, AllocError>
+/// Makes two files in a directory of a volume whose disk fails at one call, each with a sync behind it, and then stops. For each file whether it
+/// was made and acknowledged by a sync; and what a crash leaves: sector k is new where bit k mod 64 of the pick is set.
+fn two_files(
+    alloc: Global,
+    image: Vec<u8>,
+    dir: u64,
+    failing: u64,
+    pick: u64,
+) -> Result<Option<(bool, bool, Vec<u8>)>, AllocError>
+    requires { HasTree image.items }
+    ensures { IfOk result (λ o. IfSome o (λ r. HasTree r.2.items)) }
+{
+    let mut volume = match mounts(alloc, image, failing) {
+        Ok(volume) => volume,
+        Err(_) => return Ok(None),
+    };
+    make_file(alloc, &mut volume, dir, b'a')?;
+    let made = is_made(&volume);
+    let first = volume.sync(1, 2).is_ok();
+    make_file(alloc, &mut volume, dir, b'b')?;
+    let also = is_made(&volume);
+    let second = volume.sync(1, 4).is_ok();
+    let (disk, _clock, _history, _ended) = volume.close();
+    let left = disk.crash(pick)?;
+    Ok(Some((made && (first || second), also && second, left)))
+}
+
+/// Which of the two names are there.
+fn names_there(alloc: Global, image: Vec<u8>, dir: u64) -> Result<(bool, bool), AllocError>
     requires { HasTree image.items }
 {
     let mut volume = mounts(alloc, image, 0)?;
     let name = letter(alloc, b'a')?;
     volume.call(1, 1, Call::Lookup { dir, name })?;
-    if !is_found(&volume) {
-        return Ok(0);
-    }
+    let first = is_found(&volume);
     let name = letter(alloc, b'b')?;
     volume.call(1, 2, Call::Lookup { dir, name })?;
-    Ok(if is_found(&volume) { 2 } else { 1 })
+    Ok((first, is_found(&volume)))
 }
 
-/// Whether a mount of what a stop at a disk call has left finds at least the files that a sync has acknowledged; and how many were.
+/// Whether a mount of what a stop at a disk call has left finds each file that a sync has acknowledged; and whether both were.
 fn keeps_acknowledged(
     alloc: Global,
     dir: u64,
     failing: u64,
     pick: u64,
-) -> Result<Option<(bool, u64)>, AllocError> {
+) -> Result<Option<(bool, bool)>, AllocError> {
     let Some(image) = new_image(alloc)? else {
         return Ok(None);
     };
-    let Some((acknowledged, left)) = two_files(alloc, image, dir, failing, pick)? else {
+    let Some((first, second, left)) = two_files(alloc, image, dir, failing, pick)? else {
         return Ok(None);
     };
-    let there = names_there(alloc, left, dir)?;
-    Ok(Some((there >= acknowledged, acknowledged)))
+    let (there, also) = names_there(alloc, left, dir)?;
+    let kept = (there || !first) && (also || !second);
+    Ok(Some((kept, first && second)))
 }
 
 #[test]
@@ -172,7 +174,7 @@ fn two_files_are_there_after_syncs_and_a_stop(rt: HostRuntime) -> Result<(), Fai
     // (the root directory's inode stands behind the bitmap and the log)
     assert_eq!(rt;
         keeps_acknowledged(alloc, 66, 0, u64::MAX)?,
-        Some((true, 2))
+        Some((true, true))
     );
     Ok(())
 }

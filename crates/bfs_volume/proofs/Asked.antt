@@ -7,16 +7,14 @@ use Rattle.bfs_super.specs.declared.sup.Super.{Super}
 use Rattle.bfs_device.specs.Ahead.{geometry_with}
 use Rattle.std.specs.Option.{option_map}
 use Rattle.std.specs.declared.alloc.AllocError.{AllocError}
-use Rattle.bfs_disk.specs.State.{State, Tells}
+use Rattle.bfs_disk.specs.State.{State}
 use Rattle.bfs_txn.specs.Changed.{over}
 use Rattle.bfs_txn.specs.Faults.{Counts}
 use Rattle.bfs_bitmap.specs.Runs.{Fits}
 use Rattle.bfs_tree.specs.declared.call.Call.{Call}
 use Rattle.bfs_tree.specs.declared.call.Call.TheVariants as calls
-use Rattle.bfs_tree.specs.declared.reply.Reply.{Reply}
-use Rattle.bfs_tree.specs.declared.reply.Reply.TheVariants as replies
 use Rattle.bfs_tree.specs.declared.reply.Entry.{Entry}
-use Rattle.bfs_tree.specs.Histories.{Mounted, Follows, is_stop, state_after}
+use Rattle.bfs_tree.specs.Histories.{Mounted, is_stop, state_after}
 use Rattle.bfs_tree.specs.Steps.{next}
 use Rattle.bfs_device.specs.Books.{AreSame, Books}
 use Rattle.bfs_device.specs.Data.{IsRested}

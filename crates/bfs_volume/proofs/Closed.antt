@@ -1,5 +1,5 @@
 -- What a close leaves.
-use Rattle.std.proofs.Common.{◌≡◌, ◌≤◌, ℕ, List, length, Bool, Option, Result, Ok, Err, OnOk, sym, ap, subst, arith}
+use Rattle.std.proofs.Common.{◌≡◌, ◌≤◌, ℕ, List, length, Bool, Option, ap, subst, arith}
 use Rattle.bfs_disk.specs.State.{State, Tells}
 use Rattle.bfs_disk.specs.Disk.{MayLeave}
 use Rattle.bfs_tree.specs.declared.reply.Entry.{Entry}

@@ -1,5 +1,10 @@
 -- Entries that a device has ended.
-use Rattle.std.proofs.Common.{◌≡◌, ◌≤◌, ◌++◌, ℕ, List, [], ◌∷◌, Option, sym, ◌∙◌, ap, arith}
+use Rattle.std.proofs.Common.{◌≡◌, ◌≤◌, ◌++◌, ℕ, List, [], ◌∷◌, Option, Some, refl, sym, ◌∙◌, ap, subst, arith}
+use Rattle.std.specs.Option.{option_map}
+use Rattle.bfs_disk.specs.State.{State}
+use Rattle.bfs_device.specs.Books.{Books}
+use Rattle.bfs_device.specs.Data.{IsRested}
+use Rattle.bfs_core.specs.Cores.{newest_map}
 use Rattle.bfs_tree.specs.declared.call.Call.{Call}
 use Rattle.bfs_tree.specs.declared.reply.Reply.{Reply}
 use Rattle.bfs_tree.specs.declared.reply.Entry.{Entry}
@@ -23,3 +28,12 @@ noted_entry sp space before session tag now durable call other reply answer same
   stamp = drawn (last_stamp sp.view.history) now;
   appended = ap (λ (x : SpaceBooks). x.view.history) is ∙ (λ i. same i ++ (record { session = session; tag = tag; stamp = drawn (last_stamp sp.view.history) now; call = calls i; reply = replies i }) ∷ []);
 }
+
+-- books that are others but for promises
+pub rest_of : (books new : SpaceBooks) (promised : List ℕ) → new ≡ record books { promised = promised } → new ≡ record books { promised = new.promised }
+rest_of books new promised is = is ∙ ap (λ (p : List ℕ). (let b : SpaceBooks = record books { promised = p } in b)) (sym (ap (λ (x : SpaceBooks). x.promised) is))
+
+-- what the device tells after reads alone
+pub tells_since : (b new : Books) (told told' : Option State) (st : State) → IsRested b new → told' ≡ told → told ≡ Some st → option_map (newest_map new) told' ≡ Some (newest_map b st)
+tells_since b new told told' st rests same is =
+    ap (option_map (newest_map new)) (same ∙ is) ∙ ap Some (subst (λ (x : Books). newest_map x st ≡ newest_map b st) (sym rests) refl)

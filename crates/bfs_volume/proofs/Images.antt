@@ -6,7 +6,7 @@ use Rattle.bfs_super.specs.Conditions.{natural}
 use Rattle.bfs_log.proofs.Replays.{replayed_empty}
 use Rattle.bfs_tree.specs.Histories.{Mounted}
 use Rattle.bfs_tree.specs.Trees.{Tree}
-use Rattle.bfs_sound.specs.Whole.{IsWhole, Recovers}
+use Rattle.bfs_sound.specs.Whole.{IsWhole}
 use Rattle.bfs_volume.specs.Volumes.{HasTree}
 
 -- a quiet disk holds its bytes

@@ -1,26 +1,24 @@
 -- A space and a device stay joined over their events, by their numbers and on what the disk tells.
-use Rattle.std.proofs.Common.{◌≡◌, ◌≢◌, ◌≤◌, ◌<◌, ◌+◌, ◌++◌, inl, inr, ℕ, List, [], ◌∷◌, length, Bool, true, false, Option, Some, None, Result, Ok, Err, OnOk, OnErr, IfOk, refl, sym, ◌∙◌, ap, subst, arith}
+use Rattle.std.proofs.Common.{◌≡◌, ◌+◌, ◌++◌, ℕ, List, [], ◌∷◌, Bool, false, Option, Some, None, Result, Ok, Err, OnOk, OnErr, sym, ◌∙◌, ap, subst}
 use Rattle.std.specs.List.{list_any}
-use Rattle.std.specs.Option.{option_map}
-use Rattle.bfs_disk.specs.State.{State, Tells}
+use Rattle.bfs_disk.specs.State.{State}
 use Rattle.bfs_bitmap.specs.Runs.{Room, Fits}
 use Rattle.bfs_txn.specs.Changed.{over}
 use Rattle.bfs_txn.specs.declared.group.Group.{Group}
 use Rattle.bfs_tree.specs.declared.reply.Entry.{Entry}
-use Rattle.bfs_tree.specs.Histories.{Mounted, is_stop}
+use Rattle.bfs_tree.specs.Histories.{is_stop}
 use Rattle.bfs_device.specs.Layouts.{layout_of}
 use Rattle.bfs_device.specs.Books.{Books, IsRight, IsNext, IsSealed, AreSame, sealed_of}
 use Rattle.bfs_device.specs.Seals.{last_used, sealed_with}
 use Rattle.bfs_device.specs.Ahead.{IsSteady, GoesOn}
-use Rattle.bfs_device.specs.declared.journal.Stop.{Stop}
 use Rattle.bfs_device.proofs.Sealing.{sealed_last, sealed_used}
-use Rattle.bfs_core.specs.Spaces.{SpaceView, Entered, IsGroupFor, sealed_space, released_space}
-use Rattle.bfs_core.specs.Cores.{Core, IsKnown, newest_map}
+use Rattle.bfs_core.specs.Spaces.{SpaceView, IsGroupFor, sealed_space, released_space}
+use Rattle.bfs_core.specs.Cores.{Core, newest_map}
 use Rattle.bfs_core.specs.Moments.{DeviceMoves}
-use Rattle.bfs_core.proofs.Onward.{core_ahead, core_entered, core_released, same_layout, same_newest, same_size}
+use Rattle.bfs_core.proofs.Onward.{core_ahead, core_released, same_layout, same_newest, same_size}
 use Rattle.bfs_core.proofs.Seals.{core_sealed}
 use Rattle.bfs_device_blocks.proofs.Facing.{sealed_newest}
-use Rattle.bfs_space.specs.Books.{SpaceBooks, KnowsStop, sealed_room, released_room}
+use Rattle.bfs_space.specs.Books.{SpaceBooks, KnowsStop}
 use Rattle.bfs_space.proofs.Stops.{stop_kept}
 use Rattle.bfs_volume.specs.Volumes.{AreFitted, AreJoined, Stands}
 

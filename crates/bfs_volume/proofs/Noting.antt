@@ -1,5 +1,5 @@
 -- Entries of a volume: what may follow, and what the device knows of them.
-use Rattle.std.proofs.Common.{◌≡◌, ◌≢◌, ◌≤◌, ◌<◌, ◌+◌, ◌++◌, ℕ, ℤ, List, [], ◌∷◌, length, Bool, true, false, cond, ◌==◌, Option, Some, None, refl, sym, ◌∙◌, ap, subst, arith}
+use Rattle.std.proofs.Common.{◌≡◌, ◌≢◌, ◌≤◌, ◌+◌, ◌++◌, ℕ, ℤ, List, [], ◌∷◌, length, Bool, true, false, cond, ◌==◌, Option, None, refl, sym, ◌∙◌, ap, subst, arith}
 use Rattle.std.specs.Prelude.{IsTrue}
 use Rattle.std.specs.List.{list_any}
 use Rattle.std.proofs.lemmas.Bool.{true≢false}
@@ -14,16 +14,14 @@ use Rattle.bfs_tree.specs.States.{State}
 use Rattle.bfs_tree.specs.Steps.{ByTree, Turn, next, is_by_disk, is_for_room}
 use Rattle.bfs_tree.proofs.Stamps.{drawn-later}
 use Rattle.bfs_disk.specs.State as disks
-use Rattle.bfs_txn.specs.Changed.{over}
-use Rattle.bfs_bitmap.specs.Runs.{Fits}
-use Rattle.bfs_device.specs.Books.{Books, durable_of}
-use Rattle.bfs_core.specs.Spaces.{SpaceView, Entered, IsSoundOver, noted}
+use Rattle.bfs_device.specs.Books.{Books}
+use Rattle.bfs_core.specs.Spaces.{Entered, IsSoundOver, noted}
 use Rattle.bfs_core.specs.Cores.{IsKnown, newest_map}
 use Rattle.bfs_core.proofs.Notes.{note_entered}
 use Rattle.bfs_core.proofs.Onward.{core_entered}
 use Rattle.bfs_space.specs.Books.{SpaceBooks, entry_noted, with_note}
 use Rattle.bfs_space.proofs.Following.{follows, tree_after, tree_unsynced}
-use Rattle.bfs_volume.specs.Volumes.{AreFitted, AreJoined, Stands}
+use Rattle.bfs_volume.specs.Volumes.{AreFitted, AreJoined}
 use Rattle.bfs_volume.specs.Entries.{IsToldBy}
 use Rattle.bfs_volume.proofs.Joined.{going_more}
 

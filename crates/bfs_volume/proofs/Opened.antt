@@ -1,17 +1,14 @@
 -- A space and a device of a volume that was just mounted.
-use Rattle.std.proofs.Common.{◌≡◌, ◌≤◌, ◌<◌, ◌+◌, ◌*◌, ◌/◌, inl, inr, ℕ, List, [], length, Bool, true, Option, Some, None, IfSome, refl, sym, ◌∙◌, ap, subst, arith}
+use Rattle.std.proofs.Common.{◌≡◌, ◌<◌, ◌+◌, ◌*◌, ◌/◌, inl, ℕ, List, length, Bool, true, Option, Some, None, IfSome, refl, sym, ◌∙◌, ap, subst, arith}
 use Rattle.std.specs.Prelude.{is_some}
 use Rattle.std.specs.FinMap.{empty}
 use Rattle.std.proofs.lemmas.Bool.{cond-true, true≢false}
 use Rattle.std.proofs.lemmas.Nat.{div-mul-add}
 use Rattle.bfs_disk.specs.State.{State, Tells, Filled, Holds}
-use Rattle.bfs_disk.specs.Disk.{MayLeave}
 use Rattle.bfs_super.specs.declared.sup.Super.{Super}
 use Rattle.bfs_super.specs.Conditions.{IsValid, ceil, natural}
-use Rattle.bfs_log.specs.Replay.{super_of}
 use Rattle.bfs_log.proofs.Bounds.{group_low}
-use Rattle.bfs_bitmap.specs.Runs.{Fits, HasBitmap}
-use Rattle.bfs_txn.specs.Changed.{over}
+use Rattle.bfs_bitmap.specs.Runs.{Fits}
 use Rattle.bfs_tree.specs.Histories.{Mounted}
 use Rattle.bfs_replay.specs.Recover.{IsRecovered}
 use Rattle.bfs_device.specs.Layouts.{IsData, is_data, layout_of}
@@ -26,7 +23,7 @@ use Rattle.bfs_core.specs.Cores.{Core, newest_map}
 use Rattle.bfs_core.proofs.Masks.{of_data}
 use Rattle.bfs_core.proofs.Openings.{core_mounted}
 use Rattle.bfs_core.proofs.Wholes.{newest_is_sized}
-use Rattle.bfs_space.specs.Books.{SpaceBooks, first_room, fresh}
+use Rattle.bfs_space.specs.Books.{first_room, fresh}
 use Rattle.bfs_volume.specs.Volumes.{AreFitted, AreJoined, MayBeMounted, Stands}
 
 -- a block of the bitmap is one of data

@@ -1,5 +1,5 @@
 -- Why a sync or a close has failed.
-use Rattle.std.specs.Prelude.{◌≡◌, ◌≤◌, ℕ, Bool, true, Option, Some, None}
+use Rattle.std.specs.Prelude.{◌≡◌, ◌≤◌, ℕ, true, Option, Some, None}
 use Rattle.bfs_base.specs.Counts.{Rose}
 use Rattle.bfs_device.specs.declared.journal.Stop.{Stop}
 use Rattle.bfs_device.specs.declared.journal.DeviceFault.{DeviceFault}

@@ -1,5 +1,5 @@
 -- The entries that calls of a volume append.
-use Rattle.std.specs.Prelude.{◌≡◌, ◌≢◌, ◌≤◌, ℕ, ℤ, List, [], ◌∷◌, ◌++◌, Bool, true, false, Option, Some, None, length}
+use Rattle.std.specs.Prelude.{◌≡◌, ◌≢◌, ◌≤◌, ℕ, ℤ, List, [], ◌∷◌, ◌++◌, true, false, Option, Some, None, length}
 use Rattle.std.specs.List.{list_any}
 use Rattle.std.specs.Option.{option_map}
 use Rattle.bfs_txn.specs.Faults.{Counts}
@@ -10,6 +10,8 @@ use Rattle.bfs_tree.specs.declared.reply.Reply.TheVariants as replies
 use Rattle.bfs_tree.specs.declared.reply.Entry.{Entry}
 use Rattle.bfs_tree.specs.Histories.{Mounted, is_stop}
 use Rattle.bfs_base.specs.Counts.{Rose}
+use Rattle.bfs_disk.specs.State.{State}
+use Rattle.bfs_core.specs.Cores.{newest_map}
 use Rattle.bfs_space.specs.Books.{SpaceBooks}
 use Rattle.bfs_space.specs.Faces.{HasEntered, HasReplied}
 use Rattle.bfs_device.specs.Books.{Books, durable_of}
@@ -65,19 +67,20 @@ pub record HasReplyIn (old new : SpaceBooks) (faults later session tag : ℕ) (c
   pub begun : Counts
   pub ended : Counts
   pub same : at.view.history ≡ old.view.history
-  pub view : new.view ≡ books.view
+  pub rest : new ≡ record books { promised = new.promised }
   pub from : faults ≤ begun.faults
   pub upto : ended.faults ≤ later
   pub replied : HasReplied begun ended at books session tag now call
 
--- And over what the device told then, of a volume with this tree at mounting, the call was entered.
-pub record IsAnsweredIn (t0 : Mounted) (old new : SpaceBooks) (session tag : ℕ) (call : Call) : Type 0 where
+-- And over what the device told then, and tells since, of a volume with this tree at mounting, the call was entered.
+pub record IsAnsweredIn (t0 : Mounted) (old new : SpaceBooks) (b : Books) (told : Option State) (session tag : ℕ) (call : Call) : Type 0 where
   pub at : SpaceBooks
   pub books : SpaceBooks
   pub map : ℕ → Option (List ℕ)
   pub now : ℕ
   pub same : at.view.history ≡ old.view.history
-  pub view : new.view ≡ books.view
+  pub rest : new ≡ record books { promised = new.promised }
+  pub tells : option_map (newest_map b) told ≡ Some map
   pub entered : HasEntered t0 at books map session tag now call
 
 -- a reply that the device tells of a call: it has failed in it, or had stopped before

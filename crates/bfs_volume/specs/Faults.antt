@@ -1,5 +1,5 @@
 -- Why steps of a device have ended.
-use Rattle.std.specs.Prelude.{◌≡◌, ◌≢◌, ◌≤◌, ℕ, Bool, true, Option, Some, None}
+use Rattle.std.specs.Prelude.{◌≡◌, ◌≢◌, ◌≤◌, ℕ, true, Option, Some, None}
 use Rattle.bfs_base.specs.Counts.{Rose}
 use Rattle.bfs_device.specs.declared.journal.DeviceFault.{DeviceFault}
 use Rattle.bfs_device.specs.declared.journal.DeviceFault.TheVariants.{Disk, Stopped}

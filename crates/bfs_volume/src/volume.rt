@@ -111,7 +111,7 @@ impl<D: Disk, C: Clock> Volume<D, C> {
         // The space has replied, or the device has ended it; and over what the disk tells the reply is as the space's call says it.
         ensures noted { OnOk result (HasReplyIn self.old.space self.new.space (D.faults self.old.device.disk) (D.faults self.new.device.disk) session tag call ⊎ IsEnded self.old.space.view.history self.new.space.view.history session tag call self.old.device.books.stop (D.faults self.old.device.disk) (D.faults self.new.device.disk)) }
         ensures answered { (t0 : Mounted) (adopted : ℕ) → HasCore t0 adopted self.old.space.view self.old.device.books (D.state self.old.device.disk) (D.clock self.old.device.disk) (D.since self.old.device.disk)
-            → OnOk result (IsAnsweredIn t0 self.old.space self.new.space session tag call ⊎ IsEnded self.old.space.view.history self.new.space.view.history session tag call self.old.device.books.stop (D.faults self.old.device.disk) (D.faults self.new.device.disk)) }
+            → OnOk result (IsAnsweredIn t0 self.old.space self.new.space self.new.device.books (D.state self.new.device.disk) session tag call ⊎ IsEnded self.old.space.view.history self.new.space.view.history session tag call self.old.device.books.stop (D.faults self.old.device.disk) (D.faults self.new.device.disk)) }
         ensures core { (t0 : Mounted) (adopted : ℕ) → HasCore t0 adopted self.old.space.view self.old.device.books (D.state self.old.device.disk) (D.clock self.old.device.disk) (D.since self.old.device.disk)
             → HasCore t0 adopted self.new.space.view self.new.device.books (D.state self.new.device.disk) (D.clock self.new.device.disk) (D.since self.new.device.disk) }
     {

@@ -1,4 +1,4 @@
-use Rattle.std.proofs.Common.{rules, ◌≡◌, ◌≤◌, ◌⊎◌, inl, inr, ◌∙◌, ℕ, Result, sym, ap, subst, arith}
+use Rattle.std.proofs.Common.{rules, ◌≡◌, inl, inr, ◌∙◌, Result, sym, ap, subst, arith}
 use Rattle.std.specs.Prelude.{IfOk}
 use Rattle.std.specs.declared.alloc.AllocError.{AllocError}
 use Rattle.bfs_device.specs.Books.{Books}
@@ -11,7 +11,7 @@ use Rattle.bfs_device_blocks.specs.Lent.{HasCore}
 use Rattle.bfs_space.specs.Books.{SpaceBooks}
 use Rattle.bfs_volume.specs.Entries.{counts_of}
 use Rattle.bfs_volume.proofs.Asked.{face_core}
-use Rattle.bfs_volume.proofs.Ends.{device_end, noted_entry}
+use Rattle.bfs_volume.proofs.Ends.{device_end, noted_entry, rest_of, tells_since}
 use Rattle.bfs_volume.proofs.Joined.{joined_unpromised}
 use Rattle.bfs_volume.proofs.calls.answer.Goals as goal
 
@@ -77,7 +77,8 @@ returns-in-Ok-Replied-clause-answered g c = λ t0 adopted core.
       map = newest_map q.books held.0.0;
       now = c.args.now;
       same = c.prepare.ensures.history;
-      view = ap (λ (x : SpaceBooks). x.view) c.unpromise.ensures;
+      rest = rest_of c.ask.new.space c.unpromise.new.self _ c.unpromise.ensures;
+      tells = tells_since q.books c.ask.new.device.books (g.D.Disk.state q.disk) (g.D.Disk.state c.ask.new.device.disk) held.0.0 c.in-Ok-Replied.ensures.rests c.in-Ok-Replied.ensures.state held.0.1;
       entered = subst (λ (o : Outcome). IsOutcome t0 c.prepare.new.space c.ask.new.space (newest_map q.books held.0.0) c.args.session c.args.tag c.args.now c.args.call o) c.in-Ok-Replied.field-0-is (c.in-Ok-Replied.ensures.entered t0 held.0.0 held.0.1 face);
     })
 
@@ -130,6 +131,7 @@ returns-in-Ok-Replied-outcome-clause-answered g c = λ t0 adopted core.
       map = newest_map d.books held.0.0;
       now = c.args.now;
       same = history;
-      view = ap (λ (x : SpaceBooks). x.view) c.unpromise-2.ensures;
+      rest = rest_of c.ask-outcome.new.space c.unpromise-2.new.self _ c.unpromise-2.ensures;
+      tells = tells_since d.books c.ask-outcome.new.device.books (g.D.Disk.state d.disk) (g.D.Disk.state c.ask-outcome.new.device.disk) held.0.0 c.ask-outcome.ensures.rests c.ask-outcome.ensures.state held.0.1;
       entered = subst (λ (k : Call). HasEntered t0 sp c.ask-outcome.new.space (newest_map d.books held.0.0) c.args.session c.args.tag c.args.now k) off.0 replied;
     })

@@ -1,4 +1,4 @@
-use Rattle.std.proofs.Common.{◌≡◌, ◌∙◌, ℕ, sym, ap, subst}
+use Rattle.std.proofs.Common.{◌∙◌, sym, ap, subst}
 use Rattle.bfs_core.specs.Moments.{DeviceMoves}
 use Rattle.bfs_core.specs.Spaces.{SpaceView}
 use Rattle.bfs_core.proofs.Calls.{room_moves, room_rests}

@@ -1,6 +1,5 @@
-use Rattle.std.proofs.Common.{rules, ◌≡◌, ◌∙◌, ap, ℕ, List, Option, Some, sym, subst, get_or}
+use Rattle.std.proofs.Common.{rules, ◌≡◌, ◌∙◌, ap, Some, sym, subst}
 use Rattle.std.specs.Option.{option_map}
-use Rattle.bfs_txn.specs.Told.{Frame}
 use Rattle.bfs_device.specs.Books.{View}
 use Rattle.bfs_device.specs.Data.{IsRested}
 use Rattle.bfs_core.specs.Cores.{newest_map}

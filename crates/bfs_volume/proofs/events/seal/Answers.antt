@@ -1,7 +1,6 @@
-use Rattle.std.proofs.Common.{◌≡◌, sym, ap, subst, length}
+use Rattle.std.proofs.Common.{sym, ap, subst, length}
 use Rattle.bfs_core.specs.Spaces.{SpaceView, sealed_space}
 use Rattle.bfs_device.specs.Books.{Books}
-use Rattle.bfs_device.specs.Seals.{sealed_with}
 use Rattle.bfs_device_blocks.specs.Lent.{HasCore}
 use Rattle.bfs_device_blocks.proofs.Holding.{hold_sealed}
 use Rattle.bfs_space.specs.Books.{SpaceBooks, sealed_room}

@@ -1,6 +1,5 @@
-use Rattle.std.proofs.Common.{◌≡◌, ℕ, List, Option, Some, sym, ap, ◌∙◌, subst}
+use Rattle.std.proofs.Common.{◌≡◌, ℕ, sym, ap, ◌∙◌, subst}
 use Rattle.std.specs.Prelude.{max}
-use Rattle.bfs_disk.specs.State.{State}
 use Rattle.bfs_core.specs.Moments.{DeviceMoves}
 use Rattle.bfs_core.specs.Spaces.{SpaceView, released_space}
 use Rattle.bfs_core.proofs.Calls.{step_marked, step_right, step_stops}

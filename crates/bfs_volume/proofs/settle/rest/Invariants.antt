@@ -1,5 +1,4 @@
-use Rattle.std.proofs.Common.{◌≡◌, ◌≤◌, ℕ, List}
-use Rattle.bfs_tree.specs.declared.reply.Entry.{Entry}
+use Rattle.std.proofs.Common.{◌≡◌, ◌≤◌, ℕ}
 use Rattle.bfs_tree.specs.Histories.{Mounted}
 use Rattle.bfs_device.specs.Books.{durable_of, sealed_of}
 use Rattle.bfs_device.specs.Steps.{calls_left}

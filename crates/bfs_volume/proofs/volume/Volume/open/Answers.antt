@@ -1,4 +1,4 @@
-use Rattle.std.proofs.Common.{◌≡◌, ◌≤◌, ◌∙◌, ℕ, List, Option, true, sym, ap, subst, arith}
+use Rattle.std.proofs.Common.{◌≡◌, ◌∙◌, true, sym, ap, subst, arith}
 use Rattle.bfs_super.specs.declared.sup.Super.{Super}
 use Rattle.bfs_log.specs.Replay.{super_of}
 use Rattle.bfs_device.specs.Books.{Books, IsOnDisk, View}

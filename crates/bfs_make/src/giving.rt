@@ -12,9 +12,9 @@ ghost use Rattle.bfs_stream.specs.Places.{fields, places_at};
 ghost use Rattle.bfs_stream.specs.Scans.{IsDamage};
 ghost use Rattle.bfs_stream.specs.Sizes.{sizes_of, IsInVolume, first_block};
 ghost use Rattle.bfs_stream.specs.Told.{contents, AreTold};
+ghost use Rattle.bfs_stream.specs.Standing.{standing};
 ghost use Rattle.bfs_stream.specs.Trimmed.{Gave};
 ghost use Rattle.bfs_stream_pages.specs.Moves.{KeepsInode};
-ghost use Rattle.bfs_maps.specs.Mapped.{HasHeld};
 ghost use Rattle.bfs_make.specs.Given.{HasEmptied, HasStripped, HasGivenBack};
 ghost use Rattle.bfs_make.specs.Sites.{stream_in};
 
@@ -97,7 +97,7 @@ fn empty_over<E: Edits>(
     requires valid { IsValid site.sup }
     requires size { E.size edits.old ≡ site.sup.block_size }
     requires block { length block.old ≡ site.sup.block_size }
-    ensures emptied { (v : Room) (m : ℕ → Option (List ℕ)) → E.told edits.old ≡ Some m → HasHeld (stream_in site id) v m → OnOk result (HasEmptied (stream_in site id) v m (E.told edits.new) (E.changed edits.old) (E.changed edits.new)) }
+    ensures emptied { (v : Room) (m : ℕ → Option (List ℕ)) → E.told edits.old ≡ Some m → Owns (stream_in site id) v [] m → OnOk result (HasEmptied (stream_in site id) v m (E.told edits.new) (E.changed edits.old) (E.changed edits.new)) }
     ensures sound { (m : ℕ → Option (List ℕ)) → E.told edits.old ≡ Some m → IfErr result (λ fault. ¬ IsDamage fault) }
     ensures changed { (k : ℕ) → E.changed edits.new k ≡ true → (E.changed edits.old k ≡ true) ⊎ (k ≡ id) }
     ensures stays { StaysChanged (E.changed edits.old) (E.changed edits.new) }
@@ -122,7 +122,7 @@ fn empty_over<E: Edits>(
 fn empty<E: Edits>(site: Site, edits: &mut E, id: u64) -> Result<(), BlockFault>
     requires valid { IsValid site.sup }
     requires size { E.size edits.old ≡ site.sup.block_size }
-    ensures emptied { (v : Room) (m : ℕ → Option (List ℕ)) → E.told edits.old ≡ Some m → HasHeld (stream_in site id) v m → OnOk result (HasEmptied (stream_in site id) v m (E.told edits.new) (E.changed edits.old) (E.changed edits.new)) }
+    ensures emptied { (v : Room) (m : ℕ → Option (List ℕ)) → E.told edits.old ≡ Some m → Owns (stream_in site id) v [] m → OnOk result (HasEmptied (stream_in site id) v m (E.told edits.new) (E.changed edits.old) (E.changed edits.new)) }
     ensures sound { (m : ℕ → Option (List ℕ)) → E.told edits.old ≡ Some m → IfErr result (λ fault. ¬ IsDamage fault) }
     ensures changed { (k : ℕ) → E.changed edits.new k ≡ true → (E.changed edits.old k ≡ true) ⊎ (k ≡ id) }
     ensures stays { StaysChanged (E.changed edits.old) (E.changed edits.new) }
@@ -156,6 +156,7 @@ fn strip<E: Edits>(
     ensures sound { (m : ℕ → Option (List ℕ)) → E.told edits.old ≡ Some m → Owns (stream_in site id) bitmap.old [] m → (fields (sizes_of site.sup) (contents m) id).size ≡ pos 0 → IfErr result (λ fault. ¬ IsDamage fault) }
     ensures rest { bitmap.new ≡ record bitmap.old { given = bitmap.new.given; tally = bitmap.new.tally } }
     ensures kept { as_kept bitmap.new ≡ as_kept bitmap.old }
+    ensures standing { standing bitmap.new ≡ standing bitmap.old }
     ensures stays { StaysChanged (E.changed edits.old) (E.changed edits.new) }
     ensures size { E.size edits.new ≡ E.size edits.old }
     ensures frame { E.frame edits.new ≡ E.frame edits.old }
@@ -167,7 +168,7 @@ fn strip<E: Edits>(
 }
 
 /// Gives one block back.
-fn give_block<E: Edits>(
+pub fn give_block<E: Edits>(
     site: Site,
     bitmap: &mut Bitmap,
     edits: &mut E,
@@ -181,6 +182,7 @@ fn give_block<E: Edits>(
     ensures sound { (m : ℕ → Option (List ℕ)) → E.told edits.old ≡ Some m → IfErr result (λ fault. ¬ IsDamage fault) }
     ensures rest { bitmap.new ≡ record bitmap.old { given = bitmap.new.given; tally = bitmap.new.tally } }
     ensures kept { as_kept bitmap.new ≡ as_kept bitmap.old }
+    ensures standing { standing bitmap.new ≡ standing bitmap.old }
     ensures changed { (k : ℕ) → E.changed edits.new k ≡ true → (E.changed edits.old k ≡ true) ⊎ IsBitmapBlock bitmap.old k }
     ensures stays { StaysChanged (E.changed edits.old) (E.changed edits.new) }
     ensures size { E.size edits.new ≡ E.size edits.old }
@@ -202,10 +204,11 @@ pub fn give_inode<E: Edits>(
     requires inside { id < natural site.sup.num_blocks }
     requires size { E.size edits.old ≡ site.sup.block_size }
     requires volume { IsOfVolume (sizes_of site.sup) bitmap.old }
-    ensures given { (m : ℕ → Option (List ℕ)) → E.told edits.old ≡ Some m → HasHeld (stream_in site id) bitmap.old m → OnOk result (HasGivenBack (stream_in site id) bitmap.old bitmap.new m (E.told edits.new) (E.changed edits.old) (E.changed edits.new)) }
-    ensures sound { (m : ℕ → Option (List ℕ)) → E.told edits.old ≡ Some m → HasHeld (stream_in site id) bitmap.old m → IfErr result (λ fault. ¬ IsDamage fault) }
+    ensures given { (m : ℕ → Option (List ℕ)) → E.told edits.old ≡ Some m → Owns (stream_in site id) bitmap.old [] m → OnOk result (HasGivenBack (stream_in site id) bitmap.old bitmap.new m (E.told edits.new) (E.changed edits.old) (E.changed edits.new)) }
+    ensures sound { (m : ℕ → Option (List ℕ)) → E.told edits.old ≡ Some m → Owns (stream_in site id) bitmap.old [] m → IfErr result (λ fault. ¬ IsDamage fault) }
     ensures rest { bitmap.new ≡ record bitmap.old { given = bitmap.new.given; tally = bitmap.new.tally } }
     ensures kept { as_kept bitmap.new ≡ as_kept bitmap.old }
+    ensures standing { standing bitmap.new ≡ standing bitmap.old }
     ensures stays { StaysChanged (E.changed edits.old) (E.changed edits.new) }
     ensures size { E.size edits.new ≡ E.size edits.old }
     ensures frame { E.frame edits.new ≡ E.frame edits.old }

@@ -11,7 +11,7 @@ mod site;
 mod storing;
 mod tree;
 
-pub use giving::{give_inode, run_of};
+pub use giving::{give_block, give_inode, run_of};
 pub use making::{InodeForm, NewInode, make_inode, new_inode, run_start, take_block};
 pub use reading::{read_block, stream_bytes};
 pub use site::{Site, blocks_in, has_long_blocks, has_short_blocks};

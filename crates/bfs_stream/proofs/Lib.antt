@@ -45,3 +45,4 @@ pub mod CutTwice
 pub mod CutOthers
 pub mod Emptied
 pub mod Lasts
+pub mod Standings

@@ -5,3 +5,4 @@ pub mod Scans
 pub mod Grown
 pub mod Faults
 pub mod Trimmed
+pub mod Standing

@@ -11,6 +11,7 @@ ghost use Rattle.bfs_stream.specs.Told.{contents, AreTold};
 ghost use Rattle.bfs_stream.specs.Scans.{IsDamage};
 ghost use Rattle.bfs_stream.specs.Faults.{IsCauseIn};
 ghost use Rattle.bfs_stream.specs.Grown.{IsOfVolume, Owns, KeepsRest, IsTable, AreTables, HasTables, table_runs, HasBitIn};
+ghost use Rattle.bfs_stream.specs.Standing.{standing};
 ghost use Rattle.bfs_stream.specs.Trimmed.{Gave, HasCut, HasNoArrays, MayLose};
 ghost use Rattle.bfs_txn.specs.Told.{StaysChanged};
 
@@ -36,6 +37,7 @@ impl Stream {
         ensures gave { (m : ℕ → Option (List ℕ)) → E.told edits.old ≡ Some m → Fits bitmap.old m → OnOk result (Gave bitmap.old bitmap.new (run_blocks self.now.sizes run) m (E.told edits.new)) }
         ensures rest { bitmap.new ≡ record bitmap.old { given = bitmap.new.given; tally = bitmap.new.tally } }
         ensures kept { as_kept bitmap.new ≡ as_kept bitmap.old }
+        ensures standing { standing bitmap.new ≡ standing bitmap.old }
         ensures changed { (k : ℕ) → E.changed edits.new k ≡ true → (E.changed edits.old k ≡ true) ⊎ IsBitmapBlock bitmap.old k }
         ensures bits { (k : ℕ) → E.changed edits.new k ≡ true → (E.changed edits.old k ≡ true) ⊎ HasBitIn bitmap.old (Has (run_blocks self.now.sizes run)) k }
         ensures stays { StaysChanged (E.changed edits.old) (E.changed edits.new) }
@@ -114,6 +116,7 @@ impl Stream {
         ensures most { IfOk result (λ n. n ≤ most) }
         ensures rest { bitmap.new ≡ record bitmap.old { given = bitmap.new.given; tally = bitmap.new.tally } }
         ensures kept { as_kept bitmap.new ≡ as_kept bitmap.old }
+        ensures standing { standing bitmap.new ≡ standing bitmap.old }
         ensures changed { (k : ℕ) → E.changed edits.new k ≡ true → (E.changed edits.old k ≡ true) ⊎ (IsBitmapBlock bitmap.old k ⊎ (k < self.now.sizes.blocks)) }
         ensures stays { StaysChanged (E.changed edits.old) (E.changed edits.new) }
         ensures size { E.size edits.new ≡ E.size edits.old }
@@ -199,6 +202,7 @@ impl Stream {
         ensures length { length bytes.new ≡ self.now.sizes.block_size }
         ensures rest { bitmap.new ≡ record bitmap.old { given = bitmap.new.given; tally = bitmap.new.tally } }
         ensures kept { as_kept bitmap.new ≡ as_kept bitmap.old }
+        ensures standing { standing bitmap.new ≡ standing bitmap.old }
         ensures changed { (k : ℕ) → E.changed edits.new k ≡ true → (E.changed edits.old k ≡ true) ⊎ (IsBitmapBlock bitmap.old k ⊎ (k < self.now.sizes.blocks)) }
         ensures stays { StaysChanged (E.changed edits.old) (E.changed edits.new) }
         ensures size { E.size edits.new ≡ E.size edits.old }
@@ -291,6 +295,7 @@ impl Stream {
         ensures length { length bytes.new ≡ self.now.sizes.block_size }
         ensures rest { bitmap.new ≡ record bitmap.old { given = bitmap.new.given; tally = bitmap.new.tally } }
         ensures kept { as_kept bitmap.new ≡ as_kept bitmap.old }
+        ensures standing { standing bitmap.new ≡ standing bitmap.old }
         ensures changed { (k : ℕ) → E.changed edits.new k ≡ true → (E.changed edits.old k ≡ true) ⊎ (IsBitmapBlock bitmap.old k ⊎ (k < self.now.sizes.blocks)) }
         ensures stays { StaysChanged (E.changed edits.old) (E.changed edits.new) }
         ensures size { E.size edits.new ≡ E.size edits.old }

@@ -12,6 +12,7 @@ ghost use Rattle.bfs_stream.specs.Told.{contents};
 ghost use Rattle.bfs_stream.specs.Scans.{IsDamage};
 ghost use Rattle.bfs_stream.specs.Faults.{IsCauseIn};
 ghost use Rattle.bfs_stream.specs.Grown.{IsOfVolume, Owns, HasFields, KeepsRest, IsTable, AreTables, table_runs, HasBitIn};
+ghost use Rattle.bfs_stream.specs.Standing.{standing};
 ghost use Rattle.bfs_stream.specs.Trimmed.{Gave, HasTrimmed, HasDropped, HasSpare, HasNoArrays, MayLose};
 ghost use Rattle.bfs_txn.specs.Told.{StaysChanged};
 
@@ -44,6 +45,7 @@ impl Stream {
         ensures length { length bytes.new ≡ self.now.sizes.block_size }
         ensures rest { bitmap.new ≡ record bitmap.old { given = bitmap.new.given; tally = bitmap.new.tally } }
         ensures kept { as_kept bitmap.new ≡ as_kept bitmap.old }
+        ensures standing { standing bitmap.new ≡ standing bitmap.old }
         ensures changed { (k : ℕ) → E.changed edits.new k ≡ true → (E.changed edits.old k ≡ true) ⊎ IsBitmapBlock bitmap.old k }
         ensures bits { (m : ℕ → Option (List ℕ)) → E.told edits.old ≡ Some m → Owns self.now bitmap.old [] m → ((k : ℕ) → Has (run_blocks self.now.sizes array) k → Has (frame_at self.now.sizes (contents m) self.now.id) k) → from + count ≤ length (used_runs (array_runs self.now.sizes (contents m) array)) → OnOk result ((k : ℕ) → E.changed edits.new k ≡ true → (E.changed edits.old k ≡ true) ⊎ HasBitIn bitmap.old (Has (blocks_of self.now.sizes (take count (drop from (used_runs (array_runs self.now.sizes (contents m) array)))))) k) }
         ensures stays { StaysChanged (E.changed edits.old) (E.changed edits.new) }
@@ -88,6 +90,7 @@ impl Stream {
         ensures length { length bytes.new ≡ self.now.sizes.block_size }
         ensures rest { bitmap.new ≡ record bitmap.old { given = bitmap.new.given; tally = bitmap.new.tally } }
         ensures kept { as_kept bitmap.new ≡ as_kept bitmap.old }
+        ensures standing { standing bitmap.new ≡ standing bitmap.old }
         ensures changed { (k : ℕ) → E.changed edits.new k ≡ true → (E.changed edits.old k ≡ true) ⊎ IsBitmapBlock bitmap.old k }
         ensures bits { (m : ℕ → Option (List ℕ)) → E.told edits.old ≡ Some m → Owns self.now bitmap.old [] m → AreTables self.now m tables → OnOk result ((k : ℕ) → E.changed edits.new k ≡ true → (E.changed edits.old k ≡ true) ⊎ HasBitIn bitmap.old (Has (blocks_of self.now.sizes (drop from (used_runs (table_runs self.now.sizes (contents m) tables.array))))) k) }
         ensures stays { StaysChanged (E.changed edits.old) (E.changed edits.new) }
@@ -180,6 +183,7 @@ impl Stream {
         ensures length { length bytes.new ≡ self.now.sizes.block_size }
         ensures rest { bitmap.new ≡ record bitmap.old { given = bitmap.new.given; tally = bitmap.new.tally } }
         ensures kept { as_kept bitmap.new ≡ as_kept bitmap.old }
+        ensures standing { standing bitmap.new ≡ standing bitmap.old }
         ensures changed { (k : ℕ) → E.changed edits.new k ≡ true → (E.changed edits.old k ≡ true) ⊎ (IsBitmapBlock bitmap.old k ⊎ (k < self.now.sizes.blocks)) }
         ensures stays { StaysChanged (E.changed edits.old) (E.changed edits.new) }
         ensures size { E.size edits.new ≡ E.size edits.old }
@@ -220,6 +224,7 @@ impl Stream {
         ensures length { length bytes.new ≡ self.now.sizes.block_size }
         ensures rest { bitmap.new ≡ record bitmap.old { given = bitmap.new.given; tally = bitmap.new.tally } }
         ensures kept { as_kept bitmap.new ≡ as_kept bitmap.old }
+        ensures standing { standing bitmap.new ≡ standing bitmap.old }
         ensures changed { (k : ℕ) → E.changed edits.new k ≡ true → (E.changed edits.old k ≡ true) ⊎ (IsBitmapBlock bitmap.old k ⊎ (k < self.now.sizes.blocks)) }
         ensures stays { StaysChanged (E.changed edits.old) (E.changed edits.new) }
         ensures size { E.size edits.new ≡ E.size edits.old }
@@ -264,6 +269,7 @@ impl Stream {
         ensures length { length bytes.new ≡ self.now.sizes.block_size }
         ensures rest { bitmap.new ≡ record bitmap.old { given = bitmap.new.given; tally = bitmap.new.tally } }
         ensures kept { as_kept bitmap.new ≡ as_kept bitmap.old }
+        ensures standing { standing bitmap.new ≡ standing bitmap.old }
         ensures changed { (k : ℕ) → E.changed edits.new k ≡ true → (E.changed edits.old k ≡ true) ⊎ (IsBitmapBlock bitmap.old k ⊎ (k < self.now.sizes.blocks)) }
         ensures stays { StaysChanged (E.changed edits.old) (E.changed edits.new) }
         ensures size { E.size edits.new ≡ E.size edits.old }
@@ -322,6 +328,7 @@ impl Stream {
         ensures length { length bytes.new ≡ self.now.sizes.block_size }
         ensures rest { bitmap.new ≡ record bitmap.old { given = bitmap.new.given; tally = bitmap.new.tally } }
         ensures kept { as_kept bitmap.new ≡ as_kept bitmap.old }
+        ensures standing { standing bitmap.new ≡ standing bitmap.old }
         ensures changed { (k : ℕ) → E.changed edits.new k ≡ true → (E.changed edits.old k ≡ true) ⊎ (IsBitmapBlock bitmap.old k ⊎ (k < self.now.sizes.blocks)) }
         ensures stays { StaysChanged (E.changed edits.old) (E.changed edits.new) }
         ensures size { E.size edits.new ≡ E.size edits.old }
@@ -355,6 +362,7 @@ impl Stream {
         ensures length { length bytes.new ≡ self.now.sizes.block_size }
         ensures rest { bitmap.new ≡ record bitmap.old { given = bitmap.new.given; tally = bitmap.new.tally } }
         ensures kept { as_kept bitmap.new ≡ as_kept bitmap.old }
+        ensures standing { standing bitmap.new ≡ standing bitmap.old }
         ensures changed { (k : ℕ) → E.changed edits.new k ≡ true → (E.changed edits.old k ≡ true) ⊎ (IsBitmapBlock bitmap.old k ⊎ (k < self.now.sizes.blocks)) }
         ensures stays { StaysChanged (E.changed edits.old) (E.changed edits.new) }
         ensures size { E.size edits.new ≡ E.size edits.old }
@@ -408,6 +416,7 @@ impl Stream {
         ensures length { length bytes.new ≡ self.now.sizes.block_size }
         ensures rest { bitmap.new ≡ record bitmap.old { given = bitmap.new.given; tally = bitmap.new.tally } }
         ensures kept { as_kept bitmap.new ≡ as_kept bitmap.old }
+        ensures standing { standing bitmap.new ≡ standing bitmap.old }
         ensures changed { (k : ℕ) → E.changed edits.new k ≡ true → (E.changed edits.old k ≡ true) ⊎ (IsBitmapBlock bitmap.old k ⊎ (k < self.now.sizes.blocks)) }
         ensures stays { StaysChanged (E.changed edits.old) (E.changed edits.new) }
         ensures size { E.size edits.new ≡ E.size edits.old }
@@ -443,6 +452,7 @@ impl Stream {
         ensures length { length bytes.new ≡ self.now.sizes.block_size }
         ensures rest { bitmap.new ≡ record bitmap.old { given = bitmap.new.given; tally = bitmap.new.tally } }
         ensures kept { as_kept bitmap.new ≡ as_kept bitmap.old }
+        ensures standing { standing bitmap.new ≡ standing bitmap.old }
         ensures changed { (k : ℕ) → E.changed edits.new k ≡ true → (E.changed edits.old k ≡ true) ⊎ (IsBitmapBlock bitmap.old k ⊎ (k < self.now.sizes.blocks)) }
         ensures stays { StaysChanged (E.changed edits.old) (E.changed edits.new) }
         ensures size { E.size edits.new ≡ E.size edits.old }

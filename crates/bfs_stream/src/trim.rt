@@ -11,6 +11,7 @@ ghost use Rattle.bfs_stream.specs.Told.{contents};
 ghost use Rattle.bfs_stream.specs.Scans.{IsDamage};
 ghost use Rattle.bfs_stream.specs.Faults.{IsCauseIn};
 ghost use Rattle.bfs_stream.specs.Grown.{IsOfVolume, Owns};
+ghost use Rattle.bfs_stream.specs.Standing.{standing};
 ghost use Rattle.bfs_stream.specs.Trimmed.{HasCut, HasSpare, HasNoEmpty, HasNoArrays, MayLose, IsAtEnd, HasTrimmedTo, LeavesGiven};
 ghost use Rattle.bfs_txn.specs.Told.{StaysChanged};
 
@@ -41,6 +42,7 @@ impl Stream {
         ensures length { length bytes.new ≡ self.now.sizes.block_size }
         ensures rest { bitmap.new ≡ record bitmap.old { given = bitmap.new.given; tally = bitmap.new.tally } }
         ensures kept { as_kept bitmap.new ≡ as_kept bitmap.old }
+        ensures standing { standing bitmap.new ≡ standing bitmap.old }
         ensures changed { (k : ℕ) → E.changed edits.new k ≡ true → (E.changed edits.old k ≡ true) ⊎ (IsBitmapBlock bitmap.old k ⊎ (k < self.now.sizes.blocks)) }
         ensures stays { StaysChanged (E.changed edits.old) (E.changed edits.new) }
         ensures size { E.size edits.new ≡ E.size edits.old }
@@ -84,6 +86,7 @@ impl Stream {
         ensures length { length bytes.new ≡ self.now.sizes.block_size }
         ensures rest { bitmap.new ≡ record bitmap.old { given = bitmap.new.given; tally = bitmap.new.tally } }
         ensures kept { as_kept bitmap.new ≡ as_kept bitmap.old }
+        ensures standing { standing bitmap.new ≡ standing bitmap.old }
         ensures changed { (k : ℕ) → E.changed edits.new k ≡ true → (E.changed edits.old k ≡ true) ⊎ (IsBitmapBlock bitmap.old k ⊎ (k < self.now.sizes.blocks)) }
         ensures stays { StaysChanged (E.changed edits.old) (E.changed edits.new) }
         ensures size { E.size edits.new ≡ E.size edits.old }
@@ -122,6 +125,7 @@ impl Stream {
         ensures length { length bytes.new ≡ self.now.sizes.block_size }
         ensures rest { bitmap.new ≡ record bitmap.old { given = bitmap.new.given; tally = bitmap.new.tally } }
         ensures kept { as_kept bitmap.new ≡ as_kept bitmap.old }
+        ensures standing { standing bitmap.new ≡ standing bitmap.old }
         ensures changed { (k : ℕ) → E.changed edits.new k ≡ true → (E.changed edits.old k ≡ true) ⊎ (IsBitmapBlock bitmap.old k ⊎ (k < self.now.sizes.blocks)) }
         ensures stays { StaysChanged (E.changed edits.old) (E.changed edits.new) }
         ensures size { E.size edits.new ≡ E.size edits.old }
@@ -160,6 +164,7 @@ impl Stream {
         ensures length { length bytes.new ≡ self.now.sizes.block_size }
         ensures rest { bitmap.new ≡ record bitmap.old { given = bitmap.new.given; tally = bitmap.new.tally } }
         ensures kept { as_kept bitmap.new ≡ as_kept bitmap.old }
+        ensures standing { standing bitmap.new ≡ standing bitmap.old }
         ensures changed { (k : ℕ) → E.changed edits.new k ≡ true → (E.changed edits.old k ≡ true) ⊎ (IsBitmapBlock bitmap.old k ⊎ (k < self.now.sizes.blocks)) }
         ensures stays { StaysChanged (E.changed edits.old) (E.changed edits.new) }
         ensures size { E.size edits.new ≡ E.size edits.old }
@@ -198,6 +203,7 @@ impl Stream {
         ensures length { length bytes.new ≡ self.now.sizes.block_size }
         ensures rest { bitmap.new ≡ record bitmap.old { given = bitmap.new.given; tally = bitmap.new.tally } }
         ensures kept { as_kept bitmap.new ≡ as_kept bitmap.old }
+        ensures standing { standing bitmap.new ≡ standing bitmap.old }
         ensures changed { (k : ℕ) → E.changed edits.new k ≡ true → (E.changed edits.old k ≡ true) ⊎ (IsBitmapBlock bitmap.old k ⊎ (k < self.now.sizes.blocks)) }
         ensures stays { StaysChanged (E.changed edits.old) (E.changed edits.new) }
         ensures size { E.size edits.new ≡ E.size edits.old }
@@ -232,6 +238,7 @@ impl Stream {
         ensures length { length bytes.new ≡ self.now.sizes.block_size }
         ensures rest { bitmap.new ≡ record bitmap.old { given = bitmap.new.given; tally = bitmap.new.tally } }
         ensures kept { as_kept bitmap.new ≡ as_kept bitmap.old }
+        ensures standing { standing bitmap.new ≡ standing bitmap.old }
         ensures changed { (k : ℕ) → E.changed edits.new k ≡ true → (E.changed edits.old k ≡ true) ⊎ (IsBitmapBlock bitmap.old k ⊎ (k < self.now.sizes.blocks)) }
         ensures stays { StaysChanged (E.changed edits.old) (E.changed edits.new) }
         ensures size { E.size edits.new ≡ E.size edits.old }
@@ -268,6 +275,7 @@ impl Stream {
         ensures length { length bytes.new ≡ self.now.sizes.block_size }
         ensures rest { bitmap.new ≡ record bitmap.old { given = bitmap.new.given; tally = bitmap.new.tally } }
         ensures kept { as_kept bitmap.new ≡ as_kept bitmap.old }
+        ensures standing { standing bitmap.new ≡ standing bitmap.old }
         ensures changed { (k : ℕ) → E.changed edits.new k ≡ true → (E.changed edits.old k ≡ true) ⊎ (IsBitmapBlock bitmap.old k ⊎ (k < self.now.sizes.blocks)) }
         ensures stays { StaysChanged (E.changed edits.old) (E.changed edits.new) }
         ensures size { E.size edits.new ≡ E.size edits.old }
@@ -300,6 +308,7 @@ impl Stream {
         ensures same { self.new ≡ self.old }
         ensures rest { bitmap.new ≡ record bitmap.old { given = bitmap.new.given; tally = bitmap.new.tally } }
         ensures kept { as_kept bitmap.new ≡ as_kept bitmap.old }
+        ensures standing { standing bitmap.new ≡ standing bitmap.old }
         ensures changed { (k : ℕ) → E.changed edits.new k ≡ true → (E.changed edits.old k ≡ true) ⊎ (IsBitmapBlock bitmap.old k ⊎ (k < self.old.sizes.blocks)) }
         ensures still { StaysChanged (E.changed edits.old) (E.changed edits.new) }
         ensures size { E.size edits.new ≡ E.size edits.old }

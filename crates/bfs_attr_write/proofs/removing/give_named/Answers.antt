@@ -1,10 +1,10 @@
 use Rattle.bfs_attr_write.proofs.removing.give_named.Goals as goal
 
 pub returns-in-Ok-clause-given : goal.returns-in-Ok-clause-given
-returns-in-Ok-clause-given g c m told held = c.in-Ok.ensures.given m told held
+returns-in-Ok-clause-given g c m told held = c.in-Ok.ensures.given m told held.1.owns
 
 pub returns-in-Err-clause-sound : goal.returns-in-Err-clause-sound
-returns-in-Err-clause-sound g c m told held low = c.in-Err.ensures.sound m told held
+returns-in-Err-clause-sound g c m told held low = c.in-Err.ensures.sound m told held.1.owns
 
 pub returns-in-Err-clause-cause : goal.returns-in-Err-clause-cause
 returns-in-Err-clause-cause g c = (tt, c.in-Err.ensures.cause)

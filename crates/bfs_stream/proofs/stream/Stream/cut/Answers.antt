@@ -40,3 +40,16 @@ returns-clause-trimmed g c m is owns may =
     let some : 0 < (fields o.sizes (contents m) o.id).double_indirect.len = omega (arith, e, zero) in
     subst (λ (f : ℕ → Bool). IfOk c.cut_tables.result (λ k. HasCut o v c.cut_tables.new.bitmap m k (g.E.Blocks.told c.cut_tables.new.edits) f (g.E.Blocks.changed c.cut_tables.new.edits))) c.in-Ok.ensures.changed
     (c.cut_tables.ensures.trimmed m now_is owns some may)
+
+pub returns-clause-done : goal.returns-clause-done
+returns-clause-done g c m is owns spare =
+    let o = c.args.self.now in
+    let id : c.self.inside.inode ≡ o.id = ap (λ (x : Origin). x.id) c.self.view_is in
+    let of : AreOfBlock (g.E.Blocks.told c.args.edits.now) o.id c.get.new.into = subst (λ (k : ℕ). AreOfBlock (g.E.Blocks.told c.args.edits.now) k c.get.new.into) id c.in-Ok.ensures.bytes in
+    let read = read_is m (g.E.Blocks.told c.args.edits.now) o.id c.get.new.into is (told_inode m o owns.stands) of in
+    let now_is = c.in-Ok.ensures.told ∙ is in
+    let array_is : c.double_indirect.result ≡ (fields o.sizes (contents m) o.id).double_indirect = c.double_indirect.ensures ∙ ap (λ (l : List ℕ). (stream_at l).double_indirect) (c.over.ensures ∙ read) in
+    let e : c.double_indirect.result.len ≡ (fields o.sizes (contents m) o.id).double_indirect.len = ap (λ (r : Run). r.len) array_is in
+    let zero = c.if-double_indirect-eq0.false in
+    let some : 0 < (fields o.sizes (contents m) o.id).double_indirect.len = omega (arith, e, zero) in
+    c.cut_tables.ensures.done m now_is owns some spare

@@ -14,6 +14,7 @@ loop-gone-init g c = record {
   frame = refl;
   rest = refl;
   kept = refl;
+  stands = refl;
   volume = c.requires.volume;
   trimmed = λ m is owns may spare. trimmed_so_none c.args.self.now c.args.bitmap.now m c.args.blocks (g.E.Blocks.told c.args.edits.now) (g.E.Blocks.changed c.args.edits.now) owns is may spare;
   later = later_none (g.E.Blocks.counts c.args.edits.now);
@@ -30,6 +31,7 @@ loop-gone-preserved g c =
       frame = c.in-Ok.ensures.frame ∙ c.loop-gone.invariant.frame;
       rest = rest;
       kept = c.in-Ok.ensures.kept ∙ c.loop-gone.invariant.kept;
+      stands = c.in-Ok.ensures.standing ∙ c.loop-gone.invariant.stands;
       volume = subst (IsOfVolume c.args.self.now.sizes) (sym rest) (record { block_size = c.requires.volume.block_size; blocks = c.requires.volume.blocks; group_blocks = c.requires.volume.group_blocks });
       trimmed = λ m is owns may spare.
           let so_far = c.loop-gone.invariant.trimmed m is owns may spare in

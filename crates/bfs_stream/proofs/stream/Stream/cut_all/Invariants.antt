@@ -4,6 +4,7 @@ use Rattle.bfs_txn.specs.Told.{StaysChanged}
 use Rattle.bfs_bitmap.specs.Runs.{as_kept}
 use Rattle.bfs_bitmap.specs.Fills.{IsBitmapBlock}
 use Rattle.bfs_stream.specs.Grown.{IsOfVolume, Owns}
+use Rattle.bfs_stream.specs.Standing.{standing}
 use Rattle.bfs_stream.specs.Trimmed.{MayLose, HasSpare}
 use Rattle.bfs_stream.proofs.CutTwice.{IsTrimmedSo}
 use Rattle.bfs_stream.proofs.stream.Stream.cut_all.Given as goal
@@ -18,6 +19,7 @@ invariant-loop-gone g l = record {
   frame : g.E.Blocks.frame l.edits ≡ g.E.Blocks.frame l.fn.edits;
   rest : l.bitmap ≡ record l.fn.bitmap { given = l.bitmap.given; tally = l.bitmap.tally };
   kept : as_kept l.bitmap ≡ as_kept l.fn.bitmap;
+  stands : standing l.bitmap ≡ standing l.fn.bitmap;
   volume : IsOfVolume l.self.sizes l.bitmap;
   trimmed : (m : ℕ → Option (List ℕ)) → g.E.Blocks.told l.fn.edits ≡ Some m → Owns l.self l.fn.bitmap [] m → MayLose l.self m l.fn.blocks → HasSpare l.self m l.fn.blocks → IsTrimmedSo l.self l.fn.bitmap l.bitmap m l.fn.blocks l.left (g.E.Blocks.told l.edits) (g.E.Blocks.changed l.fn.edits) (g.E.Blocks.changed l.edits);
   later : AreLater (g.E.Blocks.counts l.fn.edits) (g.E.Blocks.counts l.edits);

@@ -30,6 +30,7 @@ loop-i-init g c = record {
   frame = refl;
   rest = refl;
   kept = refl;
+  stands = refl;
   volume = c.requires.volume;
   low = omega arith;
   later = later_none (g.E.Blocks.counts c.args.edits.now);
@@ -54,6 +55,7 @@ loop-i-preserved g c =
       frame = c.in-Ok-give.ensures.frame ∙ c.in-Ok.ensures.frame ∙ c.loop-i.invariant.frame;
       rest = rest;
       kept = c.in-Ok-give.ensures.kept ∙ c.loop-i.invariant.kept;
+      stands = c.in-Ok-give.ensures.standing ∙ c.loop-i.invariant.stands;
       volume = subst (IsOfVolume s) (sym rest) (record { block_size = c.requires.volume.block_size; blocks = c.requires.volume.blocks; group_blocks = c.requires.volume.group_blocks });
       low = let least = c.loop-i.invariant.low in omega (arith, least);
       later = later_twice (g.E.Blocks.counts c.args.edits.now) (g.E.Blocks.counts c.run_below.new.under) (g.E.Blocks.counts c.give.new.edits)

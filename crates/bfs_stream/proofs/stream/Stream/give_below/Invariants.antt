@@ -6,6 +6,7 @@ use Rattle.bfs_bitmap.specs.Fills.{IsBitmapBlock}
 use Rattle.bfs_stream.specs.Places.{blocks_of, used_runs}
 use Rattle.bfs_stream.specs.Told.{contents}
 use Rattle.bfs_stream.specs.Grown.{IsOfVolume, Owns, AreTables, table_runs, HasBitIn}
+use Rattle.bfs_stream.specs.Standing.{standing}
 use Rattle.bfs_stream.specs.Trimmed.{Gave}
 use Rattle.bfs_base.specs.Lists.{Has}
 use Rattle.bfs_stream.proofs.stream.Stream.give_below.Given as goal
@@ -17,6 +18,7 @@ invariant-loop-i g l = record {
   frame : g.E.Blocks.frame l.edits ≡ g.E.Blocks.frame l.fn.edits;
   rest : l.bitmap ≡ record l.fn.bitmap { given = l.bitmap.given; tally = l.bitmap.tally };
   kept : as_kept l.bitmap ≡ as_kept l.fn.bitmap;
+  stands : standing l.bitmap ≡ standing l.fn.bitmap;
   volume : IsOfVolume l.self.sizes l.bitmap;
   low : l.fn.from ≤ l.i;
   later : AreLater (g.E.Blocks.counts l.fn.edits) (g.E.Blocks.counts l.edits);

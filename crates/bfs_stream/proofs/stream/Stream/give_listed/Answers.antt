@@ -30,6 +30,7 @@ loop-i-init g c = record {
   frame = refl;
   rest = refl;
   kept = refl;
+  stands = refl;
   volume = c.requires.volume;
   later = later_none (g.E.Blocks.counts c.args.edits.now);
   changed = λ k e. inl e;
@@ -51,6 +52,7 @@ loop-i-preserved g c =
       frame = c.in-Ok-give.ensures.frame ∙ c.in-Ok.ensures.frame ∙ c.loop-i.invariant.frame;
       rest = rest;
       kept = c.in-Ok-give.ensures.kept ∙ c.loop-i.invariant.kept;
+      stands = c.in-Ok-give.ensures.standing ∙ c.loop-i.invariant.stands;
       volume = subst (IsOfVolume s) (sym rest) (record { block_size = c.requires.volume.block_size; blocks = c.requires.volume.blocks; group_blocks = c.requires.volume.group_blocks });
       later = later_twice (g.E.Blocks.counts c.args.edits.now) (g.E.Blocks.counts c.run_in.new.under) (g.E.Blocks.counts c.give.new.edits)
           (later_twice (g.E.Blocks.counts c.args.edits.now) (g.E.Blocks.counts c.loop-i.edits) (g.E.Blocks.counts c.run_in.new.under) c.loop-i.invariant.later c.in-Ok.ensures.cause.later) c.in-Ok-give.ensures.cause.later;

@@ -1,1 +1,10 @@
 pub mod Unnamed
+pub mod Standing
+pub mod Steps
+pub mod Givings
+pub mod Returned
+pub mod Owned
+pub mod Gathered
+pub mod Bared
+pub mod Loosened
+pub mod Inodes

@@ -1,5 +1,5 @@
 -- A read that failed, of a call that takes.
-use Rattle.std.proofs.Common.{◌≡◌, ℕ, List}
+use Rattle.std.proofs.Common.{List}
 use Rattle.bfs_base.specs.declared.kind.KeyKind.TheVariants.{Text}
 use Rattle.bfs_node.specs.Page.{Row}
 use Rattle.bfs_node.specs.declared.fault.TreeFault.{TreeFault}

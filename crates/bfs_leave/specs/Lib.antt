@@ -1,1 +1,4 @@
+pub mod Leaving
+pub mod Given
+pub mod Laws
 pub mod Unlisted

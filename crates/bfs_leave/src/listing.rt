@@ -13,7 +13,7 @@ ghost use Rattle.bfs_stream.specs.Grown.{IsOfVolume};
 ghost use Rattle.bfs_stream.specs.Sizes.{sizes_of};
 ghost use Rattle.bfs_tree.specs.Trees.{Tree};
 ghost use Rattle.bfs_maps.specs.NumberTrees.{IsNumberAt};
-ghost use Rattle.bfs_maps.specs.Refused.{IsUndone, HasReadCause};
+ghost use Rattle.bfs_maps.specs.Refused.{HasReadCause};
 ghost use Rattle.bfs_shift.specs.Lists.{Lists, with_pairs};
 ghost use Rattle.bfs_shift.specs.Work.{IsAtWork, IsStepped};
 ghost use Rattle.bfs_moves.specs.Written.{HasIndexAt};

@@ -11,7 +11,7 @@ use Rattle.bfs_shift.specs.Work.{IsStepped}
 use Rattle.bfs_moves.specs.Written.{HasRowsSince}
 use Rattle.bfs_shift.proofs.AtWork.{directory_held, directory_map}
 use Rattle.bfs_moves.proofs.Named.{named_step, still_there}
-use Rattle.bfs_leave.proofs.Unnamed.{undone_take, read_takes}
+use Rattle.bfs_leave.proofs.Unnamed.{undone_take}
 use Rattle.bfs_leave.proofs.names.take_name.Goals as goal
 
 pub take_row-requires-clause-stream : goal.take_row-requires-clause-stream

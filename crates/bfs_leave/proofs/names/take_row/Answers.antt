@@ -1,5 +1,4 @@
 use Rattle.std.proofs.Common.{◌≡◌, ◌∙◌, pos, Some, ℕ, Bool, sym, subst}
-use Rattle.std.specs.Prelude.{IfOk}
 use Rattle.bfs_base.specs.declared.kind.KeyKind.TheVariants.{Text}
 use Rattle.bfs_pages.specs.Maps.{assoc, without}
 use Rattle.bfs_stream.specs.Sizes.{Origin, sizes_of}

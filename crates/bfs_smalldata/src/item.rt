@@ -1,4 +1,5 @@
 // An item's place, and why an area is none.
+use thiserror::Error;
 
 /// An item that was found: its type, and where its bytes stand in the area.
 #[derive(Clone, Copy, Debug, PartialEq, Eq)]
@@ -11,7 +12,8 @@ pub struct Item {
 }
 
 /// The item at this place runs past the area.
-#[derive(Clone, Copy, Debug, PartialEq, Eq)]
+#[derive(Clone, Copy, Debug, PartialEq, Eq, Error)]
+#[error("the item at byte {at} runs past the small data")]
 pub struct AreaFault {
     pub at: usize,
 }

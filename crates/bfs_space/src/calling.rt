@@ -29,11 +29,14 @@ use bfs_super::Super;
 use bfs_tree::{Call, Reply};
 use bfs_txn::{Blocks, Changed, Overlay};
 use std::alloc::Global;
+use thiserror::Error;
 
 /// Why a call has no answer: what lies below refused it, or what it changed may not be kept.
-#[derive(Debug, Drop)]
+#[derive(Debug, Drop, Error)]
 pub enum CallFault {
+    #[error("{0}")]
     Map(MapFault),
+    #[error("{0}")]
     Unkept(Unkept),
 }
 

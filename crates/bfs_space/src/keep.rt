@@ -7,13 +7,17 @@ ghost use Rattle.bfs_space.specs.Answered.{AreFit, IsUnfit};
 use bfs_bitmap::Bitmap;
 use bfs_super::Super;
 use bfs_txn::{Blocks, Overlay};
+use thiserror::Error;
 
 /// Why what a call changed isn't kept: it changed this block, which no group may have, so that what was read of the volume is
 /// damaged; or so many blocks, which with those of the open group are more than the log has room for; or more than the call is allowed.
-#[derive(Clone, Copy, Debug, PartialEq, Eq)]
+#[derive(Clone, Copy, Debug, PartialEq, Eq, Error)]
 pub enum Unkept {
+    #[error("block {0} can't be changed by a call")]
     Damaged(u64),
+    #[error("{0} blocks are more than the log takes")]
     TooMany(u64),
+    #[error("the call changed more blocks than it may")]
     Beyond,
 }
 

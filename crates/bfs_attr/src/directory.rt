@@ -195,7 +195,7 @@ fn fault_of(shortage: Shortage, directory: u64) -> MapFault
 
 /// The inodes that the rows of the attribute directory at a block name, from one name to another, both inclusive; where an end
 /// is None, from the first or to the last. `.` and `..` are passed over.
-pub(crate) fn named_inodes<B: Blocks>(
+pub fn named_inodes<B: Blocks>(
     site: Site,
     under: &mut B,
     directory: u64,

@@ -17,7 +17,7 @@ mod storing;
 pub use area::{puts_attribute, takes_attribute};
 pub use attrs::Attrs;
 pub use bearing::{put_in_small, take_from_small};
-pub use directory::{has_attribute_row, is_directory_empty};
+pub use directory::{InodeRow, has_attribute_row, is_directory_empty, named_inodes};
 pub use laws::{nodes_bear_attributes, small_data_changes};
 pub use reading::{attribute_of, directory_at, rows_of};
 pub use rows::{AttrItem, AttrRows};

@@ -1,6 +1,5 @@
 pub mod Maps
 pub mod Children
-pub mod Sorting
 pub mod Free
 pub mod Knowns
 pub mod Lasts

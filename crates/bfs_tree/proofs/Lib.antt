@@ -8,3 +8,4 @@ pub mod Keeps
 pub mod ListMoves
 pub mod Stamps
 pub mod Sames
+pub mod Sorting

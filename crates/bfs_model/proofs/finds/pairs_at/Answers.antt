@@ -3,7 +3,7 @@ use Rattle.bfs_tree.specs.Orders.{in_order}
 use Rattle.bfs_tree.specs.Listings.{pair_cmp, key_in, pairs_in, listed_among}
 use Rattle.bfs_model.specs.Kept.{node_of, node_entry, pair_of}
 use Rattle.bfs_model.proofs.Maps.{entries-nodes}
-use Rattle.bfs_model.proofs.Sorting.{pair-added}
+use Rattle.bfs_tree.proofs.Sorting.{pair-added}
 use Rattle.bfs_model.proofs.finds.pairs_at.Goals as goal
 
 pub loop-id-preserved : goal.loop-id-preserved

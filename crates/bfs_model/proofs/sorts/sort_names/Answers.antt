@@ -1,7 +1,7 @@
 use Rattle.std.proofs.Common.{rules}
 use Rattle.std.specs.Cmp.Lexicographic.{nat_list_cmp_total}
 use Rattle.bfs_base.specs.Keys.{text_cmp}
-use Rattle.bfs_model.proofs.Sorting.{sorted-by}
+use Rattle.bfs_tree.proofs.Sorting.{sorted-by}
 use Rattle.bfs_model.proofs.sorts.sort_names.Goals as goal
 
 pub returns : goal.returns

@@ -2,7 +2,7 @@ use Rattle.std.proofs.Common.{ap, ◌∙◌, rules, map as each}
 use Rattle.std.specs.Cmp.{on_total}
 use Rattle.bfs_tree.specs.Listings.{pair_cmp}
 use Rattle.bfs_model.specs.Kept.{pair_of}
-use Rattle.bfs_model.proofs.Sorting.{sorted-by, order-shown, pair_cmp_total}
+use Rattle.bfs_tree.proofs.Sorting.{sorted-by, order-shown, pair_cmp_total}
 use Rattle.bfs_model.proofs.sorts.sort_pairs.Goals as goal
 
 pub returns : goal.returns

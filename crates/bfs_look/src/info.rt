@@ -143,8 +143,8 @@ fn described(site: Site, block: &[u8], id: u64) -> Result<Info, MapFault>
     }
 }
 
-/// What the record of a node says.
-fn info_at<B: Blocks>(site: Site, under: &mut B, id: u64) -> Result<Info, MapFault>
+/// What the record says of the node at this block, which is one of the tree.
+pub fn info_at<B: Blocks>(site: Site, under: &mut B, id: u64) -> Result<Info, MapFault>
     requires valid { IsValid site.sup }
     requires size { B.size under.old ≡ site.sup.block_size }
     ensures info { (v : Room) (m : ℕ → Option (List ℕ)) (tree : Tree) (lists : Lists) (n : Node) → B.told under.old ≡ Some m → IsReady (geometry_of site.sup) v m tree lists → IsNode tree id n → MatchResult result (λ info. info ≡ info_of n) IsUndone }

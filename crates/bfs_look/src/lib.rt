@@ -12,7 +12,8 @@ mod rows;
 mod target;
 mod way;
 
-pub use info::stat;
+pub use block::Site;
+pub use info::{info_at, stat};
 pub use listing::list;
 pub use looking::lookup;
 pub use node::node_at;

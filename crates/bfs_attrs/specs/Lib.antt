@@ -1,0 +1,4 @@
+pub mod Last
+pub mod Removed
+pub mod Stored
+pub mod Laws

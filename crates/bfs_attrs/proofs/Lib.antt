@@ -6,3 +6,4 @@ pub mod Stood
 pub mod Older
 pub mod Adds
 pub mod Begins
+pub mod Fresh

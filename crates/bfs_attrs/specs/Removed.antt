@@ -1,0 +1,26 @@
+-- An attribute that is taken, wherever it stands, and why none was.
+use Rattle.std.specs.Prelude.{◌≡◌, ℕ, List, Option, None, Some}
+use Rattle.std.specs.FinMap.{get}
+use Rattle.bfs_bitmap.specs.Runs.{Room}
+use Rattle.bfs_node.specs.declared.fault.TreeFault.{TreeFault}
+use Rattle.bfs_node.specs.declared.fault.TreeFault.TheVariants.{Exists, Absent, Damaged, Pages, NoMemory}
+use Rattle.bfs_stream.specs.declared.fault.GrowFault.{GrowFault}
+use Rattle.bfs_stream_pages.specs.Steps.{IsUndamaged}
+use Rattle.bfs_sound.specs.Volumes.{Volume}
+use Rattle.bfs_sound.specs.Attributes.{attribute_directory}
+use Rattle.bfs_attr.specs.Bearers.{Bearer, volume_at, attributes_at}
+use Rattle.bfs_attr.specs.Changed.{Holds, IsInSmallData}
+
+-- None was taken: none has this name; or a block could not be had, and none is damaged; or there is no memory.
+abbrev pub IsNotRemoved : Volume → ℕ → List ℕ → TreeFault GrowFault → Type 0
+IsNotRemoved v id name Exists = ⊥
+IsNotRemoved v id name Absent = get (attributes_at v id) name ≡ None
+IsNotRemoved v id name (Damaged page sort) = ⊥
+IsNotRemoved v id name (Pages fault) = IsUndamaged fault
+IsNotRemoved v id name NoMemory = Unit {0}
+
+-- The attributes of an inode are held, their attribute directory stands at this block, and none in small data has this name.
+pub record IsBeyond (b : Bearer) (v : Room) (m : ℕ → Option (List ℕ)) (d : ℕ) (name : List ℕ) : Type 0 where
+  pub holds : Holds b v m
+  pub there : attribute_directory (volume_at b.geometry m) b.id ≡ Some d
+  pub beyond : ¬ IsInSmallData (volume_at b.geometry m) b.id name

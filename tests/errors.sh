@@ -8,31 +8,24 @@ program=$root/crates/bfs_tool/out/bfs_tool
 image=$work/volume.img
 usage='usage: bfs IMAGE (label NAME | mk --blocks N [--block-size B] [--name NAME] | check | sh [-j N] | soak SEED COUNT [-j N])'
 
-# The program ends with the status, and with just these texts: ends STATUS OUTPUT ERROR COMMAND..
-ends() {
-    status=$1
-    output=$2
-    error=$3
-    shift 3
+# The program ends with the status and this output, and says so on standard error: says SHOW STATUS OUTPUT ERROR COMMAND.., where SHOW
+# prints what counts of a file.
+says() {
+    show=$1
+    status=$2
+    output=$3
+    error=$4
+    shift 4
     "$@" >"$work/out" 2>"$work/err"
     ended=$?
-    test "$ended" -eq "$status" && test "$(cat "$work/out")" = "$output" && test "$(cat "$work/err")" = "$error" && return
+    test "$ended" -eq "$status" && test "$(cat "$work/out")" = "$output" && test "$($show "$work/err")" = "$error" && return
     echo "ended with $ended, printed: $(cat "$work/out") and: $(cat "$work/err")"
     return 1
 }
 
-# The same, of the first line of what goes to standard error.
-begins() {
-    status=$1
-    output=$2
-    error=$3
-    shift 3
-    "$@" >"$work/out" 2>"$work/err"
-    ended=$?
-    test "$ended" -eq "$status" && test "$(cat "$work/out")" = "$output" && test "$(head -n 1 "$work/err")" = "$error" && return
-    echo "ended with $ended, printed: $(cat "$work/out") and: $(cat "$work/err")"
-    return 1
-}
+# With just these texts; and the same of the first line of standard error.
+ends() { says cat "$@"; }
+begins() { says 'head -n 1' "$@"; }
 
 fresh() { # a volume, and a copy of it
     rm -f "$image"

@@ -12,3 +12,6 @@ mod visit;
 pub use fault::VisitFault;
 pub use laws::{blocks_are_by_role, record_is_node};
 pub use visit::visit_inode;
+
+#[cfg(test)]
+mod tests;

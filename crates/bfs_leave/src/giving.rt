@@ -28,7 +28,7 @@ use bfs_moves::{buffer, load_inode};
 use bfs_txn::{BlockFault, Edits};
 
 /// Does the inode in a block keep a link's target in the place of a stream?
-fn keeps_target(block: &[u8]) -> bool
+pub fn keeps_target(block: &[u8]) -> bool
     requires { 1024 ≤ length block.now }
     ensures { result ≡ keeps_target block.now }
 {

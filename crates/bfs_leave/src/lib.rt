@@ -7,7 +7,7 @@ mod laws;
 mod listing;
 mod names;
 
-pub use giving::{give_bare, give_inodes};
+pub use giving::{give_bare, give_inodes, keeps_target};
 pub use laws::{call_is_left, gives_back_twice, goes_on_gives};
 pub use listing::unlist_where;
 pub use names::take_name;

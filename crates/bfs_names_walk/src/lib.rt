@@ -10,3 +10,6 @@ mod walk;
 
 pub use row::NameRow;
 pub use walk::walk_rows;
+
+#[cfg(test)]
+mod tests;

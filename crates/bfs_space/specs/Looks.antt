@@ -47,6 +47,10 @@ is_built (calls.Lookup dir name) = true
 is_built (calls.List dir) = true
 is_built (calls.Stat id) = true
 is_built (calls.ReadLink id) = true
+is_built (calls.AttrRead id name) = true
+is_built (calls.AttrList id) = true
+is_built calls.IndexList = true
+is_built (calls.IndexFind name low high) = true
 is_built _ = false
 
 -- what is found of those that change a tree: a node that may be made, its directory a block of the volume, its name and target good; and a

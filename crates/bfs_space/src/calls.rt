@@ -1,4 +1,4 @@
-// The calls that are built so far: those that make a node and set a mode, and four that only read.
+// The calls that are built so far: those that make a node and set a mode, and those that only read.
 ghost use Rattle.std.specs.Prelude.{◌≡◌, ◌≤◌, ℕ, ℤ, List, Option, Some, true, IfOk, IfErr, MatchResult, length};
 ghost use Rattle.bfs_super.specs.Conditions.{IsValid, natural};
 ghost use Rattle.bfs_super.specs.Geometry.{geometry_of};
@@ -22,13 +22,14 @@ use bfs_bitmap::Bitmap;
 use bfs_calls::{make_allowance, make_node, make_refusal, set_mode, set_mode_refusal};
 use bfs_look::{list, lookup, read_link, stat};
 use bfs_node::TreeFault;
+use bfs_query::{attr_list, attr_read, index_find, index_list};
 use bfs_stream_pages::MapFault;
 use bfs_super::Super;
 use bfs_tree::{Call, MakeKind, Reply};
 use bfs_txn::Edits;
 use std::alloc::Global;
 
-/// Answers Make, SetMode, Lookup, List, Stat and ReadLink.
+/// Answers Make, SetMode, and the calls that only read: Lookup, List, Stat, ReadLink, AttrRead, AttrList, IndexList and IndexFind.
 #[derive(Clone, Copy, Debug, Drop)]
 pub struct Calls {}
 
@@ -181,6 +182,20 @@ impl Answers for Calls {
             Call::List { dir } => looked(list(alloc, sup, bitmap, edits, *dir)),
             Call::Stat { id } => looked(stat(alloc, sup, bitmap, edits, *id)),
             Call::ReadLink { id } => looked(read_link(alloc, sup, bitmap, edits, *id)),
+            Call::AttrRead { id, name } => {
+                looked(attr_read(alloc, sup, bitmap, edits, *id, name.as_slice()))
+            }
+            Call::AttrList { id } => looked(attr_list(alloc, sup, bitmap, edits, *id)),
+            Call::IndexList => looked(index_list(alloc, sup, bitmap, edits)),
+            Call::IndexFind { name, low, high } => looked(index_find(
+                alloc,
+                sup,
+                bitmap,
+                edits,
+                name.as_slice(),
+                low,
+                high,
+            )),
             _ => Err(TreeFault::NoMemory),
         }
     }

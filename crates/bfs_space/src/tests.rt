@@ -13,7 +13,7 @@ use bfs_mkfs::{format, layout_with_log};
 use bfs_node::TreeFault;
 use bfs_stream_pages::MapFault;
 use bfs_super::{Super, SuperFault};
-use bfs_tree::{Bytes, Call, MakeKind, Reply};
+use bfs_tree::{Bytes, Call, FoundRow, Key, MakeKind, Reply};
 use bfs_txn::{BlockFault, Blocks, Changed, Edits, MemBlocks};
 use std::alloc::{AllocError, Global};
 use std::test::Fail;
@@ -271,6 +271,14 @@ fn mounts(alloc: Global, bytes: Vec<u8>, blocks: usize) -> Result<Option<Mount>,
     Ok(Some(Mount { space, under }))
 }
 
+/// The id in the first of some rows, or 0.
+fn first_id(rows: &[FoundRow]) -> u64 {
+    match rows.first() {
+        Some(row) => row.id,
+        None => 0,
+    }
+}
+
 /// What a reply says in three numbers.
 fn told_by(reply: &Reply) -> (u8, u64, u64) {
     match reply {
@@ -283,6 +291,13 @@ fn told_by(reply: &Reply) -> (u8, u64, u64) {
         Reply::Names { names } => (8, names.as_slice().len() as u64, 0),
         Reply::NotLink => (10, 0, 0),
         Reply::NotFound => (11, 0, 0),
+        Reply::Attr { kind, bytes } => (12, u64::from(*kind), bytes.as_slice().len() as u64),
+        Reply::Attrs { rows } => (13, rows.as_slice().len() as u64, 0),
+        Reply::NoAttr => (14, 0, 0),
+        Reply::Indices { rows } => (15, rows.as_slice().len() as u64, 0),
+        Reply::Rows { rows } => (16, rows.as_slice().len() as u64, first_id(rows.as_slice())),
+        Reply::KeyKind => (17, 0, 0),
+        Reply::NoIndex => (18, 0, 0),
         _ => (0, 0, 0),
     }
 }
@@ -472,5 +487,104 @@ fn a_directory_does_not_fit_a_log_of_four_blocks(rt: HostRuntime) -> Result<(), 
     // The root's inode stands behind block 0, the bitmap and the log.
     let made = asks(alloc, &mut mount, 6, b'a', MakeKind::Dir)?;
     assert_eq!(rt; made, (4, 7, 3));
+    Ok(())
+}
+
+/// Puts an attribute of four bytes with the name `k` into the small data of the inode whose block begins at this byte. There are no
+/// other items.
+fn put_attribute(bytes: &mut [u8], at: usize) -> bool {
+    if bytes.len() < 1024 || at > bytes.len() - 1024 {
+        return false;
+    }
+    // Type, length of the name, length of the bytes, the name, three zeros, the bytes, a zero.
+    let item = [
+        0x52, 0x54, 0x53, 0x43, 1, 0, 4, 0, b'k', 0, 0, 0, b'a', b'b', b'c', b'd', 0,
+    ];
+    for i in 0..item.len() {
+        bytes[at + 232 + i] = item[i];
+    }
+    true
+}
+
+/// The key of a text.
+fn key_of(alloc: Global, text: &[u8]) -> Result<Key, AllocError> {
+    Ok(Key::Text(Bytes::from_slice(alloc, text)?))
+}
+
+/// A search of an index for the key `a`.
+fn search(alloc: Global, name: &[u8]) -> Result<Call, AllocError> {
+    Ok(Call::IndexFind {
+        name: Bytes::from_slice(alloc, name)?,
+        low: key_of(alloc, b"a")?,
+        high: key_of(alloc, b"a")?,
+    })
+}
+
+/// A call that reads the root's attributes, or indices.
+fn read_call(alloc: Global, which: u8) -> Result<Call, AllocError> {
+    Ok(match which {
+        0 => Call::AttrList { id: 514 },
+        1 => Call::AttrRead {
+            id: 514,
+            name: Bytes::from_slice(alloc, b"k")?,
+        },
+        2 => Call::AttrRead {
+            id: 514,
+            name: Bytes::from_slice(alloc, b"l")?,
+        },
+        3 => Call::AttrList { id: 515 },
+        4 => Call::IndexList,
+        5 => search(alloc, b"name")?,
+        6 => search(alloc, b"size")?,
+        _ => search(alloc, b"none")?,
+    })
+}
+
+/// The replies to the eight calls that read attributes or indices.
+fn reads(alloc: Global, mount: &mut Mount) -> Result<[(u8, u64, u64); 8], AllocError> {
+    let mut told = [(0, 0, 0); 8];
+    let answers = Calls {};
+    for which in 0..8u8 {
+        let call = read_call(alloc, which)?;
+        match mount
+            .space
+            .call(&answers, &mut mount.under, 1, 3, 1000, call)?
+        {
+            Outcome::Replied => match mount.space.history().last() {
+                Some(entry) => told[which as usize] = told_by(&entry.reply),
+                None => {}
+            },
+            Outcome::Drain(_) => {}
+        }
+    }
+    Ok(told)
+}
+
+#[test]
+fn attributes_and_indices_are_read(rt: HostRuntime) -> Result<(), Fail> {
+    let alloc = rt.alloc();
+    let Some(mut bytes) = new_volume(alloc, 4096, 512)? else {
+        return Err(Fail::from("no volume"));
+    };
+    assert!(rt; put_attribute(&mut bytes, 514 * 1024));
+    let Some(mut mount) = mounts(alloc, bytes, 4096)? else {
+        return Err(Fail::from("no mount"));
+    };
+    let made = asks(alloc, &mut mount, 514, b'a', MakeKind::File)?;
+    let told = reads(alloc, &mut mount)?;
+    assert_eq!(rt; made, (1, 529, 0));
+    assert_eq!(rt;
+        told,
+        [
+            (13, 1, 0),
+            (12, 0x43535452, 4),
+            (14, 0, 0),
+            (11, 0, 0),
+            (15, 3, 0),
+            (16, 1, 529),
+            (17, 0, 0),
+            (18, 0, 0),
+        ]
+    );
     Ok(())
 }

@@ -1,5 +1,5 @@
 // The inodes with streams that a node has: its own, and those of its attribute directory and of its attributes.
-ghost use Rattle.std.specs.Prelude.{◌≡◌, ◌≤◌, ◌<◌, ◌++◌, ℕ, List, Option, Some, IsSome, length, map, OnOk, IfOk, IfErr, MatchResult};
+ghost use Rattle.std.specs.Prelude.{◌≡◌, ◌<◌, ◌++◌, ℕ, List, Option, Some, IsSome, map, OnOk, IfOk, IfErr, MatchResult};
 ghost use Rattle.bfs_super.specs.Conditions.{IsValid, natural};
 ghost use Rattle.bfs_super.specs.Geometry.{geometry_of};
 ghost use Rattle.bfs_txn.specs.Faults.{AreLater};
@@ -14,7 +14,7 @@ ghost use Rattle.bfs_leave.specs.Given.{keeps_target};
 ghost use Rattle.bfs_unmake.specs.Whole.{streamed_in, stream_inodes, AllBelow};
 
 use bfs_attr::{InodeRow, directory_at, named_inodes};
-use bfs_bytes::u32_at;
+use bfs_leave::keeps_target;
 use bfs_make::{Site, read_block};
 use bfs_node::TreeFault;
 use bfs_stream::GrowFault;
@@ -27,14 +27,6 @@ pub(crate) fn blocked(fault: BlockFault) -> MapFault
     ensures { result ≡ TreeFault.Pages (GrowFault.Block fault) }
 {
     TreeFault::Pages(GrowFault::Block(fault))
-}
-
-/// Does the inode in a block keep a link's target in the place of a stream?
-fn keeps_target(block: &[u8]) -> bool
-    requires { 1024 ≤ length block.now }
-    ensures { result ≡ keeps_target block.now }
-{
-    u32_at(block, 20) / 4096 % 16 == 10 && u32_at(block, 24) / 64 % 2 == 0
 }
 
 /// Reads whether an inode keeps a link's target in the place of a stream.

@@ -90,3 +90,67 @@ returns-in-ReadLink-clause-unanswered g c m tree lists told ready =
 
 pub returns-in-ReadLink-clause-cause : goal.returns-in-ReadLink-clause-cause
 returns-in-ReadLink-clause-cause g c = c.looked-in-ReadLink.ensures.cause (g.E.Blocks.counts c.args.edits.now) (g.E.Blocks.counts c.read_link.new.edits) c.read_link.ensures.cause
+
+pub returns-in-AttrRead-clause-looked : goal.returns-in-AttrRead-clause-looked
+returns-in-AttrRead-clause-looked g c m tree lists told ready =
+    let is : c.args.call.now ≡ calls.AttrRead c.in-AttrRead.id c.as_slice-in-AttrRead.result.now = c.in-AttrRead.is ∙ ap (λ (n : List ℕ). calls.AttrRead c.in-AttrRead.id n) (sym c.as_slice-in-AttrRead.ensures) in
+    subst (λ (x : Call). IfOk c.looked-in-AttrRead.result (IsLooked (geometry_of c.args.sup.now) m tree x)) (sym is) (c.looked-in-AttrRead.ensures.looked (geometry_of c.args.sup.now) m tree (calls.AttrRead c.in-AttrRead.id c.as_slice-in-AttrRead.result.now) (λ s same. c.attr_read.ensures.reads m tree lists s told ready same))
+
+pub returns-in-AttrRead-clause-may : goal.returns-in-AttrRead-clause-may
+returns-in-AttrRead-clause-may g c = c.looked-in-AttrRead.ensures.may c.args.sup.now c.args.call.now
+
+pub returns-in-AttrRead-clause-unanswered : goal.returns-in-AttrRead-clause-unanswered
+returns-in-AttrRead-clause-unanswered g c m tree lists told ready =
+    let st : State = record { tree = tree; holds = []; known = empty } in
+    c.looked-in-AttrRead.ensures.unanswered (calls.AttrRead c.in-AttrRead.id c.as_slice-in-AttrRead.result.now) st (c.attr_read.ensures.reads m tree lists st told ready refl)
+
+pub returns-in-AttrRead-clause-cause : goal.returns-in-AttrRead-clause-cause
+returns-in-AttrRead-clause-cause g c = c.looked-in-AttrRead.ensures.cause (g.E.Blocks.counts c.args.edits.now) (g.E.Blocks.counts c.attr_read.new.edits) c.attr_read.ensures.cause
+
+pub returns-in-AttrList-clause-looked : goal.returns-in-AttrList-clause-looked
+returns-in-AttrList-clause-looked g c m tree lists told ready =
+    let is : c.args.call.now ≡ calls.AttrList c.in-AttrList.id = c.in-AttrList.is in
+    subst (λ (x : Call). IfOk c.looked-in-AttrList.result (IsLooked (geometry_of c.args.sup.now) m tree x)) (sym is) (c.looked-in-AttrList.ensures.looked (geometry_of c.args.sup.now) m tree (calls.AttrList c.in-AttrList.id) (λ s same. c.attr_list.ensures.reads m tree lists s told ready same))
+
+pub returns-in-AttrList-clause-may : goal.returns-in-AttrList-clause-may
+returns-in-AttrList-clause-may g c = c.looked-in-AttrList.ensures.may c.args.sup.now c.args.call.now
+
+pub returns-in-AttrList-clause-unanswered : goal.returns-in-AttrList-clause-unanswered
+returns-in-AttrList-clause-unanswered g c m tree lists told ready =
+    let st : State = record { tree = tree; holds = []; known = empty } in
+    c.looked-in-AttrList.ensures.unanswered (calls.AttrList c.in-AttrList.id) st (c.attr_list.ensures.reads m tree lists st told ready refl)
+
+pub returns-in-AttrList-clause-cause : goal.returns-in-AttrList-clause-cause
+returns-in-AttrList-clause-cause g c = c.looked-in-AttrList.ensures.cause (g.E.Blocks.counts c.args.edits.now) (g.E.Blocks.counts c.attr_list.new.edits) c.attr_list.ensures.cause
+
+pub returns-in-IndexList-clause-looked : goal.returns-in-IndexList-clause-looked
+returns-in-IndexList-clause-looked g c m tree lists told ready =
+    let is : c.args.call.now ≡ calls.IndexList = c.in-IndexList.is in
+    subst (λ (x : Call). IfOk c.looked-in-IndexList.result (IsLooked (geometry_of c.args.sup.now) m tree x)) (sym is) (c.looked-in-IndexList.ensures.looked (geometry_of c.args.sup.now) m tree (calls.IndexList) (λ s same. c.index_list.ensures.reads m tree lists s told ready same))
+
+pub returns-in-IndexList-clause-may : goal.returns-in-IndexList-clause-may
+returns-in-IndexList-clause-may g c = c.looked-in-IndexList.ensures.may c.args.sup.now c.args.call.now
+
+pub returns-in-IndexList-clause-unanswered : goal.returns-in-IndexList-clause-unanswered
+returns-in-IndexList-clause-unanswered g c m tree lists told ready =
+    let st : State = record { tree = tree; holds = []; known = empty } in
+    c.looked-in-IndexList.ensures.unanswered (calls.IndexList) st (c.index_list.ensures.reads m tree lists st told ready refl)
+
+pub returns-in-IndexList-clause-cause : goal.returns-in-IndexList-clause-cause
+returns-in-IndexList-clause-cause g c = c.looked-in-IndexList.ensures.cause (g.E.Blocks.counts c.args.edits.now) (g.E.Blocks.counts c.index_list.new.edits) c.index_list.ensures.cause
+
+pub returns-in-IndexFind-clause-looked : goal.returns-in-IndexFind-clause-looked
+returns-in-IndexFind-clause-looked g c m tree lists told ready =
+    let is : c.args.call.now ≡ calls.IndexFind c.as_slice-in-IndexFind.result.now c.in-IndexFind.low c.in-IndexFind.high = c.in-IndexFind.is ∙ ap (λ (n : List ℕ). calls.IndexFind n c.in-IndexFind.low c.in-IndexFind.high) (sym c.as_slice-in-IndexFind.ensures) in
+    subst (λ (x : Call). IfOk c.looked-in-IndexFind.result (IsLooked (geometry_of c.args.sup.now) m tree x)) (sym is) (c.looked-in-IndexFind.ensures.looked (geometry_of c.args.sup.now) m tree (calls.IndexFind c.as_slice-in-IndexFind.result.now c.in-IndexFind.low c.in-IndexFind.high) (λ s same. c.index_find.ensures.reads m tree lists s told ready same))
+
+pub returns-in-IndexFind-clause-may : goal.returns-in-IndexFind-clause-may
+returns-in-IndexFind-clause-may g c = c.looked-in-IndexFind.ensures.may c.args.sup.now c.args.call.now
+
+pub returns-in-IndexFind-clause-unanswered : goal.returns-in-IndexFind-clause-unanswered
+returns-in-IndexFind-clause-unanswered g c m tree lists told ready =
+    let st : State = record { tree = tree; holds = []; known = empty } in
+    c.looked-in-IndexFind.ensures.unanswered (calls.IndexFind c.as_slice-in-IndexFind.result.now c.in-IndexFind.low c.in-IndexFind.high) st (c.index_find.ensures.reads m tree lists st told ready refl)
+
+pub returns-in-IndexFind-clause-cause : goal.returns-in-IndexFind-clause-cause
+returns-in-IndexFind-clause-cause g c = c.looked-in-IndexFind.ensures.cause (g.E.Blocks.counts c.args.edits.now) (g.E.Blocks.counts c.index_find.new.edits) c.index_find.ensures.cause

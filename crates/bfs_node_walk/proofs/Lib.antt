@@ -1,0 +1,4 @@
+pub mod Readable
+pub mod Amissed
+pub mod Scanned
+pub mod Known

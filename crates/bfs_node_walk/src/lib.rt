@@ -1,0 +1,17 @@
+// Goes over the nodes of a volume that may hold anything: the rows of a tree of names, and what those of a directory have to be. What
+// each answer says stands in specs/.
+#![tactic(auto)]
+
+mod fault;
+mod listing;
+mod names;
+mod node;
+mod row;
+
+pub use listing::check_listing;
+pub use names::read_names;
+pub use node::{VisitedNode, visit_child, visit_root};
+pub use row::check_rows;
+
+#[cfg(test)]
+mod tests;

@@ -8,7 +8,7 @@ use Rattle.bfs_attr_write.proofs.DropsDirectory.{directory_held, bearer_told, ha
 use Rattle.bfs_attr_write.proofs.directory.drop_attribute_directory.Goals as goal
 
 pub returns-in-Err-clause-sound : goal.returns-in-Err-clause-sound
-returns-in-Err-clause-sound g c m told can = c.in-Err.ensures.sound m told (directory_held (bearer_of c.args.inode c.args.site.sup) c.args.bitmap.now c.give_inode.new.bitmap m c.args.directory can)
+returns-in-Err-clause-sound g c m told can = c.in-Err.ensures.sound m told (directory_held (bearer_of c.args.inode c.args.site.sup) c.args.bitmap.now c.give_inode.new.bitmap m c.args.directory can).1.owns
 
 pub returns-in-Ok-put_address-clause-dropped : goal.returns-in-Ok-put_address-clause-dropped
 returns-in-Ok-put_address-clause-dropped g c m told can =
@@ -21,7 +21,7 @@ returns-in-Ok-put_address-clause-dropped g c m told can =
     let old = g.E.Blocks.changed c.args.edits.now in
     let half = g.E.Blocks.changed c.give_inode.new.edits in
     let new = g.E.Blocks.changed c.put_address.new.edits in
-    let gone = c.in-Ok.ensures.given m told (directory_held b v mid m d can) in
+    let gone = c.in-Ok.ensures.given m told (directory_held b v mid m d can).1.owns in
     let put = c.in-Ok-put_address.ensures.written gone.map gone.is (bearer_told b v mid m d can told1 old half gone c.give_inode.ensures.rest) in
     has_dropped b v mid m d can told1 old half gone c.give_inode.ensures.rest told2
     (subst (λ (r : Run). HasAddress gone.map c.args.inode r told2) c.no_run.ensures put) new c.in-Ok-put_address.ensures.changed

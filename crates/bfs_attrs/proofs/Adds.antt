@@ -1,5 +1,5 @@
 -- An attribute that was stored, and the row that is put for it.
-use Rattle.std.proofs.Common.{◌≡◌, ◌≤◌, inl, inr, ℕ, List, Bool, Option, Some, arith, subst}
+use Rattle.std.proofs.Common.{◌≡◌, ◌≤◌, inr, ℕ, List, Bool, Option, subst}
 use Rattle.std.specs.Prelude.{Result, Ok, Err, IfErr, IfSome}
 use Rattle.bfs_bitmap.specs.Runs.{Room}
 use Rattle.bfs_node.specs.declared.fault.TreeFault.{TreeFault}

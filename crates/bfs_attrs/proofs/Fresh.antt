@@ -3,12 +3,11 @@ use Rattle.std.proofs.Common.{◌≡◌, ◌⊎◌, inl, inr, ◌∙◌, ℕ, Li
 use Rattle.std.specs.Prelude.{Result, Ok, Err, IfErr, IfSome, IsSome, unwrap_or}
 use Rattle.std.specs.FinMap.{find, get, insert}
 use Rattle.std.specs.Ordering.{eq_by_cmp}
-use Rattle.std.specs.Str.{bytes_eq}
 use Rattle.bfs_base.specs.Keys.{text_cmp}
 use Rattle.bfs_bitmap.specs.Runs.{Room}
 use Rattle.bfs_node.specs.declared.fault.TreeFault.{TreeFault}
 use Rattle.bfs_node.specs.declared.fault.TreeFault.TheVariants.{Exists, Absent, Damaged, Pages, NoMemory}
-use Rattle.bfs_smalldata.specs.Items.{Item, items_of}
+use Rattle.bfs_smalldata.specs.Items.{Item}
 use Rattle.bfs_smalldata.specs.Edits.{IsFitting}
 use Rattle.bfs_stream.specs.Told.{contents}
 use Rattle.bfs_stream.specs.Faults.{IsGrowCause}

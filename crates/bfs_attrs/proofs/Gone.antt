@@ -4,7 +4,7 @@ use Rattle.std.specs.Prelude.{IsSome, unwrap_or}
 use Rattle.std.specs.FinMap.{find, get, remove, from_entries}
 use Rattle.std.specs.List.{flat_map}
 use Rattle.bfs_base.specs.Keys.{text_cmp}
-use Rattle.bfs_base.specs.Lists.{times, Has}
+use Rattle.bfs_base.specs.Lists.{times}
 use Rattle.bfs_bitmap.specs.Runs.{Room}
 use Rattle.bfs_bytes.specs.Fields.{run_in}
 use Rattle.bfs_node.specs.Page.{Row}
@@ -20,7 +20,7 @@ use Rattle.bfs_sound.specs.Inodes.{proper_rows, id_of}
 use Rattle.bfs_sound.specs.Nodes.{AreApart}
 use Rattle.bfs_sound.specs.Attributes.{Named, is_zero, attributes_in, attributes_of, attribute_at, attribute_directory, attribute_inodes}
 use Rattle.bfs_attr.specs.Bearers.{Bearer, volume_at, entries_with, entries_at, attributes_at, value_at}
-use Rattle.bfs_attr.specs.Changed.{attribute_blocks, HasTaken, IsInSmallData}
+use Rattle.bfs_attr.specs.Changed.{attribute_blocks, HasTaken}
 use Rattle.bfs_attr_write.specs.Removal.{CanTake, HasRowTaken}
 use Rattle.bfs_attrs.specs.Last.{HasLastTaken}
 use Rattle.bfs_attrs.proofs.Others.{HasOther, of_two, some_since}

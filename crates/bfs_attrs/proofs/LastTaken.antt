@@ -37,7 +37,6 @@ use Rattle.bfs_attr.specs.Bearers.{Bearer, volume_at, origin, HasAttributes, ent
 use Rattle.bfs_attr.specs.Changed.{attribute_blocks, Holds, AttributesNow}
 use Rattle.bfs_attr_write.specs.Directories.{HasAddress}
 use Rattle.bfs_attr_write.specs.Exchanged.{Exchanged}
-use Rattle.bfs_attr_write.specs.Removal.{CanTake}
 use Rattle.bfs_attr_write.proofs.Exchanges.{exchanged_beside, exchanged_twice}
 use Rattle.bfs_attr_write.proofs.Brings.{gone_exchange}
 use Rattle.bfs_attr_write.proofs.Beside.{come_used, still_outside, bits_used, block_same, whole_beside, held_beside}

@@ -3,7 +3,7 @@ use Rattle.std.proofs.Common.{◌≡◌, ◌≤◌, ◌<◌, ◌+◌, inl, inr, 
 use Rattle.std.specs.Prelude.{unwrap_or}
 use Rattle.std.specs.List.{AllByRecursion}
 use Rattle.std.specs.FinMap.{from_entries}
-use Rattle.bfs_base.specs.Lists.{times, Has}
+use Rattle.bfs_base.specs.Lists.{times}
 use Rattle.bfs_super.specs.Conditions.{IsValid}
 use Rattle.bfs_super.specs.Geometry.{geometry_of}
 use Rattle.bfs_super.specs.declared.geometry.Geometry.{Geometry}
@@ -13,7 +13,7 @@ use Rattle.bfs_node.specs.Page.{Row}
 use Rattle.bfs_smalldata.specs.Items.{Item}
 use Rattle.bfs_stream.specs.Places.{HasStream}
 use Rattle.bfs_stream.specs.Sizes.{Origin, sizes_of}
-use Rattle.bfs_stream.specs.Told.{contents, AreTold}
+use Rattle.bfs_stream.specs.Told.{AreTold}
 use Rattle.bfs_stream.proofs.Doubles.{times-append}
 use Rattle.bfs_stream_pages.specs.GoesLaws.{readable}
 use Rattle.bfs_tree.specs.Trees.{Node, Tree, IsNode}

@@ -1,5 +1,5 @@
 -- The pairs of an index between two keys, as rows with the names of nodes.
-use Rattle.std.proofs.Common.{◌≡◌, inl, inr, ℕ, zero, suc, pos, List, [], ◌∷◌, refl, sym, ap, ◌∙◌, subst, arith, Bool, true, false, cond, Option, Some, None, map as each}
+use Rattle.std.proofs.Common.{◌≡◌, ℕ, suc, pos, List, [], ◌∷◌, refl, sym, ap, ◌∙◌, subst, arith, Bool, true, false, cond, Option, Some, None, map as each}
 use Rattle.std.specs.Prelude.{◌&&◌, ◌==◌}
 use Rattle.std.specs.List.{AllByRecursion, filter, Contains}
 use Rattle.std.specs.Option.{option_and_then}
@@ -13,7 +13,7 @@ use Rattle.bfs_super.specs.Geometry.{geometry_of}
 use Rattle.bfs_super.specs.declared.sup.Super.{Super}
 use Rattle.bfs_bitmap.specs.Runs.{Room}
 use Rattle.bfs_node.specs.Search.{IsSought}
-use Rattle.bfs_stream.specs.Sizes.{Origin, sizes_of}
+use Rattle.bfs_stream.specs.Sizes.{sizes_of}
 use Rattle.bfs_tree.specs.Listings.{kind_of_key, bytes_of_key, is_between, found_row, rows_between, listed, key_at, key_in}
 use Rattle.bfs_tree.specs.Refusals.{kind_number, is_kind}
 use Rattle.bfs_tree.specs.Trees.{Tree, Node, Nodes}
@@ -27,7 +27,7 @@ use Rattle.bfs_shift.specs.Lists.{Lists}
 use Rattle.bfs_look.specs.Ready.{IsReady, HasNodeAt}
 use Rattle.bfs_query.specs.Indices.{row_found, AreNodes, IsIndexFound}
 use Rattle.bfs_query.specs.declared.kind.IndexAt.{IndexAt}
-use Rattle.bfs_query.proofs.Heads.{kind_by, kind_back}
+use Rattle.bfs_query.proofs.Heads.{kind_by}
 
 -- ---- keys of a kind
 

@@ -1,5 +1,5 @@
 -- The kind of keys of a tree, by its first page.
-use Rattle.std.proofs.Common.{◌≡◌, ◌≤◌, ◌<◌, ◌+◌, ◌*◌, ◌%◌, ℕ, zero, suc, List, [], ◌∷◌, length, take, refl, sym, ap, ◌∙◌, subst, arith, Bool, true, false, Option}
+use Rattle.std.proofs.Common.{◌≡◌, ◌≤◌, ◌+◌, ◌*◌, ◌%◌, ℕ, zero, suc, List, [], ◌∷◌, length, take, refl, sym, ap, ◌∙◌, subst, arith, true, Option}
 use Rattle.std.specs.Prelude.{min}
 use Rattle.std.proofs.lemmas.List.{length-take, length-take-le, take-take}
 use Rattle.std.specs.List.{flat_map}
@@ -12,7 +12,7 @@ use Rattle.bfs_node.specs.declared.fault.PageFault.{PageFault}
 use Rattle.bfs_node.specs.declared.fault.PageFault.TheVariants.{Magic, Size, Kind, Bounds, Ends}
 use Rattle.bfs_node.specs.declared.header.Header.{Header}
 use Rattle.bfs_pages.specs.Shapes.{met_by}
-use Rattle.bfs_pages.specs.Trees.{held, is_place, header_in, state_of}
+use Rattle.bfs_pages.specs.Trees.{held, is_place, header_in}
 use Rattle.bfs_pages.proofs.Placed.{held_place, held_most}
 use Rattle.bfs_super.specs.Conditions.{natural}
 use Rattle.bfs_stream.specs.Places.{fields, places_at, bytes_at}

@@ -1,9 +1,9 @@
 -- What is known of the indices of a volume between two calls.
-use Rattle.std.proofs.Common.{◌≡◌, ◌≢◌, ◌≤◌, ◌<◌, ◌^◌, inl, inr, ℕ, ℤ, pos, List, [], ◌∷◌, refl, sym, ap, ◌∙◌, subst, arith, Bool, true, false, cond, Option, Some, None, map}
+use Rattle.std.proofs.Common.{◌≡◌, ◌≢◌, ◌<◌, inl, inr, ℕ, ℤ, pos, List, [], ◌∷◌, refl, sym, ap, ◌∙◌, subst, arith, Bool, true, false, cond, Option, Some, None, map}
 use Rattle.std.specs.Prelude.{◌==◌}
 use Rattle.std.specs.List.{filter, AllByRecursion}
 use Rattle.std.specs.FinMap.{get, entries}
-use Rattle.bfs_base.specs.Lists.{times, Has}
+use Rattle.bfs_base.specs.Lists.{times}
 use Rattle.bfs_base.specs.declared.kind.KeyKind.{KeyKind}
 use Rattle.bfs_base.specs.declared.kind.KeyKind.TheVariants.{Text}
 use Rattle.bfs_super.specs.Conditions.{IsValid, natural}
@@ -27,7 +27,7 @@ use Rattle.bfs_values.specs.Reached.{IsWholeTree}
 use Rattle.bfs_values.specs.Rows.{rows_in}
 use Rattle.bfs_maps.specs.Mapped.{HasHeld, HasReadable}
 use Rattle.bfs_maps.specs.NumberTrees.{IsNumber}
-use Rattle.bfs_sound.specs.Volumes.{Volume, IsMarked}
+use Rattle.bfs_sound.specs.Volumes.{Volume}
 use Rattle.bfs_sound.specs.Inodes.{content, inode_blocks, is_proper, proper_rows, id_of, index_directory, rows_of}
 use Rattle.bfs_sound.specs.Listings.{IsIndex, HasIndexDirectory}
 use Rattle.bfs_attr.specs.Directories.{IsInodeRow, AreInodes, inode_rows}

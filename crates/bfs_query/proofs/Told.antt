@@ -1,29 +1,22 @@
 -- The indices that the rows of the index directory name are those of the tree.
-use Rattle.std.proofs.Common.{◌≡◌, inl, inr, ℕ, ℤ, pos, List, [], ◌∷◌, refl, sym, ap, ◌∙◌, subst, Bool, true, false, cond, T, Option, Some, None, map as each}
-use Rattle.std.specs.Prelude.{◌&&◌, ◌==◌}
-use Rattle.std.specs.List.{AllByRecursion, filter}
+use Rattle.std.proofs.Common.{◌≡◌, ℕ, ℤ, List, [], ◌∷◌, refl, sym, ap, ◌∙◌, subst, Bool, true, false, cond, T, Option, Some, None, map as each}
+use Rattle.std.specs.Prelude.{◌&&◌}
+use Rattle.std.specs.List.{AllByRecursion}
 use Rattle.std.specs.Option.{option_map}
-use Rattle.std.specs.Ordering.{is_lt, is_eq, eq_by_cmp}
+use Rattle.std.specs.Ordering.{is_lt}
 use Rattle.std.specs.Cmp.Lexicographic.{nat_list_cmp_total}
 use Rattle.std.specs.FinMap.{get, find, entries, entries_sorted, get-entries, is_sorted, nat_cmp-IsAntisymmetric, slice_cmp-IsAntisymmetric}
 use Rattle.std.specs.FinMap.Entries.{same_entries, below_all}
 use Rattle.bfs_base.specs.Keys.{text_cmp}
 use Rattle.bfs_base.specs.declared.kind.KeyKind.{KeyKind}
 use Rattle.bfs_base.specs.declared.kind.KeyKind.TheVariants.{Text}
-use Rattle.bfs_super.specs.Conditions.{natural}
 use Rattle.bfs_node.specs.Page.{Row}
 use Rattle.bfs_pages.specs.Maps.{assoc}
 use Rattle.bfs_pages.specs.Order.{comes_before, same_keys}
 use Rattle.bfs_pages.specs.Ways.{KeysAscend}
-use Rattle.bfs_tree.specs.Answers.{rows_of_indices}
 use Rattle.bfs_tree.specs.Trees.{Tree}
-use Rattle.bfs_tree.specs.declared.rows.IndexRow.{IndexRow}
-use Rattle.bfs_sound.proofs.Counts.{In}
-use Rattle.bfs_sound.specs.Inodes.{id_of}
-use Rattle.bfs_attr.specs.declared.directory.InodeRow.{InodeRow}
 use Rattle.bfs_shift.specs.Lists.{Lists, Agrees}
 use Rattle.bfs_shift.proofs.OneIndex.{same_name}
-use Rattle.bfs_query.specs.Indices.{index_row, IsIndexRowOf}
 
 yes_of : (a b : Bool) → T a → T b → T (a && b)
 yes_of true b p q = q

@@ -1,5 +1,5 @@
 -- A node leaves the tree: its attribute directory and its attributes can be read before, and with it they are loose.
-use Rattle.std.proofs.Common.{◌≡◌, ◌≤◌, ◌<◌, ◌+◌, inl, inr, ℕ, zero, suc, List, [], ◌∷◌, ◌++◌, refl, sym, ap, ◌∙◌, subst, arith, Bool, true, false, cond, map, Option, Some, None}
+use Rattle.std.proofs.Common.{◌≡◌, ◌≤◌, ◌<◌, ◌+◌, inl, inr, ℕ, zero, suc, List, [], ◌∷◌, ◌++◌, refl, sym, ap, subst, arith, Bool, true, false, cond, map, Option, Some, None}
 use Rattle.std.specs.Prelude.{IsSome}
 use Rattle.std.specs.List.{flat_map, AllByRecursion}
 use Rattle.bfs_base.specs.Lists.{times, Has, AreSame}
@@ -12,7 +12,6 @@ use Rattle.bfs_node.specs.Page.{Row}
 use Rattle.bfs_txn.specs.Told.{StaysChanged}
 use Rattle.bfs_stream.specs.Grown.{Owns}
 use Rattle.bfs_stream.specs.Places.{HasStream, arrays_at}
-use Rattle.bfs_stream.specs.Sizes.{Origin, sizes_of}
 use Rattle.bfs_stream.specs.Standing.{standing}
 use Rattle.bfs_stream.specs.Told.{contents, AreTold}
 use Rattle.bfs_stream.proofs.Doubles.{times-append}

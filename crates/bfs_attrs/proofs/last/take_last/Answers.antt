@@ -1,4 +1,4 @@
-use Rattle.std.proofs.Common.{◌≡◌, ◌∙◌, ℕ, pos, Bool, List, Option, Some, None, ap, subst}
+use Rattle.std.proofs.Common.{◌≡◌, ◌∙◌, ℕ, pos, Bool, Option, Some, None, ap, subst}
 use Rattle.std.specs.FinMap.{remove}
 use Rattle.bfs_base.specs.declared.kind.KeyKind.TheVariants.{Text}
 use Rattle.bfs_bitmap.specs.Runs.{Room}

@@ -1,4 +1,4 @@
-use Rattle.std.proofs.Common.{◌≡◌, ◌∙◌, ℕ, List, Option, ap, subst, arith, length, max}
+use Rattle.std.proofs.Common.{◌∙◌, ℕ, List, Option, ap, subst, arith, length, max}
 use Rattle.bfs_bitmap.specs.Runs.{Room}
 use Rattle.bfs_super.specs.Conditions.{ceil}
 use Rattle.bfs_maps.proofs.Over.{on_ok}

@@ -1,11 +1,10 @@
-use Rattle.std.proofs.Common.{◌≡◌, ◌∙◌, inl, ℕ, List, Option, Some, sym, ap, subst, arith, length, max}
+use Rattle.std.proofs.Common.{◌∙◌, inl, ℕ, List, Option, sym, ap, subst, arith, length, max}
 use Rattle.bfs_bitmap.specs.Runs.{Room}
 use Rattle.bfs_super.specs.Conditions.{ceil}
 use Rattle.bfs_super.specs.Geometry.{geometry_of}
 use Rattle.bfs_maps.specs.Mapped.{HasHeld}
-use Rattle.bfs_make.specs.Made.{HasBits, formed_at}
+use Rattle.bfs_make.specs.Made.{HasBits}
 use Rattle.bfs_attr.specs.Bearers.{bearer_of, origin}
-use Rattle.bfs_attr.specs.Made.{attribute_form}
 use Rattle.bfs_attr_write.proofs.Steps.{directory_tree}
 use Rattle.bfs_attrs.proofs.Adds.{stored_there, row_not_added, put_cause_added}
 use Rattle.bfs_attrs.proofs.Stood.{told_back, one_map}

@@ -1,4 +1,4 @@
-use Rattle.std.proofs.Common.{◌≡◌, ◌∙◌, ℕ, Bool, Option, Some, sym, subst}
+use Rattle.std.proofs.Common.{◌∙◌, ℕ, Bool, sym, subst}
 use Rattle.std.specs.Prelude.{length}
 use Rattle.std.proofs.lemmas.Bool.{true≢false}
 use Rattle.bfs_super.specs.Geometry.{geometry_of}

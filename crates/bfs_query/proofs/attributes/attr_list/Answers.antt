@@ -1,5 +1,4 @@
-use Rattle.std.proofs.Common.{◌∙◌, sym, ap, subst, Option}
-use Rattle.std.specs.Prelude.{unwrap_or}
+use Rattle.std.proofs.Common.{◌∙◌, sym, ap, subst}
 use Rattle.std.specs.FinMap.{get}
 use Rattle.bfs_tree.specs.Trees.{Tree}
 use Rattle.bfs_attr.specs.Bearers.{entries_at, volume_at}

@@ -1,4 +1,4 @@
-use Rattle.std.proofs.Common.{◌≡◌, ◌∙◌, ◌++◌, ◌∷◌, [], ap, List}
+use Rattle.std.proofs.Common.{◌∙◌, ◌++◌, ◌∷◌, [], ap}
 use Rattle.bfs_tree.specs.declared.rows.FoundRow.{FoundRow}
 use Rattle.bfs_query.proofs.finding.push_row.Goals as goal
 

@@ -1,4 +1,4 @@
-use Rattle.std.proofs.Common.{◌≡◌, ◌∙◌, sym, ap, List, [], ℕ, Option}
+use Rattle.std.proofs.Common.{◌∙◌, sym, ap, [], Option}
 use Rattle.std.specs.Option.{option_map_or}
 use Rattle.bfs_tree.specs.Listings.{key_from}
 use Rattle.bfs_tree.specs.Trees.{Node}

@@ -1,10 +1,10 @@
-use Rattle.std.proofs.Common.{◌≡◌, ◌∙◌, sym, ap, subst, ℕ, List, Option, Some}
+use Rattle.std.proofs.Common.{◌∙◌, sym, ap, subst, List, Some}
 use Rattle.std.specs.FinMap.{get}
 use Rattle.bfs_base.specs.declared.kind.KeyKind.{KeyKind}
 use Rattle.bfs_node.specs.Search.{IsSought}
-use Rattle.bfs_stream.specs.Sizes.{Origin, sizes_of}
+use Rattle.bfs_stream.specs.Sizes.{sizes_of}
 use Rattle.bfs_maps.specs.Mapped.{HasReadable}
-use Rattle.bfs_tree.specs.Listings.{kind_of_key, rows_between}
+use Rattle.bfs_tree.specs.Listings.{rows_between}
 use Rattle.bfs_tree.specs.Steps.{Reads}
 use Rattle.bfs_tree.specs.Trees.{Tree}
 use Rattle.bfs_tree.specs.declared.call.Call.TheVariants as calls

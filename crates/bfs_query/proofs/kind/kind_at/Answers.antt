@@ -1,4 +1,4 @@
-use Rattle.std.proofs.Common.{◌≡◌, ◌∙◌, sym, ap, subst, List, ℕ, take}
+use Rattle.std.proofs.Common.{◌∙◌}
 use Rattle.bfs_make.specs.Sites.{stream_in}
 use Rattle.bfs_stream_pages.specs.Held.{stream_of}
 use Rattle.bfs_query.proofs.Heads.{first_page, page_room}

@@ -1,4 +1,3 @@
-use Rattle.std.proofs.Common.{sym, ◌∙◌}
 use Rattle.bfs_query.proofs.Heads.{page_is, not_refused}
 use Rattle.bfs_query.proofs.kind.kind_in.Goals as goal
 

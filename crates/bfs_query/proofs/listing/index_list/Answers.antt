@@ -1,4 +1,4 @@
-use Rattle.std.proofs.Common.{◌≡◌, ◌≢◌, ◌∙◌, sym, ap, subst, ℕ, List, [], None}
+use Rattle.std.proofs.Common.{◌≢◌, ◌∙◌, sym, ap, subst, ℕ, List, [], None}
 use Rattle.std.specs.FinMap.{entries}
 use Rattle.bfs_base.specs.declared.kind.KeyKind.TheVariants.{Text}
 use Rattle.bfs_super.specs.Conditions.{block_of_run, natural}
@@ -7,7 +7,7 @@ use Rattle.bfs_stream_pages.specs.Held.{stream_of}
 use Rattle.bfs_values.specs.Reached.{IsWholeTree}
 use Rattle.bfs_values.specs.Rows.{rows_in}
 use Rattle.bfs_attr.specs.Directories.{AreInodes, inode_rows}
-use Rattle.bfs_stream.specs.Sizes.{Origin, sizes_of}
+use Rattle.bfs_stream.specs.Sizes.{sizes_of}
 use Rattle.bfs_maps.specs.Mapped.{HasReadable}
 use Rattle.bfs_tree.specs.Answers.{rows_of_indices}
 use Rattle.bfs_tree.specs.Steps.{Reads}

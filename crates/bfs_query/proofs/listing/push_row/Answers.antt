@@ -1,6 +1,5 @@
-use Rattle.std.proofs.Common.{◌≡◌, ◌∙◌, ◌++◌, ◌∷◌, [], ap, List, ℕ}
+use Rattle.std.proofs.Common.{◌∙◌, ◌++◌, ◌∷◌, [], ap, List, ℕ}
 use Rattle.bfs_base.specs.declared.kind.KeyKind.{KeyKind}
-use Rattle.bfs_tree.specs.declared.rows.IndexRow.{IndexRow}
 use Rattle.bfs_query.proofs.Indexed.{index_readable, index_tree, index_inside}
 use Rattle.bfs_query.proofs.listing.push_row.Goals as goal
 

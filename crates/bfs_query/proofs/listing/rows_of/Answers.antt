@@ -1,4 +1,4 @@
-use Rattle.std.proofs.Common.{◌≡◌, ◌∙◌, ◌+◌, ◌++◌, ◌∷◌, [], ℕ, List, rules, sym, ap, subst, drop, append_assoc, append-nil, map as each}
+use Rattle.std.proofs.Common.{◌≡◌, ◌∙◌, ◌+◌, ◌++◌, ◌∷◌, [], List, rules, sym, ap, subst, drop, append_assoc, append-nil, map as each}
 use Rattle.std.proofs.lemmas.List.{drop_more, drop_all}
 use Rattle.bfs_tree.specs.declared.rows.IndexRow.{IndexRow}
 use Rattle.std.specs.List.{AllByRecursion}

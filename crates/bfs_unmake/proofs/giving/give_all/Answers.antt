@@ -1,4 +1,4 @@
-use Rattle.std.proofs.Common.{◌≡◌, ◌∙◌, ◌++◌, [], ◌∷◌, append-nil, sym, subst, Bool, List, ℕ}
+use Rattle.std.proofs.Common.{◌++◌, [], ◌∷◌, append-nil, sym, subst, Bool}
 use Rattle.std.specs.List.{flat_map}
 use Rattle.bfs_super.specs.Conditions.{natural}
 use Rattle.bfs_super.specs.Geometry.{geometry_of}

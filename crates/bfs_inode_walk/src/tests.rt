@@ -89,6 +89,32 @@ fn superblock() -> Result<Super, SuperFault>
     Super::parse(&sector)
 }
 
+/// Writes the inode and another number in its block at a place.
+fn put_inode(bytes: &mut [u8], at: usize, other: u32)
+    requires size { length bytes.old ≡ 16384 }
+    requires inside { at + 4 ≤ 1024 }
+    ensures { length bytes.new ≡ 16384 }
+{
+    let inode = 6 * 1024;
+    put_u32(bytes, inode, 0x3bbe0ad9);
+    put_run(bytes, inode + 4, run(6, 1));
+    put_u32(bytes, inode + 20, 0x81a4);
+    put_u32(bytes, inode + 24, 1);
+    put_u32(bytes, inode + 64, 1024);
+    put_run(bytes, inode + 72, run(8, 2));
+    put_i64(bytes, inode + 168, 2048);
+    put_i64(bytes, inode + 208, 1500);
+    put_u32(bytes, inode + at, other);
+}
+
+/// Blocks of 1,024 bytes over these.
+fn over(bytes: Vec<u8>) -> MemBlocks
+    requires { length bytes.items ≡ 16384 }
+    ensures { result.block_size ≡ 1024 }
+{
+    MemBlocks::new(bytes, 1024)
+}
+
 /// The blocks of the volume, with another number in the inode's block at a place.
 fn volume(alloc: Global, size: usize, at: usize, other: u32) -> Result<MemBlocks, AllocError>
     requires size { size ≡ 16384 }
@@ -96,17 +122,8 @@ fn volume(alloc: Global, size: usize, at: usize, other: u32) -> Result<MemBlocks
     ensures { IfOk result (λ b. b.block_size ≡ 1024) }
 {
     let mut bytes = vec![in alloc; 0u8; size]?;
-    let inode = 6 * 1024;
-    put_u32(&mut bytes, inode, 0x3bbe0ad9);
-    put_run(&mut bytes, inode + 4, run(6, 1));
-    put_u32(&mut bytes, inode + 20, 0x81a4);
-    put_u32(&mut bytes, inode + 24, 1);
-    put_u32(&mut bytes, inode + 64, 1024);
-    put_run(&mut bytes, inode + 72, run(8, 2));
-    put_i64(&mut bytes, inode + 168, 2048);
-    put_i64(&mut bytes, inode + 208, 1500);
-    put_u32(&mut bytes, inode + at, other);
-    Ok(MemBlocks::new(bytes, 1024))
+    put_inode(bytes.as_mut_slice(), at, other);
+    Ok(over(bytes))
 }
 
 /// What came of it: how many blocks are claimed then, a finding on the inode or its stream, a block that is taken, or a failed read.
@@ -121,7 +138,7 @@ enum Seen {
 }
 
 /// What a fault says.
-fn seen(fault: VisitFault) -> Seen {
+fn told_by(fault: VisitFault) -> Seen {
     match fault {
         VisitFault::Wrong(Finding::Inode { part, found, .. }) => Seen::Inode(part, found),
         VisitFault::Wrong(Finding::Stream { found, wanted, .. }) => Seen::Stream(found, wanted),
@@ -151,7 +168,7 @@ fn visit(
     }
     match visit_inode(alloc, under, sup, 6, role, &mut claims) {
         Ok(_) => Ok(Seen::Claimed(claims.count())),
-        Err(fault) => Ok(seen(fault)),
+        Err(fault) => Ok(told_by(fault)),
     }
 }
 
@@ -204,7 +221,7 @@ fn an_inode_is_right_and_its_blocks_are_claimed_or_one_thing_is_told(
 
 #[test]
 fn a_block_that_cannot_be_read_is_told(rt: HostRuntime) -> Result<(), Fail> {
-    let seen = visit_with(rt.alloc(), 1000, 0, Role::Child, 10, 6)?;
-    assert_eq!(rt; seen, Seen::Failed);
+    let found = visit_with(rt.alloc(), 1000, 0, Role::Child, 10, 6)?;
+    assert_eq!(rt; found, Seen::Failed);
     Ok(())
 }

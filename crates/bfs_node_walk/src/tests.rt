@@ -31,7 +31,7 @@ enum Seen {
     Other,
 }
 
-fn seen(rows: &[NameRow]) -> Seen {
+fn told_by(rows: &[NameRow]) -> Seen {
     match check_listing(rows, 6, 4, 16) {
         Ok(()) => Seen::Nothing,
         Err(Finding::Parent { found, wanted, .. }) => Seen::Parent(found, wanted),
@@ -54,7 +54,7 @@ fn a_directory_names_itself_its_parent_and_blocks_or_one_row_is_wrong(
     ];
     for (dot, dots, other, wanted) in table {
         let rows = rows(alloc, dot, dots, other)?;
-        assert_eq!(rt; seen(&rows), wanted);
+        assert_eq!(rt; told_by(&rows), wanted);
     }
     Ok(())
 }
@@ -64,7 +64,7 @@ fn a_missing_row_counts_as_zero_and_dots_are_passed_over(rt: HostRuntime) -> Res
     let alloc = rt.alloc();
     let mut rows = Vec::new(alloc);
     rows.push(row(alloc, b"..", 99)?)?;
-    assert_eq!(rt; seen(&rows), Seen::Parent(0, 6));
+    assert_eq!(rt; told_by(&rows), Seen::Parent(0, 6));
     assert_eq!(rt; check_rows(&rows, 16), Ok(()));
     Ok(())
 }

@@ -16,11 +16,5 @@ mod trim;
 
 pub use fault::{GrowFault, StreamFault};
 pub use laws::{emptied_streams, others_stay, others_stay_cut, streams_stay};
+pub use lookup::Ends;
 pub use stream::Stream;
-
-#[cfg(test)]
-mod grow_tests;
-#[cfg(test)]
-mod tests;
-#[cfg(test)]
-mod trim_tests;

@@ -4,7 +4,7 @@ ghost use Rattle.std.specs.List.{flat_map};
 ghost use Rattle.bfs_inode.specs.Inode.{stream_at};
 ghost use Rattle.bfs_txn.specs.Faults.{AreLater};
 ghost use Rattle.bfs_stream.specs.Sizes.{Sizes, IsInVolume, IsWhole, HasSizes, array_length, runs_per_block};
-ghost use Rattle.bfs_stream.specs.Places.{run_blocks, used_runs, array_runs, places_at};
+ghost use Rattle.bfs_stream.specs.Places.{run_blocks, used_runs, array_runs, places_at, fields};
 ghost use Rattle.bfs_stream.specs.Told.{AreTold, Stands, contents};
 ghost use Rattle.bfs_stream.specs.Scans.{IsDamage, IsDamagedBy, IsBlamed, IsLevelRun, IsUsed, HasDouble, block_in, ends_of, last_end};
 ghost use Rattle.bfs_stream.specs.Faults.{IsCauseIn, IsStreamCause, IsDamagedAt, IsBlamedAt, HasNoBlock};
@@ -28,8 +28,8 @@ pub struct Ends {
 }
 
 impl Ends {
-    /// Up to which block the stream reaches.
-    pub(crate) fn last(&self) -> u64
+    /// Up to which block the stream reaches: how many it has.
+    pub fn last(&self) -> u64
         ensures { result ≡ last_end self.now }
     {
         self.direct.max(self.indirect).max(self.double)
@@ -321,6 +321,32 @@ impl Stream {
         match self.in_levels(under, &mut bytes, index) {
             Ok(block) => Ok(block),
             Err(fault) => Err(StreamFault::Block(fault)),
+        }
+    }
+
+    /// Up to which block each level of the stream reaches, by the ranges in its inode. It reads the inode alone.
+    pub fn reach<B: Blocks>(&mut self, under: &mut B) -> Result<Ends, BlockFault>
+        requires { B.size under.old ≡ self.old.sizes.block_size }
+        ensures reach { (m : ℕ → Option (List ℕ)) → B.told under.old ≡ Some m → IsSome (m self.old.id) → IfOk result (λ ends. ends ≡ ends_of self.old.sizes (fields self.old.sizes (contents m) self.old.id)) }
+        ensures blocks { (m : ℕ → Option (List ℕ)) → B.told under.old ≡ Some m → Stands self.old m → IfOk result (λ ends. last_end ends ≡ length (places_at self.old.sizes (contents m) self.old.id)) }
+        ensures sound { IfErr result (λ fault. ¬ IsDamage fault) }
+        ensures same { self.new ≡ self.old }
+        ensures told { B.told under.new ≡ B.told under.old }
+        ensures changed { B.changed under.new ≡ B.changed under.old }
+        ensures pairs { B.pairs under.new ≡ B.pairs under.old }
+        ensures size { B.size under.new ≡ B.size under.old }
+        ensures frame { B.frame under.new ≡ B.frame under.old }
+        ensures later { AreLater (B.counts under.old) (B.counts under.new) }
+        ensures cause { IfErr result (IsCauseIn (B.counts under.old) (B.counts under.new)) }
+    {
+        self.sizes();
+        let mut bytes = match vec![in self.alloc; 0u8; self.block_size as usize] {
+            Ok(bytes) => bytes,
+            Err(_) => return Err(BlockFault::NoMemory),
+        };
+        match under.get(self.inode, &mut bytes) {
+            Ok(()) => Ok(self.ends(&bytes)),
+            Err(fault) => Err(fault),
         }
     }
 }

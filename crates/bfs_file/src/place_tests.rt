@@ -3,8 +3,8 @@ ghost use Rattle.std.specs.Prelude.{◌≡◌, ◌⊎◌, ◌≤◌, ◌<◌, �
 ghost use Rattle.bfs_super.specs.Conditions.{IsValid};
 ghost use Rattle.bfs_super.specs.Geometry.{IsBlockSize};
 
-use crate::{Stream, StreamFault};
 use bfs_bytes::{Run, put_i32, put_i64, put_run, put_u32};
+use bfs_stream::{Stream, StreamFault};
 use bfs_super::{Super, SuperFault};
 use bfs_txn::MemBlocks;
 use std::alloc::{AllocError, Global};

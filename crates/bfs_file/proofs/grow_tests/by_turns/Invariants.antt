@@ -1,6 +1,6 @@
 use Rattle.std.proofs.Common.{◌≡◌}
 use Rattle.bfs_stream.specs.Grown.{IsOfVolume}
-use Rattle.bfs_stream.proofs.grow_tests.by_turns.Given as goal
+use Rattle.bfs_file.proofs.grow_tests.by_turns.Given as goal
 
 abbrev pub invariant-loop : goal.invariant-loop
 invariant-loop g l = record {

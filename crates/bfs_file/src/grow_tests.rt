@@ -3,11 +3,11 @@
 ghost use Rattle.std.specs.Prelude.{◌≡◌, ◌≤◌, ◌<◌, ◌+◌, ◌*◌, IfOk, length};
 ghost use Rattle.bfs_stream.specs.Grown.{IsOfVolume};
 
-use crate::tests::superblock;
-use crate::{GrowFault, Stream, StreamFault};
+use crate::place_tests::superblock;
 use bfs_bitmap::Bitmap;
 use bfs_bytes::put_i64;
-use bfs_txn::{BlockFault, Changed, Edits, MemBlocks, Overlay};
+use bfs_stream::{GrowFault, Stream, StreamFault};
+use bfs_txn::{Changed, Edits, MemBlocks, Overlay};
 use std::alloc::{AllocError, Global};
 use std::test::Fail;
 
@@ -65,7 +65,6 @@ pub(crate) fn by_turns<E: Edits>(
 
 /// Up to which block each level of a stream reaches, and its blocks at two places.
 fn look<E: Edits>(
-    alloc: Global,
     stream: &mut Stream,
     edits: &mut E,
     places: [u64; 2],
@@ -75,16 +74,10 @@ fn look<E: Edits>(
     ensures size { E.size edits.new ≡ E.size edits.old }
     ensures frame { E.frame edits.new ≡ E.frame edits.old }
 {
-    stream.sizes();
-    let mut bytes = match vec![in alloc; 0u8; stream.block_size as usize] {
-        Ok(bytes) => bytes,
-        Err(_) => return Err(StreamFault::Block(BlockFault::NoMemory)),
-    };
-    match edits.get(stream.inode, &mut bytes) {
-        Ok(()) => {}
+    let ends = match stream.reach(edits) {
+        Ok(ends) => ends,
         Err(fault) => return Err(StreamFault::Block(fault)),
-    }
-    let ends = stream.ends(&bytes);
+    };
     let here = match stream.block(edits, places[0]) {
         Ok(here) => here,
         Err(fault) => return Err(fault),
@@ -97,7 +90,6 @@ fn look<E: Edits>(
 
 /// Grows two streams by turns, first 13 times and then so many times more; what is seen of both after each.
 fn seen<E: Edits>(
-    alloc: Global,
     first: &mut Stream,
     second: &mut Stream,
     bitmap: &mut Bitmap,
@@ -111,11 +103,11 @@ fn seen<E: Edits>(
     ensures frame { E.frame edits.new ≡ E.frame edits.old }
 {
     by_turns(first, second, bitmap, edits, 13).ok()?;
-    let one = look(alloc, first, edits, [11, 12]).ok()?;
-    let two = look(alloc, second, edits, [11, 12]).ok()?;
+    let one = look(first, edits, [11, 12]).ok()?;
+    let two = look(second, edits, [11, 12]).ok()?;
     by_turns(first, second, bitmap, edits, turns).ok()?;
-    let three = look(alloc, first, edits, places).ok()?;
-    let four = look(alloc, second, edits, places).ok()?;
+    let three = look(first, edits, places).ok()?;
+    let four = look(second, edits, places).ok()?;
     Some((one, two, three, four))
 }
 
@@ -145,7 +137,6 @@ fn grown_by_turns(
     let mut second = Stream::at(alloc, 5, &sup);
     let mut edits = Overlay::begin(&mut open, &mut under);
     let seen = seen(
-        alloc,
         &mut first,
         &mut second,
         &mut bitmap,

@@ -3,17 +3,16 @@
 ghost use Rattle.std.specs.Prelude.{◌≡◌, ◌≤◌, ◌<◌, ◌+◌, ◌*◌, length};
 ghost use Rattle.bfs_stream.specs.Grown.{IsOfVolume};
 
-use crate::Stream;
 use crate::grow_tests::{by_turns, volume};
-use crate::tests::superblock;
+use crate::place_tests::superblock;
 use bfs_bitmap::Bitmap;
+use bfs_stream::Stream;
 use bfs_txn::{Changed, Edits, Overlay};
 use std::alloc::Global;
 use std::test::Fail;
 
 /// Cuts a stream to its first blocks; up to which block each level reaches then.
 fn cut<E: Edits>(
-    alloc: Global,
     stream: &mut Stream,
     bitmap: &mut Bitmap,
     edits: &mut E,
@@ -26,26 +25,16 @@ fn cut<E: Edits>(
     ensures size { E.size edits.new ≡ E.size edits.old }
     ensures frame { E.frame edits.new ≡ E.frame edits.old }
 {
-    stream.sizes();
     match stream.trim(bitmap, edits, blocks) {
         Ok(()) => {}
         Err(_) => return None,
     }
-    let mut bytes = match vec![in alloc; 0u8; stream.block_size as usize] {
-        Ok(bytes) => bytes,
-        Err(_) => return None,
-    };
-    match edits.get(stream.inode, &mut bytes) {
-        Ok(()) => {}
-        Err(_) => return None,
-    }
-    let ends = stream.ends(&bytes);
+    let ends = stream.reach(edits).ok()?;
     Some([ends.direct, ends.indirect, ends.double])
 }
 
 /// The same four times.
 fn cuts<E: Edits>(
-    alloc: Global,
     stream: &mut Stream,
     bitmap: &mut Bitmap,
     edits: &mut E,
@@ -58,10 +47,10 @@ fn cuts<E: Edits>(
     ensures size { E.size edits.new ≡ E.size edits.old }
     ensures frame { E.frame edits.new ≡ E.frame edits.old }
 {
-    let one = cut(alloc, stream, bitmap, edits, blocks[0])?;
-    let two = cut(alloc, stream, bitmap, edits, blocks[1])?;
-    let three = cut(alloc, stream, bitmap, edits, blocks[2])?;
-    let four = cut(alloc, stream, bitmap, edits, blocks[3])?;
+    let one = cut(stream, bitmap, edits, blocks[0])?;
+    let two = cut(stream, bitmap, edits, blocks[1])?;
+    let three = cut(stream, bitmap, edits, blocks[2])?;
+    let four = cut(stream, bitmap, edits, blocks[3])?;
     Some([one, two, three, four])
 }
 
@@ -88,7 +77,6 @@ fn freed_between<E: Edits>(
 
 /// What a stream that has grown by turns beside another one looks like after each cut, and which blocks it takes then.
 fn seen<E: Edits>(
-    alloc: Global,
     first: &mut Stream,
     second: &mut Stream,
     bitmap: &mut Bitmap,
@@ -103,8 +91,8 @@ fn seen<E: Edits>(
     ensures frame { E.frame edits.new ≡ E.frame edits.old }
 {
     by_turns(first, second, bitmap, edits, turns).ok()?;
-    let one = cuts(alloc, first, bitmap, edits, blocks.0)?;
-    let two = cuts(alloc, first, bitmap, edits, blocks.1)?;
+    let one = cuts(first, bitmap, edits, blocks.0)?;
+    let two = cuts(first, bitmap, edits, blocks.1)?;
     let taken = freed_between(first, bitmap, edits, [0, 1])?;
     Some((one, two, taken))
 }
@@ -135,7 +123,6 @@ fn cut_by_turns(
     let mut second = Stream::at(alloc, 5, &sup);
     let mut edits = Overlay::begin(&mut open, &mut under);
     let seen = seen(
-        alloc,
         &mut first,
         &mut second,
         &mut bitmap,
@@ -179,7 +166,6 @@ fn a_stream_is_cut_at_the_end_of_each_level_for_each_size_of_blocks(
 
 /// A stream that has two long direct runs is cut inside of the second one, at its end and inside of the first one.
 fn cut_inside<E: Edits>(
-    alloc: Global,
     stream: &mut Stream,
     bitmap: &mut Bitmap,
     edits: &mut E,
@@ -190,7 +176,7 @@ fn cut_inside<E: Edits>(
     ensures frame { E.frame edits.new ≡ E.frame edits.old }
 {
     stream.grow(bitmap, edits, 50).ok()?;
-    let cuts = cuts(alloc, stream, bitmap, edits, [45, 40, 39, 38])?;
+    let cuts = cuts(stream, bitmap, edits, [45, 40, 39, 38])?;
     let taken = freed_between(stream, bitmap, edits, [38, 39])?;
     Some((cuts, taken))
 }
@@ -217,7 +203,7 @@ fn cut_inside_of(
     let mut bitmap = Bitmap::of(alloc, &sup);
     let mut stream = Stream::at(alloc, 4, &sup);
     let mut edits = Overlay::begin(&mut open, &mut under);
-    let seen = cut_inside(alloc, &mut stream, &mut bitmap, &mut edits);
+    let seen = cut_inside(&mut stream, &mut bitmap, &mut edits);
     edits.drop_call();
     Ok(seen)
 }

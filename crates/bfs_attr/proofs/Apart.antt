@@ -22,7 +22,7 @@ items_named q items = count_by (λ item. bytes_eq item.name q) items
 abbrev pub entries_named : List ℕ → List Named → ℕ
 entries_named q entries = count_by (λ e. bytes_eq e.0 q) entries
 
-one_item : (q : List ℕ) (x : Item) (xs : List Item) → items_named q (x ∷ xs) ≡ cond (bytes_eq x.name q) 1 0 + items_named q xs
+pub one_item : (q : List ℕ) (x : Item) (xs : List Item) → items_named q (x ∷ xs) ≡ cond (bytes_eq x.name q) 1 0 + items_named q xs
 one_item q x xs = sum_by-cons (λ (i : Item). cond (bytes_eq i.name q) 1 0) x xs
 
 pub one_entry : (q : List ℕ) (e : Named) (es : List Named) → entries_named q (e ∷ es) ≡ cond (bytes_eq e.0 q) 1 0 + entries_named q es
@@ -83,10 +83,10 @@ distinct_put new items distinct q = by_test (cases_Bool (bytes_eq new.name q))
     by_test (inr other) = subst (λ (n : ℕ). n ≤ 1) (sym (put_elsewhere q new items other)) (distinct q)
 
 -- items that one was taken from
-cut : (name : List ℕ) (x : Item) (xs : List Item) → bytes_eq x.name name ≡ true → without name (x ∷ xs) ≡ xs
+pub cut : (name : List ℕ) (x : Item) (xs : List Item) → bytes_eq x.name name ≡ true → without name (x ∷ xs) ≡ xs
 cut name x xs same = cond-true (bytes_eq x.name name) xs (x ∷ without name xs) same
 
-uncut : (name : List ℕ) (x : Item) (xs : List Item) → bytes_eq x.name name ≡ false → without name (x ∷ xs) ≡ x ∷ without name xs
+pub uncut : (name : List ℕ) (x : Item) (xs : List Item) → bytes_eq x.name name ≡ false → without name (x ∷ xs) ≡ x ∷ without name xs
 uncut name x xs differ = cond-false (bytes_eq x.name name) xs (x ∷ without name xs) differ
 
 taken_few : (q name : List ℕ) (items : List Item) → items_named q (without name items) ≤ items_named q items

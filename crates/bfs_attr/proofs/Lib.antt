@@ -10,3 +10,5 @@ pub mod Stays
 pub mod Puts
 pub mod Owned
 pub mod Rowed
+pub mod OwnNames
+pub mod Longests

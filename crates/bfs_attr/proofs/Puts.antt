@@ -1,6 +1,6 @@
 -- An attribute put into small data, and one taken out of it, as changes of the attributes of the inode.
-use Rattle.std.proofs.Common.{◌≡◌, ◌⊎◌, ℕ, List, [], ◌++◌, Bool, true, false, Option, Some, refl, sym, ◌∙◌, ap, subst, drop}
-use Rattle.std.specs.Prelude.{IfSome, IsSome, unwrap_or, Result, Ok, Err, MatchResult}
+use Rattle.std.proofs.Common.{◌≡◌, ◌⊎◌, ℕ, List, [], ◌++◌, Bool, true, false, Option, Some, refl, sym, ◌∙◌, ap, subst, take, drop}
+use Rattle.std.specs.Prelude.{IfOk, IfSome, IsSome, unwrap_or, Result, Ok, Err, MatchResult}
 use Rattle.std.specs.Option.{option_map}
 use Rattle.std.specs.Str.{bytes_eq}
 use Rattle.std.specs.FinMap.{from_entries, insert, remove, get}
@@ -17,15 +17,15 @@ use Rattle.bfs_maps.specs.Refused.{IsUndone}
 use Rattle.bfs_sound.specs.Volumes.{Volume}
 use Rattle.bfs_sound.specs.Attributes.{Named, own_name, attributes_in, attributes_of, attribute_directory}
 use Rattle.bfs_attr.specs.Bearers.{Bearer, volume_at, entries_with, attributes_at}
-use Rattle.bfs_attr.specs.Changed.{Holds, AttributesNow, HasPut, HasTaken, IsPutInSmall, IsTakenFromSmall}
+use Rattle.bfs_attr.specs.Changed.{attribute_blocks, Holds, AttributesNow, HasPut, HasTaken, IsPutInSmall, IsTakenFromSmall}
 use Rattle.bfs_attr.specs.Laws.{HasNone, HasNoRow}
 use Rattle.bfs_attr.specs.SmallData.{HasAttribute, HasSmall, attribute_in}
-use Rattle.bfs_attr.specs.Written.{IsPutInto, IsTakenFrom}
+use Rattle.bfs_attr.specs.Written.{IsPutInto, IsTakenFrom, items_left}
 use Rattle.bfs_attr.proofs.Apart.{distinct_put, distinct_taken, apart_put, apart_taken, none_behind, put_named}
 use Rattle.bfs_attr.proofs.Changes.{other_item, puts, takes}
 use Rattle.bfs_attr.proofs.Finds.{small_there}
 use Rattle.bfs_make.proofs.Written.{block_here}
-use Rattle.bfs_attr.proofs.Stays.{attributes_now, attributes_there}
+use Rattle.bfs_attr.proofs.Stays.{blocks_same, attributes_now, attributes_there}
 use Rattle.bfs_attr.proofs.Tops.{value_is}
 
 module _ (b : Bearer) (v : Room) (m : ℕ → Option (List ℕ)) (holds : Holds b v m) (told : Option (ℕ → Option (List ℕ))) (old new : ℕ → Bool) (written : (k : ℕ) → new k ≡ true → (old k ≡ true) ⊎ (k ≡ b.id)) where
@@ -103,6 +103,36 @@ module _ (b : Bearer) (v : Room) (m : ℕ → Option (List ℕ)) (holds : Holds 
   take_holds name (Ok true) h = has_taken b v m holds told old new written name h
   take_holds name (Ok false) h = h
   take_holds name (Err e) h = h
+
+-- no block of the attributes comes or goes, and the items since
+module _ (b : Bearer) (v : Room) (m : ℕ → Option (List ℕ)) (holds : Holds b v m) (told : Option (ℕ → Option (List ℕ))) where
+  abbrev HasSameBlocks : Type 0
+  HasSameBlocks = IfSome told (λ map. attribute_blocks b.geometry map b.id ≡ attribute_blocks b.geometry m b.id)
+
+  blocks_written : (block : List ℕ) → take 232 block ≡ take 232 (contents m b.id) → told ≡ Some (with_block b.id block m) → HasSameBlocks
+  blocks_written block before is = subst (λ (o : Option (ℕ → Option (List ℕ))). IfSome o (λ map. attribute_blocks b.geometry map b.id ≡ attribute_blocks b.geometry m b.id)) (sym is) (blocks_same b v m holds block before)
+
+  blocks_unwritten : told ≡ Some m → HasSameBlocks
+  blocks_unwritten is = subst (λ (o : Option (ℕ → Option (List ℕ))). IfSome o (λ map. attribute_blocks b.geometry map b.id ≡ attribute_blocks b.geometry m b.id)) (sym is) refl
+
+  pub put_keeps : (item : Item) (r : Result Bool (TreeFault GrowFault)) → MatchResult r (IsPutInto m b.id item told) IsUndone → IfOk r (λ fitted. HasSameBlocks)
+  put_keeps item (Ok true) h = blocks_written h.1.block h.1.before h.1.is
+  put_keeps item (Ok false) h = blocks_unwritten h.1
+  put_keeps item (Err e) h = tt
+
+  pub take_keeps : (name : List ℕ) (r : Result Bool (TreeFault GrowFault)) → MatchResult r (IsTakenFrom m b.id name told) IsUndone → IfOk r (λ taken. HasSameBlocks)
+  take_keeps name (Ok true) h = blocks_written h.1.block h.1.before h.1.is
+  take_keeps name (Ok false) h = blocks_unwritten h.1
+  take_keeps name (Err e) h = tt
+
+  pub take_leaves : (name : List ℕ) (r : Result Bool (TreeFault GrowFault)) → MatchResult r (IsTakenFrom m b.id name told) IsUndone
+      → IfOk r (λ taken. IfSome told (λ map. items_of (drop 232 (contents map b.id)) ≡ items_left name (items_of (drop 232 (contents m b.id))) taken))
+  take_leaves name (Ok true) h =
+      subst (λ (o : Option (ℕ → Option (List ℕ))). IfSome o (λ map. items_of (drop 232 (contents map b.id)) ≡ option_map (without name) (items_of (drop 232 (contents m b.id))))) (sym h.1.is)
+      (ap (λ (o : Option (List ℕ)). items_of (drop 232 (unwrap_or o []))) (block_here m b.id h.1.block) ∙ h.1.items)
+  take_leaves name (Ok false) h =
+      subst (λ (o : Option (ℕ → Option (List ℕ))). IfSome o (λ map. items_of (drop 232 (contents map b.id)) ≡ items_of (drop 232 (contents m b.id)))) (sym h.1) refl
+  take_leaves name (Err e) h = tt
 
 -- small data that holds is a list of items
 pub area_there : (b : Bearer) (v : Room) (m : ℕ → Option (List ℕ)) → Holds b v m → IsSome (items_of (drop 232 (contents m b.id)))

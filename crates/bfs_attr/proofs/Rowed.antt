@@ -1,5 +1,5 @@
 -- Whether rows of a name were read, as whether the attribute directory has an attribute of the name.
-use Rattle.std.proofs.Common.{◌≡◌, ◌<◌, ◌+◌, ℕ, suc, List, [], ◌∷◌, length, true, false, Option, refl, sym, ap, subst, arith}
+use Rattle.std.proofs.Common.{◌≡◌, ◌<◌, ℕ, suc, List, [], ◌∷◌, length, true, false, Option, refl, sym, subst, arith}
 use Rattle.std.specs.Prelude.{◌↔◌, IsSome, nat_lt}
 use Rattle.std.specs.Option.{option_map}
 use Rattle.std.proofs.lemmas.Bool.{lt-ltb, ltb-true}

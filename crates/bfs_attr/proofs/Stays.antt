@@ -1,5 +1,5 @@
 -- What stays of attributes where the block of the inode that bears them is written, and nothing else.
-use Rattle.std.proofs.Common.{◌≡◌, ◌≢◌, ◌⊎◌, inl, inr, ◌≤◌, ◌<◌, ◌+◌, ◌-◌, ◌*◌, ℕ, zero, suc, List, [], ◌∷◌, ◌++◌, Bool, true, false, cond, not, Option, Some, None, refl, sym, ◌∙◌, ap, subst, arith, take, drop}
+use Rattle.std.proofs.Common.{◌≡◌, ◌≢◌, ◌⊎◌, inl, inr, ◌≤◌, ◌<◌, ◌+◌, ℕ, zero, suc, List, [], ◌∷◌, ◌++◌, Bool, true, false, cond, not, Option, Some, None, refl, sym, ◌∙◌, ap, subst, arith, take, drop}
 use Rattle.std.specs.Prelude.{◌==◌, ◌&&◌, IsSome, unwrap_or}
 use Rattle.std.specs.List.{flat_map}
 use Rattle.std.specs.FinMap.{from_entries}
@@ -20,7 +20,6 @@ use Rattle.bfs_stream.proofs.Doubles.{times-append}
 use Rattle.bfs_stream.proofs.Finish.{free_same, marked_same, fits_same, counted_same}
 use Rattle.bfs_stream.proofs.Frames.{has_first, has_left, agree_left, levels_same}
 use Rattle.bfs_stream_pages.specs.Held.{Held}
-use Rattle.bfs_stream_pages.proofs.Writing.{is_equal}
 use Rattle.bfs_smalldata.specs.Items.{Item, items_of}
 use Rattle.bfs_smalldata.specs.Edits.{AreDistinct}
 use Rattle.bfs_tree.specs.Trees.{Attributes}
@@ -117,8 +116,7 @@ pub none_new : (b : Bool) (x : ℕ) → x ≡ cond (b && not b) 1 (cond (b && no
 none_new true x = refl
 none_new false x = refl
 
-module _ (b : Bearer) (v : Room) (m : ℕ → Option (List ℕ)) (holds : Holds b v m) (block : List ℕ) (before : take 232 block ≡ take 232 (contents m b.id)) (items : List Item) (area : items_of (drop 232 block) ≡ Some items)
-    (distinct : AreDistinct items) (apart : AreApart (entries_with (volume_at b.geometry m) b.id items)) where
+module _ (b : Bearer) (v : Room) (m : ℕ → Option (List ℕ)) (holds : Holds b v m) (block : List ℕ) (before : take 232 block ≡ take 232 (contents m b.id)) where
   abbrev now : ℕ → Option (List ℕ)
   now = with_block b.id block m
 
@@ -149,13 +147,11 @@ module _ (b : Bearer) (v : Room) (m : ℕ → Option (List ℕ)) (holds : Holds 
   agree_behind : Agree (contents m) (contents now) behind
   agree_behind k has = ap (λ (o : Option (List ℕ)). unwrap_or o []) (block_other m b.id block k (not_of behind k b.id has none_here))
 
-  changes : HasAttributes new_volume b.id × (entries_at new_volume b.id ≡ entries_with old_volume b.id items)
-  changes = small_changes old_volume b.id (contents now) items holds.stands run_same agree_behind (ap (λ (l : List ℕ). items_of (drop 232 l)) here ∙ area) distinct apart
-
   inodes_same : attribute_inodes new_volume (attribute_directory new_volume b.id) ≡ attribute_inodes old_volume directory
   inodes_same = ap (attribute_inodes new_volume) (directory_as old_volume b.id (contents now) run_same) ∙ attribute_inodes_stay old_volume (contents now) b.geometry.used directory agree_behind
 
-  blocks_same : attribute_blocks b.geometry now b.id ≡ attribute_blocks b.geometry m b.id
+  -- none of the blocks comes or goes
+  pub blocks_same : attribute_blocks b.geometry now b.id ≡ attribute_blocks b.geometry m b.id
   blocks_same =
       ap (λ (l : List ℕ). b.id ∷ flat_map (whole_at (sizes b.geometry) (contents now)) l) inodes_same
       ∙ ap (λ (l : List ℕ). b.id ∷ l) (inodes_stay old_volume (contents now) b.geometry.used (attribute_inodes old_volume directory) agree_behind)
@@ -167,61 +163,65 @@ module _ (b : Bearer) (v : Room) (m : ℕ → Option (List ℕ)) (holds : Holds 
       let none = none_here in
       (held.0, held_stays v m b.id block holds.outside (origin b.geometry k) held.0 held.1 (omega (arith, few, none)))
 
-  pub holds_now : Holds b v now
-  holds_now = record {
-    stands = changes.0;
-    inode = subst (λ (o : Option (List ℕ)). IsSome o) (sym (block_here m b.id block)) refl;
-    streams = subst (λ (l : List ℕ). (k : ℕ) → In k l → HasHeld (origin b.geometry k) v now) (sym inodes_same) stream_stays;
-    once = subst IsOnce (sym blocks_same) holds.once;
-    taken = λ k has. free_same v m now (bits_stay v m b.id block holds.outside) k ∙ holds.taken k (subst (λ (l : List ℕ). Has l k) blocks_same has);
-    outside = holds.outside;
-    bits = λ k low. free_same v m now (bits_stay v m b.id block holds.outside) k ∙ holds.bits k low;
-    fits = fits_same v m now (bits_stay v m b.id block holds.outside) holds.fits;
-  }
+  module _ (items : List Item) (area : items_of (drop 232 block) ≡ Some items) (distinct : AreDistinct items) (apart : AreApart (entries_with (volume_at b.geometry m) b.id items)) where
+    changes : HasAttributes new_volume b.id × (entries_at new_volume b.id ≡ entries_with old_volume b.id items)
+    changes = small_changes old_volume b.id (contents now) items holds.stands run_same agree_behind (ap (λ (l : List ℕ). items_of (drop 232 l)) here ∙ area) distinct apart
 
-  module _ (attributes : Attributes) (are : from_entries {R = text_cmp} (entries_with old_volume b.id items) ≡ attributes) (told : Option (ℕ → Option (List ℕ))) (is : told ≡ Some now) (old new : ℕ → Bool)
-      (written : (k : ℕ) → new k ≡ true → (old k ≡ true) ⊎ (k ≡ b.id)) where
-    other_here : (k : ℕ) → times k (attribute_blocks b.geometry m b.id ++ attribute_blocks b.geometry now b.id) ≡ 0 → k ≢ b.id
-    other_here k none e =
-        let p = times-append k (attribute_blocks b.geometry m b.id) (attribute_blocks b.geometry now b.id) in
-        let some : 0 < times k (attribute_blocks b.geometry m b.id) = subst (λ (j : ℕ). 0 < times k (j ∷ behind)) e (has_first k behind) in
-        omega (arith, p, some, none)
-
-    wrote : AreWritten v old new (attribute_blocks b.geometry m b.id ++ attribute_blocks b.geometry now b.id)
-    wrote k e = by_side (written k e)
-      where
-        by_side : (old k ≡ true) ⊎ (k ≡ b.id) → (old k ≡ true) ⊎ (IsBitmapBlock v k ⊎ Has (attribute_blocks b.geometry m b.id ++ attribute_blocks b.geometry now b.id) k)
-        by_side (inl had) = inl had
-        by_side (inr at) = inr (inr (has_left (attribute_blocks b.geometry m b.id) (attribute_blocks b.geometry now b.id) k (subst (λ (j : ℕ). Has (j ∷ behind) k) at (has_first k behind))))
-
-    pub attributes_now : AttributesNow b v v m attributes told old new
-    attributes_now = record {
-      map = now;
-      is = is;
-      holds = holds_now;
-      attributes_are = ap (from_entries {R = text_cmp}) changes.1 ∙ are;
-      were_free = λ k has none.
-          let some : 0 < times k (attribute_blocks b.geometry m b.id) = subst (λ (l : List ℕ). Has l k) blocks_same has in
-          absurd (omega (arith, some, none));
-      free = λ k.
-          free_same v m now (bits_stay v m b.id block holds.outside) k
-          ∙ none_taken (is_free v m k) (times k (attribute_blocks b.geometry m b.id)) (holds.taken k)
-          ∙ ap (λ (l : List ℕ). is_free v m k && (times k l == 0)) (sym blocks_same);
-      marks = λ k low.
-          marked_same v m now (bits_stay v m b.id block holds.outside) k low
-          ∙ none_new (times k (attribute_blocks b.geometry m b.id) == 0) (marked (per_block v) m k)
-          ∙ ap (λ (l : List ℕ). cond (is_new (attribute_blocks b.geometry m b.id) l k) 1 (cond (is_new l (attribute_blocks b.geometry m b.id) k) 0 (marked (per_block v) m k))) (sym blocks_same);
-      others = λ k out none. block_other m b.id block k (other_here k none);
-      first = λ none. block_other m b.id block 0 (other_here 0 none);
-      kept = subst (λ (l : List ℕ). inode_at l ≡ record (inode_at (contents m b.id)) { attributes = (inode_at l).attributes; small_data = (inode_at l).small_data }) (sym here) (inode_front block (contents m b.id) before);
-      written = wrote;
-      counted = λ used count. counted_same v m now (λ k low. marked_same v m now (bits_stay v m b.id block holds.outside) k low) count;
-      entered = λ k has none.
-          let some : 0 < times k (attribute_blocks b.geometry m b.id) = subst (λ (l : List ℕ). Has l k) blocks_same has in
-          absurd (omega (arith, some, none));
+    pub holds_now : Holds b v now
+    holds_now = record {
+      stands = changes.0;
+      inode = subst (λ (o : Option (List ℕ)). IsSome o) (sym (block_here m b.id block)) refl;
+      streams = subst (λ (l : List ℕ). (k : ℕ) → In k l → HasHeld (origin b.geometry k) v now) (sym inodes_same) stream_stays;
+      once = subst IsOnce (sym blocks_same) holds.once;
+      taken = λ k has. free_same v m now (bits_stay v m b.id block holds.outside) k ∙ holds.taken k (subst (λ (l : List ℕ). Has l k) blocks_same has);
+      outside = holds.outside;
+      bits = λ k low. free_same v m now (bits_stay v m b.id block holds.outside) k ∙ holds.bits k low;
+      fits = fits_same v m now (bits_stay v m b.id block holds.outside) holds.fits;
     }
 
-    -- and the map is this one
-    pub attributes_there : (n : AttributesNow b v v m attributes told old new) × (n.map ≡ now)
-    unfolding attributes_now
-    attributes_there = (attributes_now, refl)
+    module _ (attributes : Attributes) (are : from_entries {R = text_cmp} (entries_with old_volume b.id items) ≡ attributes) (told : Option (ℕ → Option (List ℕ))) (is : told ≡ Some now) (old new : ℕ → Bool)
+        (written : (k : ℕ) → new k ≡ true → (old k ≡ true) ⊎ (k ≡ b.id)) where
+      other_here : (k : ℕ) → times k (attribute_blocks b.geometry m b.id ++ attribute_blocks b.geometry now b.id) ≡ 0 → k ≢ b.id
+      other_here k none e =
+          let p = times-append k (attribute_blocks b.geometry m b.id) (attribute_blocks b.geometry now b.id) in
+          let some : 0 < times k (attribute_blocks b.geometry m b.id) = subst (λ (j : ℕ). 0 < times k (j ∷ behind)) e (has_first k behind) in
+          omega (arith, p, some, none)
+
+      wrote : AreWritten v old new (attribute_blocks b.geometry m b.id ++ attribute_blocks b.geometry now b.id)
+      wrote k e = by_side (written k e)
+        where
+          by_side : (old k ≡ true) ⊎ (k ≡ b.id) → (old k ≡ true) ⊎ (IsBitmapBlock v k ⊎ Has (attribute_blocks b.geometry m b.id ++ attribute_blocks b.geometry now b.id) k)
+          by_side (inl had) = inl had
+          by_side (inr at) = inr (inr (has_left (attribute_blocks b.geometry m b.id) (attribute_blocks b.geometry now b.id) k (subst (λ (j : ℕ). Has (j ∷ behind) k) at (has_first k behind))))
+
+      pub attributes_now : AttributesNow b v v m attributes told old new
+      attributes_now = record {
+        map = now;
+        is = is;
+        holds = holds_now;
+        attributes_are = ap (from_entries {R = text_cmp}) changes.1 ∙ are;
+        were_free = λ k has none.
+            let some : 0 < times k (attribute_blocks b.geometry m b.id) = subst (λ (l : List ℕ). Has l k) blocks_same has in
+            absurd (omega (arith, some, none));
+        free = λ k.
+            free_same v m now (bits_stay v m b.id block holds.outside) k
+            ∙ none_taken (is_free v m k) (times k (attribute_blocks b.geometry m b.id)) (holds.taken k)
+            ∙ ap (λ (l : List ℕ). is_free v m k && (times k l == 0)) (sym blocks_same);
+        marks = λ k low.
+            marked_same v m now (bits_stay v m b.id block holds.outside) k low
+            ∙ none_new (times k (attribute_blocks b.geometry m b.id) == 0) (marked (per_block v) m k)
+            ∙ ap (λ (l : List ℕ). cond (is_new (attribute_blocks b.geometry m b.id) l k) 1 (cond (is_new l (attribute_blocks b.geometry m b.id) k) 0 (marked (per_block v) m k))) (sym blocks_same);
+        others = λ k out none. block_other m b.id block k (other_here k none);
+        first = λ none. block_other m b.id block 0 (other_here 0 none);
+        kept = subst (λ (l : List ℕ). inode_at l ≡ record (inode_at (contents m b.id)) { attributes = (inode_at l).attributes; small_data = (inode_at l).small_data }) (sym here) (inode_front block (contents m b.id) before);
+        written = wrote;
+        counted = λ used count. counted_same v m now (λ k low. marked_same v m now (bits_stay v m b.id block holds.outside) k low) count;
+        entered = λ k has none.
+            let some : 0 < times k (attribute_blocks b.geometry m b.id) = subst (λ (l : List ℕ). Has l k) blocks_same has in
+            absurd (omega (arith, some, none));
+      }
+
+      -- and the map is this one
+      pub attributes_there : (n : AttributesNow b v v m attributes told old new) × (n.map ≡ now)
+      unfolding attributes_now
+      attributes_there = (attributes_now, refl)

@@ -1,13 +1,14 @@
 -- What the calls that change attributes leave, over blocks that are told.
-use Rattle.std.specs.Prelude.{true, false, ◌≡◌, ◌<◌, ◌↔◌, ℕ, ◌*◌, ◌-◌, ◌==◌, ◌&&◌, ◌||◌, nat_lt, List, [], ◌∷◌, ◌++◌, length, drop, Bool, not, Option, None, Some, IsSome, IfSome, if◌then◌else◌}
+use Rattle.std.specs.Prelude.{true, false, ◌≡◌, ◌<◌, ◌↔◌, ℕ, ◌*◌, ◌-◌, ◌==◌, ◌&&◌, List, ◌∷◌, ◌++◌, length, drop, Bool, Option, Some, IsSome, IfSome, if◌then◌else◌}
 use Rattle.std.specs.FinMap.{get, insert, remove}
 use Rattle.std.specs.List.{flat_map}
+use Rattle.std.specs.Option.{option_map}
 use Rattle.bfs_base.specs.Lists.{times, Has, IsOnce}
 use Rattle.bfs_bitmap.specs.Runs.{Room, Fits, IsCounted, per_block, is_free, marked}
 use Rattle.bfs_super.specs.declared.geometry.Geometry.{Geometry}
 use Rattle.bfs_inode.specs.Inode.{inode_at}
-use Rattle.bfs_smalldata.specs.Items.{Item, items_of, size_of}
-use Rattle.bfs_smalldata.specs.Edits.{named, IsFitting}
+use Rattle.bfs_smalldata.specs.Items.{Item, items_of}
+use Rattle.bfs_smalldata.specs.Edits.{named, with_item, IsFitting}
 use Rattle.bfs_stream.specs.Grown.{IsOutside, AreWritten, is_new}
 use Rattle.bfs_stream.specs.Places.{whole_at}
 use Rattle.bfs_stream.specs.Trimmed.{AreMarked}
@@ -65,6 +66,24 @@ IsInSmallData v id name = HasSmall (drop 232 (v.blocks id)) name
 abbrev pub IsNamedBy : Volume → ℕ → List ℕ → Type 0
 IsNamedBy v id name = IfSome (items_of (drop 232 (v.blocks id))) (λ items. (item : Item) × (named own_name items ≡ Some item) × (is_name_item item ≡ true) × (item.bytes ≡ name))
 
+-- the item with a node's own name
+abbrev pub name_item : List ℕ → Item
+name_item name = record { kind = 0x43535452; name = own_name; bytes = name }
+
+-- an item that is named as a node's own name is it
+abbrev pub HasOwnName : Volume → ℕ → Type 0
+HasOwnName v id = IfSome (items_of (drop 232 (v.blocks id))) (λ items. IfSome (named own_name items) (λ item. is_name_item item ≡ true))
+
+-- Named: the node's own name is this since, every other item is as it was, and the attributes are those before.
+pub record HasNameSet (b : Bearer) (v now : Room) (m : ℕ → Option (List ℕ)) (name : List ℕ) (told : Option (ℕ → Option (List ℕ))) (old new : ℕ → Bool) : Type 0 where
+  pub now_are : AttributesNow b v now m (attributes_at (volume_at b.geometry m) b.id) told old new
+  pub items : items_of (drop 232 (contents now_are.map b.id)) ≡ option_map (with_item (name_item name)) (items_of (drop 232 (contents m b.id)))
+
+-- A node's own name was put where it fits, and else nothing was written.
+abbrev pub IsNamePut : Bearer → Room → (ℕ → Option (List ℕ)) → List ℕ → Option (ℕ → Option (List ℕ)) → (ℕ → Bool) → (ℕ → Bool) → Bool → Type 0
+IsNamePut b v m name told old new true = IsFitting (drop 232 (contents m b.id)) own_name (length name) × HasNameSet b v v m name told old new
+IsNamePut b v m name told old new false = (¬ IsFitting (drop 232 (contents m b.id)) own_name (length name)) × (told ≡ Some m)
+
 -- Put: the map has the attribute, and it stands in small data exactly where it fits there.
 pub record HasPut (b : Bearer) (v now : Room) (m : ℕ → Option (List ℕ)) (name : List ℕ) (attribute : Attribute) (told : Option (ℕ → Option (List ℕ))) (old new : ℕ → Bool) : Type 0 where
   pub now_are : AttributesNow b v now m (insert (attributes_at (volume_at b.geometry m) b.id) name attribute) told old new
@@ -86,12 +105,3 @@ IsPutInSmall b v m name attribute told old new false = (¬ IsFitting (drop 232 (
 abbrev pub IsTakenFromSmall : Bearer → Room → (ℕ → Option (List ℕ)) → List ℕ → Option (ℕ → Option (List ℕ)) → (ℕ → Bool) → (ℕ → Bool) → Bool → Type 0
 IsTakenFromSmall b v m name told old new true = HasTaken b v v m name told old new
 IsTakenFromSmall b v m name told old new false = (¬ IsInSmallData (volume_at b.geometry m) b.id name) × (told ≡ Some m)
-
--- of these items the longest attribute, and the last among equals
-abbrev pub longest : List Item → Option Item
-longest [] = None
-longest (item ∷ items) = longer item (longest items)
-  where
-    longer : Item → Option Item → Option Item
-    longer item None = if is_name_item item then None else Some item
-    longer item (Some other) = if is_name_item item || not (nat_lt (size_of other) (size_of item)) then Some other else Some item

@@ -6,3 +6,4 @@ pub mod Laws
 pub mod Changed
 pub mod Written
 pub mod Made
+pub mod Longest

@@ -26,6 +26,11 @@ pub record TakesItem (m : ℕ → Option (List ℕ)) (id : ℕ) (name : List ℕ
   pub before : take 232 block ≡ take 232 (contents m id)
   pub items : items_of (drop 232 block) ≡ option_map (without name) (items_of (drop 232 (contents m id)))
 
+-- the items that are left where one of a name was taken out, or none was
+abbrev pub items_left : List ℕ → Option (List Item) → Bool → Option (List Item)
+items_left name items true = option_map (without name) items
+items_left name items false = items
+
 -- an attribute was taken out where it was there, and else nothing was written; a node's own name is no attribute
 abbrev pub IsTakenFrom : (ℕ → Option (List ℕ)) → ℕ → List ℕ → Option (ℕ → Option (List ℕ)) → Bool → Type 0
 IsTakenFrom m id name told true = HasSmall (drop 232 (contents m id)) name × TakesItem m id name told

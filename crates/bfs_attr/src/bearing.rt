@@ -1,5 +1,5 @@
 // Changes of the small data of an inode on its volume.
-ghost use Rattle.std.specs.Prelude.{◌≡◌, ◌≤◌, ◌⊎◌, ℕ, true, List, Option, Some, length, drop, IfErr, IsSome, MatchResult};
+ghost use Rattle.std.specs.Prelude.{◌≡◌, ◌≤◌, ◌⊎◌, ℕ, true, List, Option, Some, length, drop, IfOk, IfErr, IfSome, IsSome, MatchResult};
 ghost use Rattle.bfs_smalldata.specs.Items.{Item, items_of};
 ghost use Rattle.bfs_super.specs.Conditions.{IsValid};
 ghost use Rattle.bfs_stream.specs.Told.{contents};
@@ -13,11 +13,12 @@ ghost use Rattle.bfs_super.specs.Geometry.{geometry_of};
 ghost use Rattle.bfs_sound.specs.Attributes.{own_name};
 ghost use Rattle.bfs_attr.specs.Bearers.{bearer_of, volume_at};
 ghost use Rattle.bfs_attr.specs.Laws.{HasNoRow};
-ghost use Rattle.bfs_attr.specs.Changed.{Holds, IsPutInSmall, IsTakenFromSmall};
-ghost use Rattle.bfs_attr.specs.Written.{IsPutInto, IsTakenFrom};
+ghost use Rattle.bfs_attr.specs.Changed.{attribute_blocks, Holds, HasOwnName, IsNamePut, IsPutInSmall, IsTakenFromSmall};
+ghost use Rattle.bfs_attr.specs.Written.{IsPutInto, IsTakenFrom, items_left};
 
 use crate::area::{put_small, take_small};
 use crate::inode::{blocked, damaged};
+use crate::small::{CSTR, OWN_NAME};
 use bfs_inode::SMALL_DATA;
 use bfs_make::{Site, read_block};
 use bfs_node::TreeFault;
@@ -117,6 +118,7 @@ pub fn put_in_small<E: Edits>(
     requires short { length name.now ≤ 255 }
     requires other { bytes_eq name.now own_name ≡ false }
     ensures put { (v : Room) (m : ℕ → Option (List ℕ)) → E.told edits.old ≡ Some m → Holds (bearer_of inode site.sup) v m → HasNoRow (volume_at (geometry_of site.sup) m) inode name.now → MatchResult result (IsPutInSmall (bearer_of inode site.sup) v m name.now (record { code = kind; bytes = bytes.now }) (E.told edits.new) (E.changed edits.old) (E.changed edits.new)) IsUndone }
+    ensures blocks { (v : Room) (m : ℕ → Option (List ℕ)) → E.told edits.old ≡ Some m → Holds (bearer_of inode site.sup) v m → IfOk result (λ b. IfSome (E.told edits.new) (λ map. attribute_blocks (geometry_of site.sup) map inode ≡ attribute_blocks (geometry_of site.sup) m inode)) }
     ensures changed { (k : ℕ) → E.changed edits.new k ≡ true → (E.changed edits.old k ≡ true) ⊎ (k ≡ inode) }
     ensures stays { StaysChanged (E.changed edits.old) (E.changed edits.new) }
     ensures size { E.size edits.new ≡ E.size edits.old }
@@ -138,6 +140,8 @@ pub fn take_from_small<E: Edits>(
     requires valid { IsValid site.sup }
     requires size { E.size edits.old ≡ site.sup.block_size }
     ensures taken { (v : Room) (m : ℕ → Option (List ℕ)) → E.told edits.old ≡ Some m → Holds (bearer_of inode site.sup) v m → MatchResult result (IsTakenFromSmall (bearer_of inode site.sup) v m name.now (E.told edits.new) (E.changed edits.old) (E.changed edits.new)) IsUndone }
+    ensures items { (v : Room) (m : ℕ → Option (List ℕ)) → E.told edits.old ≡ Some m → Holds (bearer_of inode site.sup) v m → IfOk result (λ taken. IfSome (E.told edits.new) (λ map. items_of (drop 232 (contents map inode)) ≡ items_left name.now (items_of (drop 232 (contents m inode))) taken)) }
+    ensures blocks { (v : Room) (m : ℕ → Option (List ℕ)) → E.told edits.old ≡ Some m → Holds (bearer_of inode site.sup) v m → IfOk result (λ b. IfSome (E.told edits.new) (λ map. attribute_blocks (geometry_of site.sup) map inode ≡ attribute_blocks (geometry_of site.sup) m inode)) }
     ensures changed { (k : ℕ) → E.changed edits.new k ≡ true → (E.changed edits.old k ≡ true) ⊎ (k ≡ inode) }
     ensures stays { StaysChanged (E.changed edits.old) (E.changed edits.new) }
     ensures size { E.size edits.new ≡ E.size edits.old }
@@ -146,4 +150,26 @@ pub fn take_from_small<E: Edits>(
     ensures cause { IfErr result (HasReadCause (E.counts edits.old) (E.counts edits.new)) }
 {
     take_from(site, edits, inode, name)
+}
+
+/// Puts a node's own name into the small data of its inode, in the place of the one that is there, where it fits. Did it? Nothing else
+/// is written.
+pub fn put_own_name<E: Edits>(
+    site: Site,
+    edits: &mut E,
+    inode: u64,
+    name: &[u8],
+) -> Result<bool, MapFault>
+    requires valid { IsValid site.sup }
+    requires size { E.size edits.old ≡ site.sup.block_size }
+    ensures put { (v : Room) (m : ℕ → Option (List ℕ)) → E.told edits.old ≡ Some m → Holds (bearer_of inode site.sup) v m → HasOwnName (volume_at (geometry_of site.sup) m) inode → MatchResult result (IsNamePut (bearer_of inode site.sup) v m name.now (E.told edits.new) (E.changed edits.old) (E.changed edits.new)) IsUndone }
+    ensures blocks { (v : Room) (m : ℕ → Option (List ℕ)) → E.told edits.old ≡ Some m → Holds (bearer_of inode site.sup) v m → IfOk result (λ b. IfSome (E.told edits.new) (λ map. attribute_blocks (geometry_of site.sup) map inode ≡ attribute_blocks (geometry_of site.sup) m inode)) }
+    ensures changed { (k : ℕ) → E.changed edits.new k ≡ true → (E.changed edits.old k ≡ true) ⊎ (k ≡ inode) }
+    ensures stays { StaysChanged (E.changed edits.old) (E.changed edits.new) }
+    ensures size { E.size edits.new ≡ E.size edits.old }
+    ensures frame { E.frame edits.new ≡ E.frame edits.old }
+    ensures later { AreLater (E.counts edits.old) (E.counts edits.new) }
+    ensures cause { IfErr result (HasReadCause (E.counts edits.old) (E.counts edits.new)) }
+{
+    put_into(site, edits, inode, CSTR, &[OWN_NAME], name)
 }

@@ -12,10 +12,10 @@ use bfs_tree::{AttributeRow, Bytes};
 use std::alloc::{AllocError, Global};
 
 /// The one byte that names the item with a node's own name.
-const OWN_NAME: u8 = 0x13;
+pub(crate) const OWN_NAME: u8 = 0x13;
 
 /// The type of that item.
-const CSTR: u32 = 0x43535452;
+pub(crate) const CSTR: u32 = 0x43535452;
 
 /// What small data has of a name: an attribute; none; or an item runs past it; or there is no memory for the bytes.
 #[derive(Debug, Drop)]
@@ -75,7 +75,7 @@ pub(crate) fn small_attribute(alloc: Global, area: &[u8], name: &[u8]) -> Small
 
 /// Does an item stand here?
 #[tactic(auto, using(crate::proofs::Walked::unsigned_there))]
-fn goes_on(area: &[u8], at: usize) -> bool
+pub(crate) fn goes_on(area: &[u8], at: usize) -> bool
     requires { at ≤ length area.now }
     ensures { IsTrue result ↔ GoesOn (drop at area.now) }
 {
@@ -84,7 +84,7 @@ fn goes_on(area: &[u8], at: usize) -> bool
 
 /// How much of the area the item here takes.
 #[tactic(auto, using(crate::proofs::Walked::unsigned_there))]
-fn size_at(area: &[u8], at: usize) -> usize
+pub(crate) fn size_at(area: &[u8], at: usize) -> usize
     requires { at + 8 ≤ length area.now }
     ensures { result ≡ size_in (drop at area.now) }
 {

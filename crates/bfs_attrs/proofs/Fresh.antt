@@ -15,7 +15,7 @@ use Rattle.bfs_stream.specs.declared.fault.GrowFault.{GrowFault}
 use Rattle.bfs_stream.specs.declared.fault.GrowFault.TheVariants as grow
 use Rattle.bfs_stream_pages.specs.Causes.{IsOfBlock}
 use Rattle.bfs_txn.specs.Faults.{Counts}
-use Rattle.bfs_tree.specs.Trees.{Attribute}
+use Rattle.bfs_tree.specs.Trees.{Attribute, Attributes}
 use Rattle.bfs_maps.specs.Refused.{IsUndone, HasReadCause}
 use Rattle.bfs_sound.specs.Attributes.{Named, attributes_in, attributes_of, attribute_directory}
 use Rattle.bfs_sound.specs.Volumes.{Volume}
@@ -25,9 +25,10 @@ use Rattle.bfs_attr.specs.Laws.{HasNone, HasNoRow}
 use Rattle.bfs_attr.specs.SmallData.{HasAttribute, HasSmall, attribute_in}
 use Rattle.bfs_attr.proofs.Finds.{same_test, small_there}
 use Rattle.bfs_attr.proofs.Tops.{value_is}
+use Rattle.bfs_attr_write.specs.Adding.{HasRowPut}
 use Rattle.bfs_attr_write.proofs.Unknown.{find_behind}
 use Rattle.bfs_attrs.specs.Put.{IsUnknown, IsNotPutNew}
-use Rattle.bfs_attrs.specs.Stored.{IsNotAdded, IsNotBegun, HasAddCause}
+use Rattle.bfs_attrs.specs.Stored.{HasBegun, IsNotAdded, IsNotBegun, HasAddCause}
 use Rattle.bfs_attrs.proofs.Older.{wrote_older}
 
 -- none has a name that isn't found
@@ -62,12 +63,16 @@ module _ (v : Volume) (id : ℕ) (name : List ℕ) (has : HasAttributes v id) wh
   unknown_row unknown =
       none_has name more (find_behind name front more (ap (λ (l : List Named). find text_cmp name l) (sym listed) ∙ value_is (entries_at v id) name ∙ unknown))
 
+-- an attribute for which a row was put
+pub row_begun : (b : Bearer) (v now : Room) (m : ℕ → Option (List ℕ)) (attributes : Attributes) (told : Option (ℕ → Option (List ℕ))) (old new : ℕ → Bool) → HasRowPut b v now m attributes told old new → HasBegun b v now m attributes told old new
+row_begun b v now m attributes told old new row = record { now_are = row.now_are; small = ap (λ (o : Option (List ℕ)). drop 232 (unwrap_or o [])) row.bearer }
+
 -- an attribute that came to the attribute directory, the small data as it was
-pub put_beyond : (b : Bearer) (v now : Room) (m : ℕ → Option (List ℕ)) (name : List ℕ) (attribute : Attribute) (told : Option (ℕ → Option (List ℕ))) (old half new : ℕ → Bool) → IsUnknown b v m name
+pub beyond_put : (b : Bearer) (v now : Room) (m : ℕ → Option (List ℕ)) (name : List ℕ) (attribute : Attribute) (told : Option (ℕ → Option (List ℕ))) (old half new : ℕ → Bool) → IsUnknown b v m name
     → (IsFitting (drop 232 (contents m b.id)) name (length attribute.bytes) → ⊥) → ((k : ℕ) → half k ≡ true → (old k ≡ true) ⊎ (k ≡ b.id))
     → (n : AttributesNow b v now m (insert (attributes_at (volume_at b.geometry m) b.id) name attribute) told half new) → drop 232 (contents n.map b.id) ≡ drop 232 (contents m b.id)
     → HasPut b v now m name attribute told old new
-put_beyond b v now m name attribute told old half new is large set n small = record {
+beyond_put b v now m name attribute told old half new is large set n small = record {
   now_are = record {
     map = n.map;
     is = n.is;
@@ -124,7 +129,7 @@ module _ (b : Bearer) (v : Room) (m : ℕ → Option (List ℕ)) (attribute : At
   begun_new_kept (Err fault) h = begun_new fault h
 
 -- the causes of a call that reads, or writes one block
-block_cause : (n : ℕ) (old new : Counts) (fault : GrowFault) → IsOfBlock fault → IsGrowCause 1 old new fault → IsGrowCause n old new fault
+pub block_cause : (n : ℕ) (old new : Counts) (fault : GrowFault) → IsOfBlock fault → IsGrowCause 1 old new fault → IsGrowCause n old new fault
 block_cause n old new (grow.NoRun asked free) of cause = absurd of
 block_cause n old new (grow.Full room) of cause = absurd of
 block_cause n old new (grow.Block fault) of cause = cause

@@ -7,3 +7,8 @@ pub mod Older
 pub mod Adds
 pub mod Begins
 pub mod Fresh
+pub mod Alike
+pub mod Clears
+pub mod Replaces
+pub mod Moves
+pub mod Longest

@@ -71,7 +71,7 @@ pub number_there : (name : List ℕ) (o : Origin) (v : Room) (m : ℕ → Option
 number_there name o v m t = record { tree = t.tree.tree; number = λ value e. subst (λ (x : Option ℤ). IfSome x IsNumber) e t.tree.number }
 
 -- no attribute of a name is found where none has it
-none_finds : (name : List ℕ) (es : List Named) → HasNone es name → find text_cmp name es ≡ None
+pub none_finds : (name : List ℕ) (es : List Named) → HasNone es name → find text_cmp name es ≡ None
 none_finds name [] h = refl
 none_finds name (x ∷ xs) h = ap (λ (t : Bool). cond t (Some x.1) (find text_cmp name xs)) (same_test name x.0 ∙ h.0) ∙ none_finds name xs h.1
 

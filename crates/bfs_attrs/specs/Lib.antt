@@ -1,5 +1,7 @@
 pub mod Last
 pub mod Removed
 pub mod Stored
-pub mod Laws
 pub mod Put
+pub mod Replaced
+pub mod Moved
+pub mod Laws

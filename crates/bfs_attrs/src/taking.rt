@@ -1,5 +1,5 @@
 // An attribute that is taken, wherever it stands.
-ghost use Rattle.std.specs.Prelude.{◌≡◌, ◌<◌, ℕ, List, Option, Some, OnOk, IfErr};
+ghost use Rattle.std.specs.Prelude.{◌≡◌, ◌<◌, ℕ, List, Option, Some, drop, OnOk, IfErr, IfSome};
 ghost use Rattle.bfs_bitmap.specs.Runs.{as_kept};
 ghost use Rattle.bfs_super.specs.Conditions.{IsValid, natural};
 ghost use Rattle.bfs_super.specs.Geometry.{geometry_of};
@@ -7,10 +7,11 @@ ghost use Rattle.bfs_txn.specs.Faults.{AreLater};
 ghost use Rattle.bfs_txn.specs.Told.{StaysChanged};
 ghost use Rattle.bfs_stream.specs.Grown.{IsOfVolume};
 ghost use Rattle.bfs_stream.specs.Sizes.{sizes_of};
+ghost use Rattle.bfs_stream.specs.Told.{contents};
 ghost use Rattle.bfs_maps.specs.Refused.{HasTakeCause};
 ghost use Rattle.bfs_attr.specs.Bearers.{bearer_of, volume_at};
 ghost use Rattle.bfs_attr.specs.Changed.{Holds, HasTaken};
-ghost use Rattle.bfs_attrs.specs.Removed.{IsBeyond, IsNotRemoved};
+ghost use Rattle.bfs_attrs.specs.Removed.{FitAlike, IsBeyond, IsNotRemoved, IsUntouched};
 
 use crate::last::take_last;
 use crate::rows::names_one;
@@ -23,7 +24,8 @@ use bfs_stream_pages::MapFault;
 use bfs_txn::Edits;
 
 /// Takes the attribute of a name, which isn't in small data, out of the attribute directory at a block; the last one with the
-/// directory. Absent is answered exactly where there is none. After another fault the call is to be dropped.
+/// directory. Absent is answered exactly where there is none, and nothing was written
+/// then. After another fault the call is to be dropped.
 pub(crate) fn take_stored<E: Edits>(
     site: Site,
     bitmap: &mut Bitmap,
@@ -38,7 +40,9 @@ pub(crate) fn take_stored<E: Edits>(
     requires volume { IsOfVolume (sizes_of site.sup) bitmap.old }
     requires holds { (m : ℕ → Option (List ℕ)) → E.told edits.old ≡ Some m → IsBeyond (bearer_of inode site.sup) bitmap.old m directory name.now }
     ensures taken { (m : ℕ → Option (List ℕ)) → E.told edits.old ≡ Some m → OnOk result (HasTaken (bearer_of inode site.sup) bitmap.old bitmap.new m name.now (E.told edits.new) (E.changed edits.old) (E.changed edits.new)) }
+    ensures small { (m : ℕ → Option (List ℕ)) → E.told edits.old ≡ Some m → OnOk result (IfSome (E.told edits.new) (λ map. drop 232 (contents map inode) ≡ drop 232 (contents m inode))) }
     ensures faults { (m : ℕ → Option (List ℕ)) → E.told edits.old ≡ Some m → IfErr result (IsNotRemoved (volume_at (geometry_of site.sup) m) inode name.now) }
+    ensures absent { (m : ℕ → Option (List ℕ)) → E.told edits.old ≡ Some m → IfErr result (IsUntouched (bearer_of inode site.sup) bitmap.old bitmap.new m (E.told edits.new) (E.changed edits.old) (E.changed edits.new)) }
     ensures rest { bitmap.new ≡ record bitmap.old { given = bitmap.new.given; tally = bitmap.new.tally } }
     ensures kept { as_kept bitmap.new ≡ as_kept bitmap.old }
     ensures stays { StaysChanged (E.changed edits.old) (E.changed edits.new) }
@@ -66,7 +70,8 @@ pub(crate) fn take_stored<E: Edits>(
 }
 
 /// Takes the attribute of a name of the inode at a block out of its small data or its attribute directory, and the directory with its
-/// last one. Absent is answered exactly where there is none. After another fault the call is to be dropped.
+/// last one. Absent is answered exactly where there is none, and nothing was written
+/// then. After another fault the call is to be dropped.
 pub fn take<E: Edits>(
     site: Site,
     bitmap: &mut Bitmap,
@@ -79,7 +84,9 @@ pub fn take<E: Edits>(
     requires volume { IsOfVolume (sizes_of site.sup) bitmap.old }
     requires holds { (m : ℕ → Option (List ℕ)) → E.told edits.old ≡ Some m → Holds (bearer_of inode site.sup) bitmap.old m }
     ensures taken { (m : ℕ → Option (List ℕ)) → E.told edits.old ≡ Some m → OnOk result (HasTaken (bearer_of inode site.sup) bitmap.old bitmap.new m name.now (E.told edits.new) (E.changed edits.old) (E.changed edits.new)) }
+    ensures alike { (m : ℕ → Option (List ℕ)) → E.told edits.old ≡ Some m → OnOk result (IfSome (E.told edits.new) (λ map. FitAlike name.now (drop 232 (contents m inode)) (drop 232 (contents map inode)))) }
     ensures faults { (m : ℕ → Option (List ℕ)) → E.told edits.old ≡ Some m → IfErr result (IsNotRemoved (volume_at (geometry_of site.sup) m) inode name.now) }
+    ensures absent { (m : ℕ → Option (List ℕ)) → E.told edits.old ≡ Some m → IfErr result (IsUntouched (bearer_of inode site.sup) bitmap.old bitmap.new m (E.told edits.new) (E.changed edits.old) (E.changed edits.new)) }
     ensures rest { bitmap.new ≡ record bitmap.old { given = bitmap.new.given; tally = bitmap.new.tally } }
     ensures kept { as_kept bitmap.new ≡ as_kept bitmap.old }
     ensures stays { StaysChanged (E.changed edits.old) (E.changed edits.new) }

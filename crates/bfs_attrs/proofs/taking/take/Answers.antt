@@ -1,4 +1,4 @@
-use Rattle.std.proofs.Common.{◌≡◌, ◌<◌, ◌∙◌, ℕ, List, Bool, Option, None, ap, sym, subst}
+use Rattle.std.proofs.Common.{◌≡◌, ◌<◌, ◌∙◌, ℕ, List, Bool, Option, None, refl, ap, sym, subst, drop}
 use Rattle.std.specs.Prelude.{IfSome}
 use Rattle.bfs_super.specs.Conditions.{natural}
 use Rattle.bfs_super.specs.Geometry.{geometry_of}
@@ -7,6 +7,11 @@ use Rattle.bfs_sound.specs.Attributes.{attribute_directory}
 use Rattle.bfs_attr.specs.Bearers.{bearer_of, volume_at}
 use Rattle.bfs_attr.specs.Changed.{Holds, IsInSmallData, IsTakenFromSmall}
 use Rattle.bfs_stream.proofs.Arrays.{later_twice}
+use Rattle.bfs_smalldata.specs.Items.{items_of}
+use Rattle.bfs_stream.specs.Told.{contents}
+use Rattle.bfs_attr.specs.Written.{items_left}
+use Rattle.bfs_attrs.proofs.Alike.{same_fit_told, taken_fit}
+use Rattle.bfs_attrs.proofs.Clears.{undone_untouched, untouched_older}
 use Rattle.bfs_attrs.proofs.Older.{taken_older}
 use Rattle.bfs_attrs.proofs.Stood.{told_back, one_map, read_taken, take_earlier, take_earlier_kept, undone_removed, none_beyond}
 use Rattle.bfs_attrs.proofs.taking.take.Goals as goal
@@ -113,3 +118,71 @@ returns-in-Err-directory_at-clause-cause g c =
     let c1 = g.E.Blocks.counts c.take_from_small.new.edits in
     let c2 = g.E.Blocks.counts c.directory_at.new.under in
     take_earlier c0 c1 c2 c.in-Err-directory_at.fault c.in-Ok.ensures.later (read_taken c1 c2 c.in-Err-directory_at.fault c.in-Err-directory_at.ensures.cause)
+
+pub returns-in-Err-clause-absent : goal.returns-in-Err-clause-absent
+returns-in-Err-clause-absent g c m told =
+    let b = bearer_of c.args.inode c.args.site.sup in
+    let v = c.args.bitmap.now in
+    undone_untouched b v v m (g.E.Blocks.told c.take_from_small.new.edits) (g.E.Blocks.changed c.args.edits.now) (g.E.Blocks.changed c.take_from_small.new.edits) c.in-Err.fault
+    (c.in-Err.ensures.taken v m told (c.requires.holds m told))
+
+pub returns-then-taken-clause-alike : goal.returns-then-taken-clause-alike
+returns-then-taken-clause-alike g c m told =
+    let b = bearer_of c.args.inode c.args.site.sup in
+    let v = c.args.bitmap.now in
+    let name = c.args.name.now in
+    let t = g.E.Blocks.told c.take_from_small.new.edits in
+    let holds = c.requires.holds m told in
+    let taken =
+    subst (λ (x : Bool). IsTakenFromSmall b v m name t (g.E.Blocks.changed c.args.edits.now) (g.E.Blocks.changed c.take_from_small.new.edits) x) c.if-taken.true (c.in-Ok.ensures.taken v m told holds) in
+    let left =
+    subst (λ (x : Bool). IfSome t (λ map. items_of (drop 232 (contents map c.args.inode)) ≡ items_left name (items_of (drop 232 (contents m c.args.inode))) x)) c.if-taken.true (c.in-Ok.ensures.items v m told holds) in
+    taken_fit b v m taken.now_are.map name (g.E.Blocks.size c.args.edits.now) (g.E.Blocks.size c.take_from_small.new.edits) (g.E.Blocks.told c.args.edits.now) t (g.met.E.Blocks.sized c.args.edits.now) (g.met.E.Blocks.sized c.take_from_small.new.edits)
+    c.in-Ok.ensures.size told taken.now_are.is holds taken.now_are.holds.inode left
+
+pub returns-in-Ok-Some-clause-alike : goal.returns-in-Ok-Some-clause-alike
+returns-in-Ok-Some-clause-alike g c m told =
+    let b = bearer_of c.args.inode c.args.site.sup in
+    let v = c.args.bitmap.now in
+    let none =
+    subst (λ (x : Bool). IsTakenFromSmall b v m c.args.name.now (g.E.Blocks.told c.take_from_small.new.edits) (g.E.Blocks.changed c.args.edits.now) (g.E.Blocks.changed c.take_from_small.new.edits) x) c.if-taken.false
+    (c.in-Ok.ensures.taken v m told (c.requires.holds m told)) in
+    on_ok _ _ c.take_stored.result (c.take_stored.ensures.small m (c.directory_at.ensures.told ∙ none.1))
+    (same_fit_told c.args.name.now (drop 232 (contents m c.args.inode)) c.args.inode (g.E.Blocks.told c.take_stored.new.edits))
+
+pub returns-in-Ok-Some-clause-absent : goal.returns-in-Ok-Some-clause-absent
+returns-in-Ok-Some-clause-absent g c m told =
+    let b = bearer_of c.args.inode c.args.site.sup in
+    let v = c.args.bitmap.now in
+    let none =
+    subst (λ (x : Bool). IsTakenFromSmall b v m c.args.name.now (g.E.Blocks.told c.take_from_small.new.edits) (g.E.Blocks.changed c.args.edits.now) (g.E.Blocks.changed c.take_from_small.new.edits) x) c.if-taken.false
+    (c.in-Ok.ensures.taken v m told (c.requires.holds m told)) in
+    let old = g.E.Blocks.changed c.args.edits.now in
+    let half = g.E.Blocks.changed c.take_from_small.new.edits in
+    let after = g.E.Blocks.changed c.directory_at.new.under in
+    let same : after ≡ half = c.directory_at.ensures.changed in
+    untouched_older b v c.take_stored.new.bitmap m (g.E.Blocks.told c.take_stored.new.edits) old after (g.E.Blocks.changed c.take_stored.new.edits) (λ k e. c.in-Ok.ensures.changed k (sym (ap (λ (f : ℕ → Bool). f k) same) ∙ e)) c.take_stored.result
+    (c.take_stored.ensures.absent m (c.directory_at.ensures.told ∙ none.1))
+
+pub returns-in-Ok-None-clause-absent : goal.returns-in-Ok-None-clause-absent
+returns-in-Ok-None-clause-absent g c m told =
+    let b = bearer_of c.args.inode c.args.site.sup in
+    let v = c.args.bitmap.now in
+    let none =
+    subst (λ (x : Bool). IsTakenFromSmall b v m c.args.name.now (g.E.Blocks.told c.take_from_small.new.edits) (g.E.Blocks.changed c.args.edits.now) (g.E.Blocks.changed c.take_from_small.new.edits) x) c.if-taken.false
+    (c.in-Ok.ensures.taken v m told (c.requires.holds m told)) in
+    let old = g.E.Blocks.changed c.args.edits.now in
+    let half = g.E.Blocks.changed c.take_from_small.new.edits in
+    let after = g.E.Blocks.changed c.directory_at.new.under in
+    let same : after ≡ half = c.directory_at.ensures.changed in
+    (refl, c.directory_at.ensures.told ∙ none.1, λ k e. c.in-Ok.ensures.changed k (sym (ap (λ (f : ℕ → Bool). f k) same) ∙ e))
+
+pub returns-in-Err-directory_at-clause-absent : goal.returns-in-Err-directory_at-clause-absent
+returns-in-Err-directory_at-clause-absent g c m told =
+    let b = bearer_of c.args.inode c.args.site.sup in
+    let v = c.args.bitmap.now in
+    let none =
+    subst (λ (x : Bool). IsTakenFromSmall b v m c.args.name.now (g.E.Blocks.told c.take_from_small.new.edits) (g.E.Blocks.changed c.args.edits.now) (g.E.Blocks.changed c.take_from_small.new.edits) x) c.if-taken.false
+    (c.in-Ok.ensures.taken v m told (c.requires.holds m told)) in
+    let holds = c.requires.holds m told in
+    undone_untouched b v v m (g.E.Blocks.told c.directory_at.new.under) (g.E.Blocks.changed c.args.edits.now) (g.E.Blocks.changed c.directory_at.new.under) c.in-Err-directory_at.fault (c.in-Err-directory_at.ensures.sound m none.1 holds.inode holds.stands)

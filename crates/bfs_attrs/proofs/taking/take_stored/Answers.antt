@@ -1,5 +1,5 @@
-use Rattle.std.proofs.Common.{◌∙◌, ℕ, Bool, sym, subst}
-use Rattle.std.specs.Prelude.{length}
+use Rattle.std.proofs.Common.{◌∙◌, inl, ℕ, List, [], Bool, Option, refl, sym, ap, subst, drop}
+use Rattle.std.specs.Prelude.{length, unwrap_or}
 use Rattle.std.proofs.lemmas.Bool.{true≢false}
 use Rattle.bfs_super.specs.Geometry.{geometry_of}
 use Rattle.bfs_maps.proofs.Over.{on_ok}
@@ -11,6 +11,8 @@ use Rattle.bfs_attrs.proofs.Single.{is_single, not_single}
 use Rattle.bfs_attrs.proofs.Stood.{read_taken, take_earlier, take_earlier_kept, can_read, undone_removed, directory_held, directory_rows, is_absent, is_there, can_take, out_removed_kept}
 use Rattle.bfs_attrs.proofs.Gone.{row_gone, last_left}
 use Rattle.bfs_stream.proofs.Arrays.{later_twice}
+use Rattle.bfs_attrs.proofs.Alike.{small_told}
+use Rattle.bfs_attrs.proofs.Clears.{undone_untouched, out_untouched}
 use Rattle.bfs_attrs.proofs.taking.take_stored.Goals as goal
 
 pub has_attribute_row-requires-clause-stream : goal.has_attribute_row-requires-clause-stream
@@ -144,3 +146,59 @@ returns-else-last-clause-cause g c =
     let c1 = g.E.Blocks.counts c.has_attribute_row.new.under in
     let c2 = g.E.Blocks.counts c.names_one.new.under in
     take_earlier_kept c0 c2 (g.E.Blocks.counts c.take_attribute_row.new.edits) c.take_attribute_row.result (later_twice c0 c1 c2 c.in-Ok.ensures.later c.in-Ok-names_one.ensures.later) c.take_attribute_row.ensures.cause
+
+pub returns-in-Err-clause-absent : goal.returns-in-Err-clause-absent
+returns-in-Err-clause-absent g c m told =
+    let b = bearer_of c.args.inode c.args.site.sup in
+    let v = c.args.bitmap.now in
+    let h = c.requires.holds m told in
+    undone_untouched b v v m (g.E.Blocks.told c.has_attribute_row.new.under) (g.E.Blocks.changed c.args.edits.now) (g.E.Blocks.changed c.has_attribute_row.new.under) c.in-Err.fault
+    (c.in-Err.ensures.found m told (directory_rows b v m c.args.directory h.holds h.there))
+
+pub returns-then-not-there-clause-absent : goal.returns-then-not-there-clause-absent
+returns-then-not-there-clause-absent g c m told = (refl, c.has_attribute_row.ensures.told ∙ told, λ k e. inl (sym (ap (λ (f : ℕ → Bool). f k) c.has_attribute_row.ensures.changed) ∙ e))
+
+pub returns-in-Err-names_one-clause-absent : goal.returns-in-Err-names_one-clause-absent
+returns-in-Err-names_one-clause-absent g c m told =
+    let b = bearer_of c.args.inode c.args.site.sup in
+    let v = c.args.bitmap.now in
+    let h = c.requires.holds m told in
+    undone_untouched b v v m (g.E.Blocks.told c.names_one.new.under) (g.E.Blocks.changed c.args.edits.now) (g.E.Blocks.changed c.names_one.new.under) c.in-Err-names_one.fault
+    (c.in-Err-names_one.ensures.found m (c.has_attribute_row.ensures.told ∙ told) (directory_rows b v m c.args.directory h.holds h.there))
+
+pub returns-then-last-clause-small : goal.returns-then-last-clause-small
+returns-then-last-clause-small g c m told =
+    on_ok _ _ c.take_last.result (c.take_last.ensures.taken m (c.names_one.ensures.told ∙ (c.has_attribute_row.ensures.told ∙ told)))
+    (λ last. small_told m c.args.inode (g.E.Blocks.told c.take_last.new.edits) last.now_are.map last.now_are.is last.small)
+
+pub returns-then-last-clause-absent : goal.returns-then-last-clause-absent
+returns-then-last-clause-absent g c m told =
+    let b = bearer_of c.args.inode c.args.site.sup in
+    let v = c.args.bitmap.now in
+    let d = c.args.directory in
+    let h = c.requires.holds m told in
+    let some = (c.in-Ok.ensures.found m told (directory_rows b v m d h.holds h.there)).0 c.if-not-there.false in
+    out_untouched b v c.take_last.new.bitmap m (g.E.Blocks.told c.take_last.new.edits) (g.E.Blocks.changed c.args.edits.now) (g.E.Blocks.changed c.take_last.new.edits) d c.args.name.now h.there some c.take_last.result
+    (c.take_last.ensures.faults m (c.names_one.ensures.told ∙ (c.has_attribute_row.ensures.told ∙ told)))
+
+pub returns-else-last-clause-small : goal.returns-else-last-clause-small
+returns-else-last-clause-small g c m told =
+    let b = bearer_of c.args.inode c.args.site.sup in
+    let v = c.args.bitmap.now in
+    let d = c.args.directory in
+    let name = c.args.name.now in
+    let h = c.requires.holds m told in
+    let some = (c.in-Ok.ensures.found m told (directory_rows b v m d h.holds h.there)).0 c.if-not-there.false in
+    on_ok _ _ c.take_attribute_row.result (c.take_attribute_row.ensures.taken c.args.inode m (c.names_one.ensures.told ∙ (c.has_attribute_row.ensures.told ∙ told)) (can_take b v m d name h some))
+    (λ row. small_told m c.args.inode (g.E.Blocks.told c.take_attribute_row.new.edits) row.now_are.map row.now_are.is (ap (λ (o : Option (List ℕ)). drop 232 (unwrap_or o [])) row.bearer))
+
+pub returns-else-last-clause-absent : goal.returns-else-last-clause-absent
+returns-else-last-clause-absent g c m told =
+    let b = bearer_of c.args.inode c.args.site.sup in
+    let v = c.args.bitmap.now in
+    let d = c.args.directory in
+    let name = c.args.name.now in
+    let h = c.requires.holds m told in
+    let some = (c.in-Ok.ensures.found m told (directory_rows b v m d h.holds h.there)).0 c.if-not-there.false in
+    out_untouched b v c.take_attribute_row.new.bitmap m (g.E.Blocks.told c.take_attribute_row.new.edits) (g.E.Blocks.changed c.args.edits.now) (g.E.Blocks.changed c.take_attribute_row.new.edits) d name h.there some c.take_attribute_row.result
+    (c.take_attribute_row.ensures.faults c.args.inode m (c.names_one.ensures.told ∙ (c.has_attribute_row.ensures.told ∙ told)) (can_take b v m d name h some))

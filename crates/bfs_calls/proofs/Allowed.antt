@@ -1,5 +1,5 @@
 -- What a call that makes a node is allowed, and that it is at most Need.
-use Rattle.std.proofs.Common.{◌≡◌, ◌≤◌, ◌+◌, ◌*◌, ℕ, ℤ, List, [], ◌∷◌, ◌++◌, length, codes, Option, Some, None, cond, min, refl, sym, ap, ◌∙◌, subst, arith}
+use Rattle.std.proofs.Common.{◌≡◌, ◌≤◌, ◌+◌, ◌*◌, ℕ, ℤ, List, [], ◌∷◌, ◌++◌, length, codes, Option, Some, None, false, cond, min, refl, sym, ap, ◌∙◌, subst, arith}
 use Rattle.std.specs.Prelude.{sum_by, is_some}
 use Rattle.std.proofs.lemmas.List.{length-append}
 use Rattle.std.proofs.lemmas.List.Sums.{sum_by-cons}
@@ -22,21 +22,32 @@ use Rattle.bfs_tree.specs.Names.{target_of}
 use Rattle.bfs_tree.specs.Trees.{Node, Tree, IsNode}
 use Rattle.bfs_maps.specs.NumberTrees.{IsNumberAt}
 use Rattle.bfs_sound.specs.Volumes.{Volume}
-use Rattle.bfs_sound.specs.Inodes.{content}
+use Rattle.bfs_sound.specs.Inodes.{content, stream_blocks}
 use Rattle.bfs_sound.specs.Need.{row_need, logged_need, levels_of, row_at, index_row, built_in_rows, target_length}
 use Rattle.bfs_sound.specs.Nodes.{HasContent}
+use Rattle.bfs_sound.specs.Owners.{Owner, with_streams}
 use Rattle.bfs_shift.specs.Lists.{Lists}
 use Rattle.bfs_shift.specs.Shifts.{volume_in}
 use Rattle.bfs_look.specs.Ready.{IsReady}
-use Rattle.bfs_calls.specs.Allowances.{allowance}
+use Rattle.bfs_calls.specs.Allowances.{left_alone, allowance}
 use Rattle.bfs_calls.specs.Made.{AreBuiltIn}
 use Rattle.bfs_calls.specs.declared.indices.BuiltIn.{BuiltIn}
+
+pub min_less : (a b c : ℕ) → a ≤ b → min a c ≤ min b c
+min_less a b c less = grind (arith, less)
 
 -- one where there is one
 abbrev pub ones : Option ℕ → ℕ
 ones o = cond (is_some o) 1 0
 
 module _ (v : Volume) where
+  -- the blocks of one stream
+  pub one_stream : (inode : ℕ) → left_alone v (with_streams (inode ∷ [])) ≡ length (stream_blocks v inode)
+  one_stream inode =
+      let f : Owner → ℕ = λ (o : Owner). cond o.1 0 (length (stream_blocks v o.0)) in
+      let e : sum_by f ((inode, false) ∷ []) ≡ length (stream_blocks v inode) + sum_by f [] = sum_by-cons f (inode, false) [] in
+      omega (arith, e)
+
   one_row : (rows : List Row) (name : List ℕ) (o : Option ℕ) → IsNumberAt Text rows name o → length (row_at v (assoc Text rows name)) ≡ ones o
   one_row rows name None at = ap (λ (x : Option ℤ). length (row_at v x)) at
   one_row rows name (Some n) at = ap (λ (x : Option ℤ). length (row_at v x)) at
@@ -45,23 +56,23 @@ module _ (v : Volume) where
   levels_are : (id : ℕ) → levels_of v id ≡ (header_in (content v id)).levels
   levels_are id = sym (unsigned_taken 4 1024 (content v id) 8 (omega arith))
 
-  some_levels : (kind : KeyKind) (id : ℕ) → IsWholeTree kind (content v id) → 1 ≤ levels_of v id
+  pub some_levels : (kind : KeyKind) (id : ℕ) → IsWholeTree kind (content v id) → 1 ≤ levels_of v id
   some_levels kind id tree = subst (λ (n : ℕ). 1 ≤ n) (sym (levels_are id)) tree.tree.header.levels
 
   directory_levels : (id : ℕ) (n : Node) (kind : Kind) → kind ≡ Dir → HasContent v id n kind → 1 ≤ levels_of v id
   directory_levels id n kind is content_is = let c : HasContent v id n Dir = subst (HasContent v id n) is content_is in some_levels Text id c.1
 
 -- each of these trees has a level
-abbrev AllLeast : List ℕ → Type 0
+abbrev pub AllLeast : List ℕ → Type 0
 AllLeast [] = Unit {0}
 AllLeast (l ∷ ls) = (1 ≤ l) × AllLeast ls
 
-least_joined : (xs ys : List ℕ) → AllLeast xs → AllLeast ys → AllLeast (xs ++ ys)
+pub least_joined : (xs ys : List ℕ) → AllLeast xs → AllLeast ys → AllLeast (xs ++ ys)
 least_joined [] ys one two = two
 least_joined (x ∷ xs) ys one two = (one.0, least_joined xs ys one.1 two)
 
 -- each row counts at least as if its tree had one level
-rows_least : (rows : List ℕ) → AllLeast rows → 28 * length rows ≤ sum_by row_need rows
+pub rows_least : (rows : List ℕ) → AllLeast rows → 28 * length rows ≤ sum_by row_need rows
 rows_least [] each = omega arith
 rows_least (l ∷ rows) each =
     let rest : 28 * length rows ≤ sum_by row_need rows = rows_least rows each.1 in
@@ -73,14 +84,14 @@ module _ (g : Geometry) (r : Room) (m : ℕ → Option (List ℕ)) (tree : Tree)
   abbrev v : Volume
   v = volume_in g m
 
-  least_at : (o : Option ℤ) (name : List ℕ) → assoc Text lists.names name ≡ o → AllLeast (row_at v o)
+  pub least_at : (o : Option ℤ) (name : List ℕ) → assoc Text lists.names name ≡ o → AllLeast (row_at v o)
   least_at None name is = tt
   least_at (Some value) name is = (some_levels v (lists.kinds name) (natural value) (ready.work.stocked.indices name value is).index.tree, tt)
 
-  least_index : (name : List ℕ) → AllLeast (index_row v name)
+  pub least_index : (name : List ℕ) → AllLeast (index_row v name)
   least_index name = subst (λ (rows : List Row). AllLeast (row_at v (assoc Text rows name))) (sym ready.work.stocked.names) (least_at (assoc Text lists.names name) name refl)
 
-  least_built : AllLeast (built_in_rows v)
+  pub least_built : AllLeast (built_in_rows v)
   least_built = least_joined (index_row v (codes "name") ++ index_row v (codes "size")) (index_row v (codes "last_modified"))
       (least_joined (index_row v (codes "name")) (index_row v (codes "size")) (least_index (codes "name")) (least_index (codes "size"))) (least_index (codes "last_modified"))
 
@@ -92,10 +103,10 @@ module _ (g : Geometry) (r : Room) (m : ℕ → Option (List ℕ)) (tree : Tree)
       omega (arith, rows)
 
   module _ (b : BuiltIn) (built : AreBuiltIn lists b) where
-    count_at : (name : List ℕ) (o : Option ℕ) → IsNumberAt Text lists.names name o → length (index_row v name) ≡ ones o
+    pub count_at : (name : List ℕ) (o : Option ℕ) → IsNumberAt Text lists.names name o → length (index_row v name) ≡ ones o
     count_at name o at = ap (λ (rows : List Row). length (row_at v (assoc Text rows name))) ready.work.stocked.names ∙ one_row v lists.names name o at
 
-    built_count : length (built_in_rows v) ≡ ones b.name + ones b.size + ones b.last_modified
+    pub built_count : length (built_in_rows v) ≡ ones b.name + ones b.size + ones b.last_modified
     built_count =
         let all = length-append (index_row v (codes "name") ++ index_row v (codes "size")) (index_row v (codes "last_modified")) in
         let two = length-append (index_row v (codes "name")) (index_row v (codes "size")) in

@@ -1,6 +1,6 @@
 -- A node's mode, user and group were set.
-use Rattle.std.proofs.Common.{◌≡◌, ◌∙◌, ℕ, ℤ, List, [], ◌∷◌, Option, Some, None, Bool, true, false, inr, refl, sym, ap, subst}
-use Rattle.std.specs.FinMap.{get, insert, empty}
+use Rattle.std.proofs.Common.{◌≡◌, ◌∙◌, ℕ, ℤ, List, [], Option, Some, None, Bool, inr, refl, sym, ap, subst}
+use Rattle.std.specs.FinMap.{get, empty}
 use Rattle.bfs_super.specs.declared.geometry.Geometry.{Geometry}
 use Rattle.bfs_bitmap.specs.Runs.{Room}
 use Rattle.bfs_tree.specs.Changes.{changed}
@@ -9,7 +9,6 @@ use Rattle.bfs_tree.specs.States.{State}
 use Rattle.bfs_tree.specs.Steps.{ByTree}
 use Rattle.bfs_tree.specs.Trees.{Tree, Node, IsNode}
 use Rattle.bfs_tree.specs.declared.call.Call.TheVariants.{SetMode}
-use Rattle.bfs_tree.specs.declared.reply.Reply.{Reply}
 use Rattle.bfs_tree.specs.declared.reply.Reply.TheVariants.{Done, NotFound}
 use Rattle.bfs_shift.specs.Lists.{Lists, Agrees}
 use Rattle.bfs_shift.specs.TreeLaws.{Rekeys}

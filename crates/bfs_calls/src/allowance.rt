@@ -64,7 +64,7 @@ fn target_blocks(kind: &MakeKind, block_size: u32) -> u64
 }
 
 /// How many blocks the bitmap has.
-fn bitmap_blocks(sup: &Super) -> u64
+pub fn bitmap_blocks(sup: &Super) -> u64
     requires { IsValid sup.now }
     ensures value { result ≡ bitmap_length (geometry_of sup.now).blocks (geometry_of sup.now).block_size }
     ensures few { result ≤ 4259840 }

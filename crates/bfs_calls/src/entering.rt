@@ -29,7 +29,7 @@ use std::alloc::Global;
 
 /// The key of a size.
 #[tactic(auto, unfolding(bfs_bytes::specs::Fields::unsigned_bytes))]
-fn size_key(size: u64) -> [u8; 8]
+pub fn size_key(size: u64) -> [u8; 8]
     ensures key { result ≡ unsigned_bytes 8 size }
     ensures length { length result ≡ 8 }
 {
@@ -38,7 +38,7 @@ fn size_key(size: u64) -> [u8; 8]
 
 /// The key of a stamp.
 #[tactic(auto, unfolding(bfs_bytes::specs::Fields::unsigned_bytes, bfs_bytes::specs::Fields::signed64_bytes))]
-fn stamp_key(stamp: i64) -> [u8; 8]
+pub fn stamp_key(stamp: i64) -> [u8; 8]
     ensures key { result ≡ signed64_bytes stamp }
     ensures length { length result ≡ 8 }
 {

@@ -12,7 +12,7 @@ use bfs_stream_pages::MapFault;
 use bfs_txn::BlockFault;
 
 /// A block could not be had.
-pub(crate) fn blocked(fault: BlockFault) -> MapFault
+pub fn blocked(fault: BlockFault) -> MapFault
     ensures { result ≡ tree.Pages (grow.Block fault) }
 {
     TreeFault::Pages(GrowFault::Block(fault))

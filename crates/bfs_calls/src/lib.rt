@@ -11,7 +11,9 @@ mod making;
 mod refusal;
 mod setting;
 
-pub use allowance::make_allowance;
+pub use allowance::{bitmap_blocks, make_allowance};
+pub use entering::{size_key, stamp_key};
+pub use fault::blocked;
 pub use indices::{BuiltIn, built_in_indices};
 pub use making::{make, make_node};
 pub use refusal::make_refusal;

@@ -1,4 +1,5 @@
 pub mod Unnamed
+pub mod Counted
 pub mod Standing
 pub mod Steps
 pub mod Givings

@@ -34,7 +34,7 @@ pub struct IndexAt {
 }
 
 /// A block isn't what it has to be.
-fn damaged(block: u64) -> MapFault
+pub fn damaged(block: u64) -> MapFault
     ensures cause { (old new : Counts) → HasReadCause old new result }
 {
     TreeFault::Pages(GrowFault::Block(BlockFault::Damaged { block }))
@@ -81,11 +81,7 @@ fn kind_at<B: Blocks>(site: Site, under: &mut B, inode: u64) -> Result<KeyKind, 
 }
 
 /// The index to whose inode a row of the index directory leads.
-pub(crate) fn index_of<B: Blocks>(
-    site: Site,
-    under: &mut B,
-    inode: u64,
-) -> Result<IndexAt, MapFault>
+pub fn index_of<B: Blocks>(site: Site, under: &mut B, inode: u64) -> Result<IndexAt, MapFault>
     requires valid { IsValid site.sup }
     requires size { B.size under.old ≡ site.sup.block_size }
     ensures inode { IfOk result (λ at. at.inode ≡ inode) }
@@ -118,7 +114,7 @@ pub(crate) fn is_proper_name(name: &[u8]) -> bool
 }
 
 /// The index of a name, or None where there is none.
-pub(crate) fn index_at<E: Edits>(
+pub fn index_at<E: Edits>(
     alloc: Global,
     sup: &Super,
     bitmap: &mut Bitmap,

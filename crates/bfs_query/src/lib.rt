@@ -11,5 +11,5 @@ mod order;
 
 pub use attributes::{attr_list, attr_read};
 pub use finding::index_find;
-pub use kind::IndexAt;
+pub use kind::{IndexAt, damaged, index_at, index_of};
 pub use listing::index_list;

@@ -30,7 +30,7 @@ pub(crate) fn blocked(fault: BlockFault) -> MapFault
 }
 
 /// Reads whether an inode keeps a link's target in the place of a stream.
-pub(crate) fn stands_alone<B: Blocks>(site: Site, under: &mut B, id: u64) -> Result<bool, MapFault>
+pub fn stands_alone<B: Blocks>(site: Site, under: &mut B, id: u64) -> Result<bool, MapFault>
     requires valid { IsValid site.sup }
     requires size { B.size under.old ≡ site.sup.block_size }
     ensures alone { (m : ℕ → Option (List ℕ)) → B.told under.old ≡ Some m → IsSome (m id) → IfOk result (λ alone. alone ≡ keeps_target (contents m id)) }
@@ -105,7 +105,7 @@ fn push_directory<B: Blocks>(
 }
 
 /// The inodes with streams that a node has, by its own inode and whether that has a stream.
-pub(crate) fn stream_inodes<B: Blocks>(
+pub fn stream_inodes<B: Blocks>(
     site: Site,
     under: &mut B,
     id: u64,

@@ -7,3 +7,4 @@ mod giving;
 mod inodes;
 
 pub use giving::give_node;
+pub use inodes::{stands_alone, stream_inodes};

@@ -3,7 +3,6 @@ use mir.Syntax.{w32, w64}
 use mir.Val.{to_z, of_z}
 use Rattle.bfs_super.specs.Geometry.{geometry_of}
 use Rattle.bfs_shift.specs.Work.{IsStepped}
-use Rattle.bfs_moves.specs.declared.status.Status.{Status}
 use Rattle.bfs_moves.specs.Statuses.{with_status}
 use Rattle.bfs_calls.proofs.Status.{node_there, set_so}
 use Rattle.bfs_calls.proofs.setting.set_mode.Goals as goal

@@ -1,0 +1,8 @@
+pub mod Refusing
+pub mod Faulty
+pub mod Sought
+pub mod Gone
+pub mod Lengths
+pub mod Indexed
+pub mod Allowing
+pub mod Keyed

@@ -1,0 +1,75 @@
+// A node is removed.
+ghost use Rattle.std.specs.Prelude.{◌≡◌, ◌<◌, ℕ, List, Option, Some, OnOk, IfErr};
+ghost use Rattle.bfs_super.specs.Conditions.{IsValid, natural};
+ghost use Rattle.bfs_super.specs.Geometry.{geometry_of};
+ghost use Rattle.bfs_bitmap.specs.Runs.{as_kept};
+ghost use Rattle.bfs_txn.specs.Faults.{AreLater};
+ghost use Rattle.bfs_txn.specs.Told.{StaysChanged};
+ghost use Rattle.bfs_stream.specs.Grown.{IsOfVolume};
+ghost use Rattle.bfs_stream.specs.Sizes.{sizes_of};
+ghost use Rattle.bfs_stream.specs.Standing.{standing};
+ghost use Rattle.bfs_tree.specs.Trees.{Tree};
+ghost use Rattle.bfs_maps.specs.Refused.{IsUndone};
+ghost use Rattle.bfs_shift.specs.Lists.{Lists};
+ghost use Rattle.bfs_look.specs.Ready.{IsReady, HasReady};
+ghost use Rattle.bfs_calls.specs.Done.{HasAnswerCause};
+ghost use Rattle.bfs_remove_node.specs.Removed.{MayBeRemoved, IsRemovedIn};
+
+use crate::child::child_id;
+use crate::naming::leave_name;
+use bfs_bitmap::Bitmap;
+use bfs_make::Site;
+use bfs_stream_pages::MapFault;
+use bfs_super::Super;
+use bfs_txn::Edits;
+use bfs_unlist::unlist_node;
+use bfs_unmake::give_node;
+use std::alloc::Global;
+
+/// Removes the child of a name where the call has no refusal of its own: it leaves every index that lists it and its directory, whose stamp
+/// of the last change of its content becomes that of the call, and all its blocks are given back. No run is taken. After a fault the call
+/// is to be dropped.
+pub fn remove_node<E: Edits>(
+    alloc: Global,
+    sup: &Super,
+    bitmap: &mut Bitmap,
+    edits: &mut E,
+    dir: u64,
+    name: &[u8],
+    stamp: i64,
+) -> Result<(), MapFault>
+    requires valid { IsValid sup.now }
+    requires size { E.size edits.old ≡ sup.now.block_size }
+    requires volume { IsOfVolume (sizes_of sup.now) bitmap.old }
+    requires ready { (m : ℕ → Option (List ℕ)) → E.told edits.old ≡ Some m → HasReady (geometry_of sup.now) bitmap.old m }
+    requires inside { dir < natural sup.now.num_blocks }
+    requires may { (m : ℕ → Option (List ℕ)) (tree : Tree) (lists : Lists) → E.told edits.old ≡ Some m → IsReady (geometry_of sup.now) bitmap.old m tree lists → MayBeRemoved tree dir name.now }
+    ensures removed { (m : ℕ → Option (List ℕ)) (tree : Tree) (lists : Lists) → E.told edits.old ≡ Some m → IsReady (geometry_of sup.now) bitmap.old m tree lists → OnOk result (IsRemovedIn (geometry_of sup.now) bitmap.old bitmap.new m tree dir name.now stamp (E.told edits.new) (E.changed edits.old) (E.changed edits.new)) }
+    ensures undone { (m : ℕ → Option (List ℕ)) (tree : Tree) (lists : Lists) → E.told edits.old ≡ Some m → IsReady (geometry_of sup.now) bitmap.old m tree lists → IfErr result IsUndone }
+    ensures cause { IfErr result (HasAnswerCause (E.counts edits.old) (E.counts edits.new)) }
+    ensures rest { bitmap.new ≡ record bitmap.old { given = bitmap.new.given; tally = bitmap.new.tally } }
+    ensures kept { as_kept bitmap.new ≡ as_kept bitmap.old }
+    ensures standing { standing bitmap.new ≡ standing bitmap.old }
+    ensures stays { StaysChanged (E.changed edits.old) (E.changed edits.new) }
+    ensures size { E.size edits.new ≡ E.size edits.old }
+    ensures frame { E.frame edits.new ≡ E.frame edits.old }
+    ensures later { AreLater (E.counts edits.old) (E.counts edits.new) }
+{
+    let id = match child_id(alloc, sup, bitmap, edits, dir, name) {
+        Ok(id) => id,
+        Err(fault) => return Err(fault),
+    };
+    match unlist_node(alloc, sup, bitmap, edits, id) {
+        Ok(()) => {}
+        Err(fault) => return Err(fault),
+    }
+    match leave_name(alloc, sup, bitmap, edits, dir, name, stamp) {
+        Ok(()) => {}
+        Err(fault) => return Err(fault),
+    }
+    let site = Site { alloc, sup: *sup };
+    match give_node(site, bitmap, edits, id) {
+        Ok(()) => Ok(()),
+        Err(fault) => Err(fault),
+    }
+}

@@ -1,0 +1,14 @@
+pub mod Owned
+pub mod Matched
+pub mod Whole
+pub mod Faulted
+pub mod Rekeyed
+pub mod Resized
+pub mod Roomy
+pub mod Cut
+pub mod Grew
+pub mod Written
+pub mod Refiled
+pub mod Refusing
+pub mod Steps
+pub mod Allowed

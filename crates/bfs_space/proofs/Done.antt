@@ -4,6 +4,7 @@ use Rattle.bfs_super.specs.declared.geometry.Geometry.{Geometry}
 use Rattle.bfs_bitmap.specs.Runs.{Room, is_reserved}
 use Rattle.bfs_tree.specs.declared.call.Call.{Call}
 use Rattle.bfs_tree.specs.declared.reply.Reply.{Reply}
+use Rattle.bfs_tree.specs.declared.state.Hold.{Hold}
 use Rattle.bfs_tree.specs.States.{State}
 use Rattle.bfs_tree.specs.Steps.{Reads}
 use Rattle.bfs_tree.specs.Trees.{Tree}
@@ -49,25 +50,27 @@ module _ (g : Geometry) (v now : Room) (m : ℕ → Option (List ℕ)) (tree : T
       set = λ k meta none. by_set k (done.step.goes_on.entered k meta) none;
     }
 
-  pub done_is_answered : (stamp : ℤ) (call : Call) (reply : Reply) → IsDoneSo g v now m tree stamp call reply told old new → IsAnswered g v now m tree stamp call reply told old new
-  done_is_answered stamp call reply so = record {
+  pub done_is_answered : (holds : List Hold) (stamp : ℤ) (call : Call) (reply : Reply) → IsDoneSo g v now m tree stamp call reply told old new → IsAnswered g v now m tree holds stamp call reply told old new
+  done_is_answered holds stamp call reply so = record {
     map = so.done.step.map;
     is = so.done.step.is;
     after = so.after;
     called = done_is_called so.after so.done;
-    by_tree = λ s session same. let a = so.answers s same in (a.0, a.1, a.2 session);
+    by_tree = λ s same held. so.answers s same;
   }
 
 -- a call that was answered and has changed nothing
-pub read_is_answered : (g : Geometry) (v : Room) (m : ℕ → Option (List ℕ)) (tree : Tree) (lists : Lists) (told : Option (ℕ → Option (List ℕ))) (old : ℕ → Bool) (stamp : ℤ) (call : Call) (reply : Reply)
-    → IsReady g v m tree lists → told ≡ Some m → ((s : State) → s.tree ≡ tree → Reads call s reply) → IsAnswered g v v m tree stamp call reply told old old
-read_is_answered g v m tree lists told old stamp call reply ready is reads = done_is_answered g v v m tree lists told old old ready stamp call reply (record {
+pub read_is_answered : (g : Geometry) (v : Room) (m : ℕ → Option (List ℕ)) (tree : Tree) (holds : List Hold) (lists : Lists) (told : Option (ℕ → Option (List ℕ))) (old : ℕ → Bool) (stamp : ℤ) (call : Call) (reply : Reply)
+    → IsReady g v m tree lists → told ≡ Some m → ((s : State) → s.tree ≡ tree → s.holds ≡ holds → Reads call s reply) → IsAnswered g v v m tree holds stamp call reply told old old
+read_is_answered g v m tree holds lists told old stamp call reply ready is reads = record {
+  map = m;
+  is = is;
   after = tree;
-  done = record {
+  called = done_is_called g v v m tree lists told old old ready tree (record {
     lists = lists;
     step = record { map = m; is = is; work = ready.work; goes_on = goes_on_same g v m tree old };
     agrees = ready.agrees;
     root = refl;
-  };
-  answers = λ s same. (s, same, λ session. reads s same session stamp);
-})
+  });
+  by_tree = λ s same held. (s, same, λ session. reads s same held session stamp);
+}

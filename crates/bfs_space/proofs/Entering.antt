@@ -23,6 +23,7 @@ use Rattle.bfs_space.specs.Answered.{IsKept}
 use Rattle.bfs_space.specs.Books.{SpaceBooks, IsIdle, entry_noted}
 use Rattle.bfs_space.specs.Called.{IsCalled, IsFaceTold, is_changed, with_entry}
 use Rattle.bfs_space.specs.Faces.{IsFaceOf, HasEntered}
+use Rattle.bfs_space.specs.Holds.{holds_after}
 use Rattle.bfs_space.proofs.Called.{face_is_ready, call_entered, call_set, call_told}
 use Rattle.bfs_space.proofs.Following.{follows, tree_after, tree_unsynced}
 use Rattle.bfs_space.proofs.Turned.{outside_for, outside_turn, outside_unsynced}
@@ -44,15 +45,15 @@ module _ (t0 : Mounted) (old : SpaceBooks) (m : ℕ → Option (List ℕ)) (face
     entry = entry_noted old session tag now call reply
 
     -- a call that was kept
-    module _ (new : Room) (group : List (ℕ × List ℕ)) (sized : AreOfSize old.view.sup.block_size group) (done : IsDoneWithin (geometry_of old.view.sup) old.room new m old.view.group group (after t0 old.view.history) entry.stamp call reply) where
-      abbrev kept : IsKept (geometry_of old.view.sup) old.room new m old.view.group group (after t0 old.view.history) entry.stamp call reply
+    module _ (new : Room) (group : List (ℕ × List ℕ)) (sized : AreOfSize old.view.sup.block_size group) (done : IsDoneWithin (geometry_of old.view.sup) old.room new m old.view.group group (after t0 old.view.history) (holds_after t0 old.view.history) entry.stamp call reply) where
+      abbrev kept : IsKept (geometry_of old.view.sup) old.room new m old.view.group group (after t0 old.view.history) (holds_after t0 old.view.history) entry.stamp call reply
       kept = done.kept
 
       abbrev since : SpaceView
       since = with_entry old.view kept.room group entry
 
       turn : (t : State) × (t.tree ≡ kept.after) × ByTree session entry.stamp call reply (state_after t0 old.view.history) t
-      turn = kept.by_tree (state_after t0 old.view.history) session refl
+      turn = let a = kept.by_tree (state_after t0 old.view.history) refl refl in (a.0, a.1, a.2 session)
 
       unsynced : (upto : ℕ) → reply ≡ replies.Synced upto → ⊥
       unsynced = tree_unsynced session entry.stamp call reply (state_after t0 old.view.history) turn.0 no_sync turn.2
@@ -99,12 +100,12 @@ module _ (t0 : Mounted) (old : SpaceBooks) (m : ℕ → Option (List ℕ)) (face
           (λ j. record old.view { used = used j; group = group; history = items j; given = runs j }) refl
 
     -- a call that was turned away
-    module _ (why : IsOutside (geometry_of old.view.sup) old.room (over old.view.group m) (after t0 old.view.history) (IsIdle old) call reply) where
+    module _ (why : IsOutside (geometry_of old.view.sup) old.room (over old.view.group m) (after t0 old.view.history) (holds_after t0 old.view.history) (IsIdle old) call reply) where
       turned : Turn session entry.stamp call reply (state_after t0 old.view.history) (state_after t0 old.view.history)
       turned = outside_turn (geometry_of old.view.sup) old.room (over old.view.group m) (IsIdle old) session entry.stamp call reply (state_after t0 old.view.history) why
 
       silent : (upto : ℕ) → reply ≡ replies.Synced upto → ⊥
-      silent upto is = outside_unsynced (geometry_of old.view.sup) old.room (over old.view.group m) (after t0 old.view.history) (IsIdle old) call reply upto why is
+      silent upto is = outside_unsynced (geometry_of old.view.sup) old.room (over old.view.group m) (after t0 old.view.history) (holds_after t0 old.view.history) (IsIdle old) call reply upto why is
 
       next_entry : Follows t0 old.view.history entry
       next_entry = follows t0 old.view.history session tag now call reply (state_after t0 old.view.history) other face_of.sound.legal turned silent quiet
@@ -145,8 +146,8 @@ module _ (t0 : Mounted) (old : SpaceBooks) (m : ℕ → Option (List ℕ)) (face
 
     -- a call that has a reply is entered
     pub replied_with : (Idle : Type 0) (new : Room) (group : List (ℕ × List ℕ)) (history : List Entry) (promised : List ℕ) (stop : Option Stop) (left : ℕ) → AreOfSize old.view.sup.block_size group → (Idle → IsIdle old)
-        → IsReplied (geometry_of old.view.sup) old.room new m old.view.group group (after t0 old.view.history) Idle entry.stamp call reply → history ≡ old.view.history ++ entry ∷ []
+        → IsReplied (geometry_of old.view.sup) old.room new m old.view.group group (after t0 old.view.history) (holds_after t0 old.view.history) Idle entry.stamp call reply → history ≡ old.view.history ++ entry ∷ []
         → HasEntered t0 old (record { view = record old.view { used = new.tally.used; group = group; history = history; given = new.given }; room = new; promised = promised; stop = stop; left = left }) m session tag now call
     replied_with Idle new group history promised stop left sized idle (inl done) items = entered_with new group sized done history promised stop left items
     replied_with Idle new group history promised stop left sized idle (inr away) items =
-        away_with (outside_for (geometry_of old.view.sup) old.room (over old.view.group m) (after t0 old.view.history) Idle (IsIdle old) call reply idle away.why) new group history promised stop left away.room away.group items
+        away_with (outside_for (geometry_of old.view.sup) old.room (over old.view.group m) (after t0 old.view.history) (holds_after t0 old.view.history) Idle (IsIdle old) call reply idle away.why) new group history promised stop left away.room away.group items

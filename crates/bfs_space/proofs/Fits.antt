@@ -10,6 +10,7 @@ use Rattle.bfs_bitmap.specs.Runs.{Room, Fits}
 use Rattle.bfs_txn.specs.Changed.{Ascends, AreOfSize, newest, number_at, or_else, over}
 use Rattle.bfs_tree.specs.declared.call.Call.{Call}
 use Rattle.bfs_tree.specs.declared.reply.Reply.{Reply}
+use Rattle.bfs_tree.specs.declared.state.Hold.{Hold}
 use Rattle.bfs_tree.specs.Trees.{Tree}
 use Rattle.bfs_device.specs.Layouts.{Layout, IsData, is_data}
 use Rattle.bfs_device.specs.Layouts.{layout_of}
@@ -114,10 +115,10 @@ module _ (l : Layout) (size mark : ℕ) (before now kept : List (ℕ × List ℕ
   }
 
 -- a call that was answered is kept
-pub kept_of : (g : Geometry) (v room new : Room) (m : ℕ → Option (List ℕ)) (tree : Tree) (stamp : ℤ) (call : Call) (reply : Reply) (before now kept : List (ℕ × List ℕ)) (told : Option (ℕ → Option (List ℕ)))
-    → told ≡ Some m → ((k : ℕ) → newest kept k ≡ newest now k) → new ≡ room_kept room → ((x : ℕ → Option (List ℕ)) → Fits room x → Fits new x) → IsAnswered g v room (over before m) tree stamp call reply (option_map (over now) told) (is_changed before) (is_changed now)
-    → IsKept g v new m before kept tree stamp call reply
-kept_of g v room new m tree stamp call reply before now kept told is reads settled keeps answered = record {
+pub kept_of : (g : Geometry) (v room new : Room) (m : ℕ → Option (List ℕ)) (tree : Tree) (holds : List Hold) (stamp : ℤ) (call : Call) (reply : Reply) (before now kept : List (ℕ × List ℕ)) (told : Option (ℕ → Option (List ℕ)))
+    → told ≡ Some m → ((k : ℕ) → newest kept k ≡ newest now k) → new ≡ room_kept room → ((x : ℕ → Option (List ℕ)) → Fits room x → Fits new x) → IsAnswered g v room (over before m) tree holds stamp call reply (option_map (over now) told) (is_changed before) (is_changed now)
+    → IsKept g v new m before kept tree holds stamp call reply
+kept_of g v room new m tree holds stamp call reply before now kept told is reads settled keeps answered = record {
   room = room;
   kept = settled;
   after = answered.after;
@@ -155,11 +156,11 @@ no_stray sup v room m map tree after before now mark block sealed called stray =
     by_change (inr now_is) = stray.stray (data_when sup block now_is.0.0 0 now_is.0.1)
 
 -- so a call that is answered over a volume that is told is kept, but for want of room in the log or of what it is allowed
-pub kept_but : (sup : Super) (v room : Room) (m : ℕ → Option (List ℕ)) (tree : Tree) (stamp : ℤ) (call : Call) (reply : Reply) (told : Option (ℕ → Option (List ℕ))) (before now : List (ℕ × List ℕ)) (mark allowed was : ℕ) (why : Unkept) → MayBeSealed (layout_of sup) sup.block_size before
-    → IsAnswered (geometry_of sup) v room m tree stamp call reply told (is_changed before) (is_changed now) → IsUnfit (layout_of sup) allowed was room.tally.used now mark why → IsCallFault (calling.Unkept why)
-kept_but sup v room m tree stamp call reply told before now mark allowed was (Damaged block) sealed answered unfit = no_stray sup v room m answered.map tree answered.after before now mark block sealed answered.called unfit
-kept_but sup v room m tree stamp call reply told before now mark allowed was (TooMany blocks) sealed answered unfit = tt
-kept_but sup v room m tree stamp call reply told before now mark allowed was Beyond sealed answered unfit = tt
+pub kept_but : (sup : Super) (v room : Room) (m : ℕ → Option (List ℕ)) (tree : Tree) (holds : List Hold) (stamp : ℤ) (call : Call) (reply : Reply) (told : Option (ℕ → Option (List ℕ))) (before now : List (ℕ × List ℕ)) (mark allowed was : ℕ) (why : Unkept) → MayBeSealed (layout_of sup) sup.block_size before
+    → IsAnswered (geometry_of sup) v room m tree holds stamp call reply told (is_changed before) (is_changed now) → IsUnfit (layout_of sup) allowed was room.tally.used now mark why → IsCallFault (calling.Unkept why)
+kept_but sup v room m tree holds stamp call reply told before now mark allowed was (Damaged block) sealed answered unfit = no_stray sup v room m answered.map tree answered.after before now mark block sealed answered.called unfit
+kept_but sup v room m tree holds stamp call reply told before now mark allowed was (TooMany blocks) sealed answered unfit = tt
+kept_but sup v room m tree holds stamp call reply told before now mark allowed was Beyond sealed answered unfit = tt
 
 -- and in that case those of the open group and of the call are more than it takes
 pub crowding_of : (l : Layout) (allowed was used : ℕ) (now : List (ℕ × List ℕ)) (mark : ℕ) (why : Unkept) → IsUnfit l allowed was used now mark why → IsCrowding l allowed mark (calling.Unkept why)

@@ -1,10 +1,14 @@
 pub mod Stops
 pub mod Stamps
+pub mod Held
+pub mod Lasts
 pub mod Groups
 pub mod Called
 pub mod Fits
 pub mod Within
 pub mod Done
+pub mod Left
+pub mod Gone
 pub mod Turned
 pub mod Following
 pub mod Entering

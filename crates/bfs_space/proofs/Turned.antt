@@ -19,6 +19,7 @@ use Rattle.bfs_txn.specs.declared.fault.BlockFault.TheVariants as block
 use Rattle.bfs_stream.specs.Faults.{IsCauseIn}
 use Rattle.bfs_tree.specs.declared.call.Call.{Call}
 use Rattle.bfs_tree.specs.declared.reply.Reply.{Reply}
+use Rattle.bfs_tree.specs.declared.state.Hold.{Hold}
 use Rattle.bfs_tree.specs.declared.reply.Reply.TheVariants as replies
 use Rattle.bfs_tree.specs.States.{State}
 use Rattle.bfs_tree.specs.Steps.{Turn}
@@ -35,15 +36,15 @@ use Rattle.bfs_space.specs.declared.replying.NoReply.TheVariants.{NoMemory, Drai
 some_reply : (o : Option Reply) (r s : Reply) → o ≡ Some r → o ≡ Some s → s ≡ r
 some_reply o r s a b = let e : Some r ≡ Some s = sym a ∙ b in cc
 
-module _ (g : Geometry) (v : Room) (m : ℕ → Option (List ℕ)) (t : Tree) (Idle : Type 0) (call : Call) where
+module _ (g : Geometry) (v : Room) (m : ℕ → Option (List ℕ)) (t : Tree) (holds : List Hold) (Idle : Type 0) (call : Call) where
   -- a fault of a block that is no damage
-  pub block_outside : (f : BlockFault) (r : Reply) → reply_to_block f ≡ Some r → ¬ IsDamage f → IsOutside g v m t Idle call r
-  block_outside (block.Disk before after) r is fine = let e : replies.DiskFault before after false ≡ r = cc in subst (IsOutside g v m t Idle call) e refl
-  block_outside (block.Stopped durable faults) r is fine = let e : replies.Stopped durable faults ≡ r = cc in subst (IsOutside g v m t Idle call) e tt
+  pub block_outside : (f : BlockFault) (r : Reply) → reply_to_block f ≡ Some r → ¬ IsDamage f → IsOutside g v m t holds Idle call r
+  block_outside (block.Disk before after) r is fine = let e : replies.DiskFault before after false ≡ r = cc in subst (IsOutside g v m t holds Idle call) e refl
+  block_outside (block.Stopped durable faults) r is fine = let e : replies.Stopped durable faults ≡ r = cc in subst (IsOutside g v m t holds Idle call) e tt
   block_outside (block.Damaged b) r is fine = absurd (fine tt)
   block_outside block.NoMemory r is fine = absurd cc
 
-  pub step_outside : (f : TreeFault GrowFault) (r : Reply) → reply_to f ≡ Some r → IsUnanswered f → IsOutside g v m t Idle call r
+  pub step_outside : (f : TreeFault GrowFault) (r : Reply) → reply_to f ≡ Some r → IsUnanswered f → IsOutside g v m t holds Idle call r
   step_outside tree.Exists r is why = absurd why
   step_outside tree.Absent r is why = absurd why
   step_outside (tree.Damaged page sort) r is why = absurd why
@@ -78,40 +79,40 @@ that_err o P (Ok r) that none = tt
 that_err o P (Err e) that none = subst P (sym that.1) none
 
 -- why a call was turned away, for another word on what is held back
-pub outside_for : (g : Geometry) (v : Room) (m : ℕ → Option (List ℕ)) (t : Tree) (P Q : Type 0) (call : Call) (r : Reply) → (P → Q) → IsOutside g v m t P call r → IsOutside g v m t Q call r
-outside_for g v m t P Q call (replies.NoSpace free needed) f w = record { change = w.change; idle = f w.idle; takes = w.takes; free_is = w.free_is; within = w.within; why = w.why }
-outside_for g v m t P Q call (replies.NoLogRoom blocks room) f w = record { change = w.change; idle = f w.idle; room_is = w.room_is; within = w.within; why = w.why }
-outside_for g v m t P Q call (replies.DiskFault before after stops) f w = w
-outside_for g v m t P Q call (replies.Stopped durable faults) f w = tt
-outside_for g v m t P Q call _ f w = absurd w
+pub outside_for : (g : Geometry) (v : Room) (m : ℕ → Option (List ℕ)) (t : Tree) (holds : List Hold) (P Q : Type 0) (call : Call) (r : Reply) → (P → Q) → IsOutside g v m t holds P call r → IsOutside g v m t holds Q call r
+outside_for g v m t holds P Q call (replies.NoSpace free needed) f w = record { change = w.change; idle = f w.idle; takes = w.takes; free_is = w.free_is; within = w.within; why = w.why }
+outside_for g v m t holds P Q call (replies.NoLogRoom blocks room) f w = record { change = w.change; idle = f w.idle; room_is = w.room_is; within = w.within; why = w.why }
+outside_for g v m t holds P Q call (replies.DiskFault before after stops) f w = w
+outside_for g v m t holds P Q call (replies.Stopped durable faults) f w = tt
+outside_for g v m t holds P Q call _ f w = absurd w
 
-pub put_off_for : (g : Geometry) (v : Room) (m : ℕ → Option (List ℕ)) (begun : ℕ) (t : Tree) (P Q : Type 0) (call : Call) → (Q → P) → IsPutOff g v m begun t P call → IsPutOff g v m begun t Q call
-put_off_for g v m begun t P Q call f w = record { change = w.change; busy = λ q. w.busy (f q); needed = w.needed; within = w.within; why = w.why }
+pub put_off_for : (g : Geometry) (v : Room) (m : ℕ → Option (List ℕ)) (begun : ℕ) (t : Tree) (holds : List Hold) (P Q : Type 0) (call : Call) → (Q → P) → IsPutOff g v m begun t holds P call → IsPutOff g v m begun t holds Q call
+put_off_for g v m begun t holds P Q call f w = record { change = w.change; busy = λ q. w.busy (f q); needed = w.needed; within = w.within; why = w.why }
 
 -- a call that was turned away is a turn, which leaves the state as it was
-pub outside_turn : (g : Geometry) (v : Room) (m : ℕ → Option (List ℕ)) (Idle : Type 0) (session : ℕ) (stamp : ℤ) (call : Call) (r : Reply) (s : State) → IsOutside g v m s.tree Idle call r → Turn session stamp call r s s
-outside_turn g v m Idle session stamp call (replies.NoSpace free needed) s w = Turn.no_room (w.change.fine s refl) w.change.changes refl refl
-outside_turn g v m Idle session stamp call (replies.NoLogRoom blocks room) s w = Turn.no_room (w.change.fine s refl) w.change.changes refl refl
+pub outside_turn : (g : Geometry) (v : Room) (m : ℕ → Option (List ℕ)) (Idle : Type 0) (session : ℕ) (stamp : ℤ) (call : Call) (r : Reply) (s : State) → IsOutside g v m s.tree s.holds Idle call r → Turn session stamp call r s s
+outside_turn g v m Idle session stamp call (replies.NoSpace free needed) s w = Turn.no_room (w.change.fine s refl refl) w.change.changes refl refl
+outside_turn g v m Idle session stamp call (replies.NoLogRoom blocks room) s w = Turn.no_room (w.change.fine s refl refl) w.change.changes refl refl
 outside_turn g v m Idle session stamp call (replies.DiskFault before after stops) s w = Turn.by_disk refl refl
 outside_turn g v m Idle session stamp call (replies.Stopped durable faults) s w = Turn.by_disk refl refl
 outside_turn g v m Idle session stamp call _ s w = absurd w
 
-pub outside_unsynced : (g : Geometry) (v : Room) (m : ℕ → Option (List ℕ)) (t : Tree) (Idle : Type 0) (call : Call) (r : Reply) (upto : ℕ) → IsOutside g v m t Idle call r → r ≡ replies.Synced upto → ⊥
-outside_unsynced g v m t Idle call r upto w is = subst (IsOutside g v m t Idle call) is w
+pub outside_unsynced : (g : Geometry) (v : Room) (m : ℕ → Option (List ℕ)) (t : Tree) (holds : List Hold) (Idle : Type 0) (call : Call) (r : Reply) (upto : ℕ) → IsOutside g v m t holds Idle call r → r ≡ replies.Synced upto → ⊥
+outside_unsynced g v m t holds Idle call r upto w is = subst (IsOutside g v m t holds Idle call) is w
 
 -- more blocks are too long where fewer are
 pub longer : (g : Geometry) (n k : ℕ) → n ≤ k → IsTooLong g n → IsTooLong g k
 longer g n k le long = let more : n + ceil n 126 ≤ k + ceil k 126 = grind (arith, le) in omega (arith, long, more)
 
 -- a call that found no run is put off where space is short
-pub put_off_of : (g : Geometry) (v : Room) (m : ℕ → Option (List ℕ)) (begun : ℕ) (t : Tree) (Idle : Type 0) (call : Call) (needed : ℕ) (e : NoReply) → IsChange t call → ¬ Idle → takes_out call ≡ false → needed ≤ logged_need (volume_in g m) t call
-    → (e ≡ Drain → HasFewRuns v m 1 needed ⊎ HasFewRuns v m (array_run v) needed) → IsNoReply g v m begun t Idle call e
-put_off_of g v m begun t Idle call needed NoMemory change busy takes within few = tt
-put_off_of g v m begun t Idle call needed Drain change busy takes within few = record { change = change; busy = busy; needed = needed; within = within; why = inr (takes, few refl) }
+pub put_off_of : (g : Geometry) (v : Room) (m : ℕ → Option (List ℕ)) (begun : ℕ) (t : Tree) (holds : List Hold) (Idle : Type 0) (call : Call) (needed : ℕ) (e : NoReply) → IsChange t holds call → ¬ Idle → takes_out call ≡ false → needed ≤ logged_need (volume_in g m) t call
+    → (e ≡ Drain → HasFewRuns v m 1 needed ⊎ HasFewRuns v m (array_run v) needed) → IsNoReply g v m begun t holds Idle call e
+put_off_of g v m begun t holds Idle call needed NoMemory change busy takes within few = tt
+put_off_of g v m begun t holds Idle call needed Drain change busy takes within few = record { change = change; busy = busy; needed = needed; within = within; why = inr (takes, few refl) }
 
 -- a reply that comes from outside, after nothing has changed
-pub away : (g : Geometry) (v new : Room) (m : ℕ → Option (List ℕ)) (before now : List (ℕ × List ℕ)) (t : Tree) (Idle : Type 0) (stamp : ℤ) (call : Call) (r : Reply) → new ≡ v → now ≡ before → IsOutside g v (over before m) t Idle call r → IsReplied g v new m before now t Idle stamp call r
-away g v new m before now t Idle stamp call r room group why = inr (record { room = room; group = group; why = why })
+pub away : (g : Geometry) (v new : Room) (m : ℕ → Option (List ℕ)) (before now : List (ℕ × List ℕ)) (t : Tree) (holds : List Hold) (Idle : Type 0) (stamp : ℤ) (call : Call) (r : Reply) → new ≡ v → now ≡ before → IsOutside g v (over before m) t holds Idle call r → IsReplied g v new m before now t holds Idle stamp call r
+away g v new m before now t holds Idle stamp call r room group why = inr (record { room = room; group = group; why = why })
 
 -- the blocks of the log are two at least
 pub too_long : (sup : Super) (n : ℕ) → IsValid sup → (layout_of sup).len ≤ n + ceil n 126 → IsTooLong (geometry_of sup) n

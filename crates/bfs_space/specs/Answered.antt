@@ -4,32 +4,38 @@ use Rattle.bfs_base.specs.Lists.{Has}
 use Rattle.bfs_super.specs.declared.geometry.Geometry.{Geometry}
 use Rattle.bfs_super.specs.Conditions.{ceil}
 use Rattle.bfs_bitmap.specs.Givens.{settled}
-use Rattle.bfs_bitmap.specs.Runs.{Room, Fits}
+use Rattle.bfs_bitmap.specs.Runs.{Room, Fits, IsSettled}
 use Rattle.bfs_txn.specs.Changed.{number_at, over}
 use Rattle.bfs_txn.specs.Faults.{Counts}
 use Rattle.bfs_tree.specs.declared.call.Call.{Call}
 use Rattle.bfs_tree.specs.declared.reply.Reply.{Reply}
+use Rattle.bfs_tree.specs.declared.state.Hold.{Hold}
 use Rattle.bfs_tree.specs.States.{State}
-use Rattle.bfs_tree.specs.Steps.{ByTree}
+use Rattle.bfs_tree.specs.Steps.{Writes}
 use Rattle.bfs_tree.specs.Trees.{Tree}
 use Rattle.bfs_device.specs.Layouts.{Layout, IsData, ring_count}
 use Rattle.bfs_calls.specs.Done.{IsDoneSo, IsUnanswered, HasAnswerCause}
 use Rattle.bfs_look.specs.Ready.{IsReady}
-use Rattle.bfs_shift.specs.Lists.{Lists}
+use Rattle.bfs_leave.specs.Leaving.{IsLeft}
+use Rattle.bfs_shift.specs.Lists.{Lists, Agrees}
 use Rattle.bfs_space.specs.Called.{IsCalled, is_changed}
 use Rattle.bfs_space.specs.declared.calling.CallFault.{CallFault}
 use Rattle.bfs_space.specs.declared.calling.CallFault.TheVariants as calling
 use Rattle.bfs_space.specs.declared.keep.Unkept.{Unkept}
 use Rattle.bfs_space.specs.declared.keep.Unkept.TheVariants.{Damaged, TooMany, Beyond}
 
+-- the answer and the tree since are those of the plain tree, in every state that has this tree and these holds
+abbrev pub AnswersIn : ℤ → Call → Reply → Tree → List Hold → Tree → Type 0
+AnswersIn stamp call reply tree holds after = (s : State) → s.tree ≡ tree → s.holds ≡ holds → (t : State) × (t.tree ≡ after) × Writes stamp call reply s t
+
 -- A call was answered: what is told now is what the call has made of the volume, and the answer and the tree since are those of the plain
--- tree, in every state that has this tree.
-pub record IsAnswered (g : Geometry) (v now : Room) (m : ℕ → Option (List ℕ)) (tree : Tree) (stamp : ℤ) (call : Call) (reply : Reply) (told : Option (ℕ → Option (List ℕ))) (old new : ℕ → Bool) : Type 0 where
+-- tree, in every state that has this tree and these holds.
+pub record IsAnswered (g : Geometry) (v now : Room) (m : ℕ → Option (List ℕ)) (tree : Tree) (holds : List Hold) (stamp : ℤ) (call : Call) (reply : Reply) (told : Option (ℕ → Option (List ℕ))) (old new : ℕ → Bool) : Type 0 where
   pub map : ℕ → Option (List ℕ)
   pub is : told ≡ Some map
   pub after : Tree
   pub called : IsCalled g v now m map tree after old new
-  pub by_tree : (s : State) (session : ℕ) → s.tree ≡ tree → (t : State) × (t.tree ≡ after) × ByTree session stamp call reply s t
+  pub by_tree : AnswersIn stamp call reply tree holds after
 
 -- Why a call isn't answered, or its changes may not be kept: over a volume that is told no block is changed that no group may have; but more
 -- may be changed than the log has room for, or than the call is allowed
@@ -77,13 +83,13 @@ room_kept v = record v { given = map settled v.given; tally_kept = v.tally }
 
 -- A call was answered and kept: what its open group has made of the volume, over what is told below it, by the bitmap as it was when the
 -- call was answered; and answer and tree are those of the plain tree.
-pub record IsKept (g : Geometry) (v new : Room) (m : ℕ → Option (List ℕ)) (before now : List (ℕ × List ℕ)) (tree : Tree) (stamp : ℤ) (call : Call) (reply : Reply) : Type 0 where
+pub record IsKept (g : Geometry) (v new : Room) (m : ℕ → Option (List ℕ)) (before now : List (ℕ × List ℕ)) (tree : Tree) (holds : List Hold) (stamp : ℤ) (call : Call) (reply : Reply) : Type 0 where
   pub room : Room
   pub kept : new ≡ room_kept room
   pub after : Tree
   pub called : IsCalled g v room (over before m) (over now m) tree after (is_changed before) (is_changed now)
   pub fits : Fits new (over now m)
-  pub by_tree : (s : State) (session : ℕ) → s.tree ≡ tree → (t : State) × (t.tree ≡ after) × ByTree session stamp call reply s t
+  pub by_tree : AnswersIn stamp call reply tree holds after
 
 -- At most so many blocks of what is told are other ones since a call was kept, and at most so many more are used.
 pub record IsWithin (allowed : ℕ) (v new : Room) (m : ℕ → Option (List ℕ)) (before now : List (ℕ × List ℕ)) : Type 0 where
@@ -94,5 +100,11 @@ pub record IsWithin (allowed : ℕ) (v new : Room) (m : ℕ → Option (List ℕ
 
 -- A call that gives nothing back and was answered is answered as a space asks it.
 abbrev pub DoneIsAnswered : Type 0
-DoneIsAnswered = (g : Geometry) (v now : Room) (m : ℕ → Option (List ℕ)) (tree : Tree) (lists : Lists) (stamp : ℤ) (call : Call) (reply : Reply) (told : Option (ℕ → Option (List ℕ))) (old new : ℕ → Bool)
-    → IsReady g v m tree lists → IsDoneSo g v now m tree stamp call reply told old new → IsAnswered g v now m tree stamp call reply told old new
+DoneIsAnswered = (g : Geometry) (v now : Room) (m : ℕ → Option (List ℕ)) (tree : Tree) (lists : Lists) (holds : List Hold) (stamp : ℤ) (call : Call) (reply : Reply) (told : Option (ℕ → Option (List ℕ))) (old new : ℕ → Bool)
+    → IsReady g v m tree lists → IsDoneSo g v now m tree stamp call reply told old new → IsAnswered g v now m tree holds stamp call reply told old new
+
+-- And so is one that may have given blocks back.
+abbrev pub LeftIsAnswered : Type 0
+LeftIsAnswered = (g : Geometry) (v now : Room) (m : ℕ → Option (List ℕ)) (tree after : Tree) (before lists : Lists) (holds : List Hold) (stamp : ℤ) (call : Call) (reply : Reply) (told : Option (ℕ → Option (List ℕ))) (old new : ℕ → Bool)
+    → IsReady g v m tree before → IsSettled v → IsLeft g v now m tree after lists [] told old new → Agrees after lists → after.root ≡ tree.root → AnswersIn stamp call reply tree holds after
+    → IsAnswered g v now m tree holds stamp call reply told old new

@@ -5,7 +5,7 @@ use Rattle.bfs_super.specs.declared.geometry.Geometry.{Geometry}
 use Rattle.bfs_super.specs.Geometry.{geometry_of}
 use Rattle.bfs_bitmap.specs.declared.given.Given.{Given}
 use Rattle.bfs_bitmap.specs.Givens.{settled}
-use Rattle.bfs_bitmap.specs.Runs.{Room, Fits, is_reserved}
+use Rattle.bfs_bitmap.specs.Runs.{Room, Fits, IsSettled, is_reserved}
 use Rattle.bfs_txn.specs.Changed.{AreOfSize, newest, over}
 use Rattle.bfs_stream.specs.Sizes.{sizes_of}
 use Rattle.bfs_stream.specs.Grown.{IsOfVolume}
@@ -19,6 +19,7 @@ use Rattle.bfs_shift.specs.Laws.{lists_of}
 use Rattle.bfs_shift.specs.Shifts.{volume_in}
 use Rattle.bfs_shift.specs.Work.{IsAtWork}
 use Rattle.bfs_moves.specs.Laws.{IsApart}
+use Rattle.bfs_leave.specs.Leaving.{GivesBack}
 use Rattle.bfs_look.specs.Ready.{IsReady}
 use Rattle.bfs_calls.specs.Done.{IsDone}
 use Rattle.bfs_core.specs.Spaces.{SpaceView, Entered, HasSet, IsFaceMetadata, IsFresh, IsSoundOver, face}
@@ -80,3 +81,10 @@ FaceIsReady = (t0 : Mounted) (sp : SpaceView) (m : ℕ → Option (List ℕ)) (v
 abbrev pub DoneIsCalled : Type 0
 DoneIsCalled = (g : Geometry) (v now : Room) (m : ℕ → Option (List ℕ)) (tree after : Tree) (lists : Lists) (told : Option (ℕ → Option (List ℕ))) (old new : ℕ → Bool)
     → IsReady g v m tree lists → (done : IsDone g v now m tree after told old new) → IsCalled g v now m done.step.map tree after old new
+
+-- What a call has done that may have given blocks back is what a space asks of a call: where it began settled, and has ended with no block
+-- loose, with lists that agree with the tree since, and with the same root.
+abbrev pub LeftIsCalled : Type 0
+LeftIsCalled = (g : Geometry) (v now : Room) (m map : ℕ → Option (List ℕ)) (tree after : Tree) (before lists : Lists) (old new : ℕ → Bool)
+    → IsReady g v m tree before → IsSettled v → IsAtWork g now map after lists [] → Agrees after lists → after.root ≡ tree.root → GivesBack g v now m map tree after old new
+    → IsCalled g v now m map tree after old new

@@ -15,6 +15,7 @@ use Rattle.bfs_core.specs.Spaces.{Entered, HasSet, IsSoundOver, SameSeals}
 use Rattle.bfs_space.specs.Answered.{IsWithin}
 use Rattle.bfs_space.specs.Books.{SpaceBooks, IsIdle, entry_noted}
 use Rattle.bfs_space.specs.Called.{IsFaceTold}
+use Rattle.bfs_space.specs.Holds.{holds_after}
 use Rattle.bfs_space.specs.Replies.{HasReplyCause, IsOutside, IsPutOff}
 use Rattle.bfs_space.specs.declared.space.Outcome.{Outcome}
 use Rattle.bfs_space.specs.declared.space.Outcome.TheVariants.{Replied, Drain}
@@ -40,7 +41,7 @@ pub record IsByTree (need : ℕ) (old new : SpaceBooks) (m : ℕ → Option (Lis
 abbrev pub IsCaused : Mounted → SpaceBooks → SpaceBooks → (ℕ → Option (List ℕ)) → Call → Reply → Type 0
 IsCaused t0 old new m call reply =
     IsByTree (logged_need (volume_in (geometry_of old.view.sup) (over old.view.group m)) (after t0 old.view.history) call) old new m reply
-    ⊎ ((new.view.group ≡ old.view.group) × (new.room ≡ old.room) × IsOutside (geometry_of old.view.sup) old.room (over old.view.group m) (after t0 old.view.history) (IsIdle old) call reply)
+    ⊎ ((new.view.group ≡ old.view.group) × (new.room ≡ old.room) × IsOutside (geometry_of old.view.sup) old.room (over old.view.group m) (after t0 old.view.history) (holds_after t0 old.view.history) (IsIdle old) call reply)
 
 -- A call was entered: its entry may follow the history, Face stays sound with the tree after it, and what it set is in the open group; the
 -- space still stands over what is told; and blocks and reply are as Need and the causes of replies say.
@@ -67,7 +68,7 @@ pub record HasReplied (before after : Counts) (old new : SpaceBooks) (session ta
 -- what has become of a call: it has an entry, or it was put off, and nothing has changed
 abbrev pub IsOutcome : Mounted → SpaceBooks → SpaceBooks → (ℕ → Option (List ℕ)) → ℕ → ℕ → ℕ → Call → Outcome → Type 0
 IsOutcome t0 old new m session tag now call Replied = HasEntered t0 old new m session tag now call
-IsOutcome t0 old new m session tag now call (Drain back) = IsPutOff (geometry_of old.view.sup) old.room (over old.view.group m) (length old.view.group) (after t0 old.view.history) (IsIdle old) call
+IsOutcome t0 old new m session tag now call (Drain back) = IsPutOff (geometry_of old.view.sup) old.room (over old.view.group m) (length old.view.group) (after t0 old.view.history) (holds_after t0 old.view.history) (IsIdle old) call
 
 -- and that whatever is told
 abbrev pub HasOutcome : Counts → Counts → SpaceBooks → SpaceBooks → ℕ → ℕ → ℕ → Call → Outcome → Type 0

@@ -3,6 +3,7 @@ use Rattle.std.specs.Prelude.{◌≡◌, ◌≤◌, ◌<◌, ℕ, List, Bool, Op
 use Rattle.bfs_super.specs.declared.geometry.Geometry.{Geometry}
 use Rattle.bfs_super.specs.declared.sup.Super.{Super}
 use Rattle.bfs_tree.specs.declared.call.Call.{Call}
+use Rattle.bfs_tree.specs.declared.state.Hold.{Hold}
 use Rattle.bfs_tree.specs.Refusals.{own_refusal}
 use Rattle.bfs_tree.specs.States.{State}
 use Rattle.bfs_tree.specs.Steps.{Reads, changes_tree}
@@ -16,18 +17,18 @@ use Rattle.bfs_tree.specs.declared.call.Call.TheVariants as calls
 use Rattle.bfs_space.specs.declared.answers.Looked.{Looked}
 use Rattle.bfs_space.specs.declared.answers.Looked.TheVariants.{Answered, Allowed}
 
--- A call that changes the tree has no refusal of its own in any state that has this tree. It is allowed to change so many blocks, which is at
--- most Need.
-pub record IsAllowed (g : Geometry) (m : ℕ → Option (List ℕ)) (tree : Tree) (call : Call) (n : ℕ) : Type 0 where
+-- A call that changes the tree has no refusal of its own in any state that has this tree and these holds. It is allowed to change so many
+-- blocks, which is at most Need.
+pub record IsAllowed (g : Geometry) (m : ℕ → Option (List ℕ)) (tree : Tree) (holds : List Hold) (call : Call) (n : ℕ) : Type 0 where
   pub changes : changes_tree call ≡ true
-  pub fine : (s : State) → s.tree ≡ tree → own_refusal call s ≡ None
+  pub fine : (s : State) → s.tree ≡ tree → s.holds ≡ holds → own_refusal call s ≡ None
   pub is : n ≡ allowance (volume_in g m) tree call
   pub within : n ≤ logged_need (volume_in g m) tree call
 
--- The tree alone answers the call so, in every state that has it, and nothing is to be changed; or it is allowed so many blocks.
-abbrev pub IsLooked : Geometry → (ℕ → Option (List ℕ)) → Tree → Call → Looked → Type 0
-IsLooked g m tree call (Answered reply) = (s : State) → s.tree ≡ tree → Reads call s reply
-IsLooked g m tree call (Allowed n) = IsAllowed g m tree call n
+-- The tree alone answers the call so, in every state that has it and these holds, and nothing is to be changed; or it is allowed so many blocks.
+abbrev pub IsLooked : Geometry → (ℕ → Option (List ℕ)) → Tree → List Hold → Call → Looked → Type 0
+IsLooked g m tree holds call (Answered reply) = (s : State) → s.tree ≡ tree → s.holds ≡ holds → Reads call s reply
+IsLooked g m tree holds call (Allowed n) = IsAllowed g m tree holds call n
 
 -- a reply that a look finds is one that the tree alone gives
 abbrev pub FindsOwn : Looked → Type 0
@@ -43,6 +44,8 @@ FindsMay may sup call (Allowed n) = may sup call
 abbrev pub is_built : Call → Bool
 is_built (calls.Make dir name kind mode) = true
 is_built (calls.SetMode id mode uid gid) = true
+is_built (calls.Remove dir name) = true
+is_built (calls.IndexRemove name) = true
 is_built (calls.Lookup dir name) = true
 is_built (calls.List dir) = true
 is_built (calls.Stat id) = true
@@ -53,9 +56,11 @@ is_built calls.IndexList = true
 is_built (calls.IndexFind name low high) = true
 is_built _ = false
 
--- what is found of those that change a tree: a node that may be made, its directory a block of the volume, its name and target good; and a
--- node whose mode is set, a block of the volume
+-- what is found of those that change a tree: a node that may be made, its directory a block of the volume, its name and target good; a node
+-- whose mode is set, a block of the volume; the directory of a node that is removed, a block of the volume; and nothing of an index
 abbrev pub MayBeDone : Super → Call → Type 0
 MayBeDone sup (calls.Make dir name kind mode) = MayBeMade (natural sup.num_blocks) dir name kind
 MayBeDone sup (calls.SetMode id mode uid gid) = id < natural sup.num_blocks
+MayBeDone sup (calls.Remove dir name) = dir < natural sup.num_blocks
+MayBeDone sup (calls.IndexRemove name) = Unit {0}
 MayBeDone sup _ = ⊥

@@ -16,6 +16,7 @@ use Rattle.bfs_tree.specs.declared.call.Call.{Call}
 use Rattle.bfs_tree.specs.declared.call.Call.TheVariants as calls
 use Rattle.bfs_tree.specs.declared.reply.Reply.{Reply}
 use Rattle.bfs_tree.specs.declared.reply.Reply.TheVariants as replies
+use Rattle.bfs_tree.specs.declared.state.Hold.{Hold}
 use Rattle.bfs_tree.specs.Refusals.{own_refusal}
 use Rattle.bfs_tree.specs.States.{State}
 use Rattle.bfs_tree.specs.Steps.{changes_tree, is_done}
@@ -47,15 +48,15 @@ HasFewRuns v m len needed = (n : ℕ) × (n < needed) × NoMoreRuns v m len n
 abbrev pub IsTooLong : Geometry → ℕ → Type 0
 IsTooLong g n = g.log.len - 1 < n + ceil n 126
 
--- A call that changes the tree, and has no refusal of its own.
-pub record IsChange (tree : Tree) (call : Call) : Type 0 where
+-- A call that changes the tree, and has no refusal of its own with these holds.
+pub record IsChange (tree : Tree) (holds : List Hold) (call : Call) : Type 0 where
   pub changes : changes_tree call ≡ true
-  pub fine : (s : State) → s.tree ≡ tree → own_refusal call s ≡ None
+  pub fine : (s : State) → s.tree ≡ tree → s.holds ≡ holds → own_refusal call s ≡ None
 
 -- Space is wanting, with nothing held back: of so many that are needed, which are at most Need, fewer blocks are free, or fewer runs of an
 -- array's length.
-pub record IsShort (g : Geometry) (v : Room) (m : ℕ → Option (List ℕ)) (tree : Tree) (Idle : Type 0) (call : Call) (free needed : ℕ) : Type 0 where
-  pub change : IsChange tree call
+pub record IsShort (g : Geometry) (v : Room) (m : ℕ → Option (List ℕ)) (tree : Tree) (holds : List Hold) (Idle : Type 0) (call : Call) (free needed : ℕ) : Type 0 where
+  pub change : IsChange tree holds call
   pub idle : Idle
   pub takes : takes_out call ≡ false
   pub free_is : free ≡ v.blocks - v.tally.used
@@ -63,50 +64,50 @@ pub record IsShort (g : Geometry) (v : Room) (m : ℕ → Option (List ℕ)) (tr
   pub why : (free < needed) ⊎ HasFewRuns v m (array_run v) needed
 
 -- Room in the log is wanting, with nothing held back: so many blocks, at most Need, are more than it takes.
-pub record IsCrowded (g : Geometry) (m : ℕ → Option (List ℕ)) (tree : Tree) (Idle : Type 0) (call : Call) (blocks room : ℕ) : Type 0 where
-  pub change : IsChange tree call
+pub record IsCrowded (g : Geometry) (m : ℕ → Option (List ℕ)) (tree : Tree) (holds : List Hold) (Idle : Type 0) (call : Call) (blocks room : ℕ) : Type 0 where
+  pub change : IsChange tree holds call
   pub idle : Idle
   pub room_is : room ≡ g.log.len - 1
   pub within : blocks ≤ logged_need (volume_in g m) tree call
   pub why : IsTooLong g blocks
 
--- Why a call was turned away, of a volume that is told and stands for a tree. No block is damaged.
-abbrev pub IsOutside : Geometry → Room → (ℕ → Option (List ℕ)) → Tree → Type 0 → Call → Reply → Type 0
-IsOutside g v m tree Idle call (replies.DiskFault before after stops) = stops ≡ false
-IsOutside g v m tree Idle call (replies.Stopped durable faults) = Unit {0}
-IsOutside g v m tree Idle call (replies.NoSpace free needed) = IsShort g v m tree Idle call free needed
-IsOutside g v m tree Idle call (replies.NoLogRoom blocks room) = IsCrowded g m tree Idle call blocks room
-IsOutside g v m tree Idle call _ = ⊥
+-- Why a call was turned away, of a volume that is told and stands for a tree, with these holds. No block is damaged.
+abbrev pub IsOutside : Geometry → Room → (ℕ → Option (List ℕ)) → Tree → List Hold → Type 0 → Call → Reply → Type 0
+IsOutside g v m tree holds Idle call (replies.DiskFault before after stops) = stops ≡ false
+IsOutside g v m tree holds Idle call (replies.Stopped durable faults) = Unit {0}
+IsOutside g v m tree holds Idle call (replies.NoSpace free needed) = IsShort g v m tree holds Idle call free needed
+IsOutside g v m tree holds Idle call (replies.NoLogRoom blocks room) = IsCrowded g m tree holds Idle call blocks room
+IsOutside g v m tree holds Idle call _ = ⊥
 
 -- A call was turned away, and has changed nothing.
-pub record IsTurnedAway (g : Geometry) (v new : Room) (m : ℕ → Option (List ℕ)) (before now : List (ℕ × List ℕ)) (tree : Tree) (Idle : Type 0) (call : Call) (reply : Reply) : Type 0 where
+pub record IsTurnedAway (g : Geometry) (v new : Room) (m : ℕ → Option (List ℕ)) (before now : List (ℕ × List ℕ)) (tree : Tree) (holds : List Hold) (Idle : Type 0) (call : Call) (reply : Reply) : Type 0 where
   pub room : new ≡ v
   pub group : now ≡ before
-  pub why : IsOutside g v (over before m) tree Idle call reply
+  pub why : IsOutside g v (over before m) tree holds Idle call reply
 
 -- A call was answered by the tree and kept, and has changed at most as many blocks as Need says; one that was refused has changed none.
-pub record IsDoneWithin (g : Geometry) (v new : Room) (m : ℕ → Option (List ℕ)) (before now : List (ℕ × List ℕ)) (tree : Tree) (stamp : ℤ) (call : Call) (reply : Reply) : Type 0 where
-  pub kept : IsKept g v new m before now tree stamp call reply
+pub record IsDoneWithin (g : Geometry) (v new : Room) (m : ℕ → Option (List ℕ)) (before now : List (ℕ × List ℕ)) (tree : Tree) (holds : List Hold) (stamp : ℤ) (call : Call) (reply : Reply) : Type 0 where
+  pub kept : IsKept g v new m before now tree holds stamp call reply
   pub own : is_own reply ≡ true
   pub unchanged : is_done reply ≡ false → (now ≡ before) × (new.tally.used ≡ v.tally.used)
   pub within : IsWithin (logged_need (volume_in g (over before m)) tree call) v new m before now
 
-abbrev pub IsReplied : Geometry → Room → Room → (ℕ → Option (List ℕ)) → List (ℕ × List ℕ) → List (ℕ × List ℕ) → Tree → Type 0 → ℤ → Call → Reply → Type 0
-IsReplied g v new m before now tree Idle stamp call reply = IsDoneWithin g v new m before now tree stamp call reply ⊎ IsTurnedAway g v new m before now tree Idle call reply
+abbrev pub IsReplied : Geometry → Room → Room → (ℕ → Option (List ℕ)) → List (ℕ × List ℕ) → List (ℕ × List ℕ) → Tree → List Hold → Type 0 → ℤ → Call → Reply → Type 0
+IsReplied g v new m before now tree holds Idle stamp call reply = IsDoneWithin g v new m before now tree holds stamp call reply ⊎ IsTurnedAway g v new m before now tree holds Idle call reply
 
 -- A call is put off while something is held back: with the blocks of the open group those that it needs, at most Need, are more than the log
 -- takes; or of so many that it needs fewer blocks are free, or fewer runs of an array's length, where reserved ones count as used.
-pub record IsPutOff (g : Geometry) (v : Room) (m : ℕ → Option (List ℕ)) (begun : ℕ) (tree : Tree) (Idle : Type 0) (call : Call) : Type 0 where
-  pub change : IsChange tree call
+pub record IsPutOff (g : Geometry) (v : Room) (m : ℕ → Option (List ℕ)) (begun : ℕ) (tree : Tree) (holds : List Hold) (Idle : Type 0) (call : Call) : Type 0 where
+  pub change : IsChange tree holds call
   pub busy : ¬ Idle
   pub needed : ℕ
   pub within : needed ≤ logged_need (volume_in g m) tree call
   pub why : IsTooLong g (begun + needed) ⊎ ((takes_out call ≡ false) × (HasFewRuns v m 1 needed ⊎ HasFewRuns v m (array_run v) needed))
 
 -- why a call has no reply
-abbrev pub IsNoReply : Geometry → Room → (ℕ → Option (List ℕ)) → ℕ → Tree → Type 0 → Call → NoReply → Type 0
-IsNoReply g v m begun tree Idle call NoMemory = Unit {0}
-IsNoReply g v m begun tree Idle call Drain = IsPutOff g v m begun tree Idle call
+abbrev pub IsNoReply : Geometry → Room → (ℕ → Option (List ℕ)) → ℕ → Tree → List Hold → Type 0 → Call → NoReply → Type 0
+IsNoReply g v m begun tree holds Idle call NoMemory = Unit {0}
+IsNoReply g v m begun tree holds Idle call Drain = IsPutOff g v m begun tree holds Idle call
 
 -- The reply to a fault of a block, and to one of a step: want of memory has none, and nor has want of space, which is looked into.
 abbrev pub reply_to_block : BlockFault → Option Reply

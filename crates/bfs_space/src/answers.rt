@@ -3,7 +3,7 @@ ghost use Rattle.std.specs.Prelude.{◌≡◌, ◌≤◌, ℕ, List, Option, Som
 ghost use Rattle.bfs_super.specs.Conditions.{IsValid};
 ghost use Rattle.bfs_super.specs.Geometry.{geometry_of};
 ghost use Rattle.bfs_super.specs.declared.sup.Super as sup;
-ghost use Rattle.bfs_bitmap.specs.Runs.{as_kept};
+ghost use Rattle.bfs_bitmap.specs.Runs.{IsSettled, as_kept};
 ghost use Rattle.bfs_txn.specs.Faults.{AreLater};
 ghost use Rattle.bfs_stream.specs.Grown.{IsOfVolume};
 ghost use Rattle.bfs_stream.specs.Sizes.{sizes_of};
@@ -18,12 +18,13 @@ ghost use Rattle.bfs_look.specs.Ready.{IsReady, HasReady};
 ghost use Rattle.bfs_calls.specs.Done.{IsUnanswered, HasAnswerCause};
 ghost use Rattle.bfs_calls.specs.Refusals.{is_own};
 ghost use Rattle.bfs_space.specs.Answered.{IsAnswered};
+ghost use Rattle.bfs_space.specs.Holds.{keeps_holds};
 ghost use Rattle.bfs_space.specs.Looks.{IsLooked, FindsMay, FindsOwn};
 
 use bfs_bitmap::Bitmap;
 use bfs_stream_pages::MapFault;
 use bfs_super::Super;
-use bfs_tree::{Call, Reply};
+use bfs_tree::{Call, Hold, Reply};
 use bfs_txn::Edits;
 use std::alloc::Global;
 
@@ -42,13 +43,17 @@ pub trait Answers {
     /// What a look has found of a call that is to be done, whatever the volume.
     ghost may: { sup.Super → calls.Call → Type 0 };
 
-    /// Looks at a call, and changes nothing.
+    /// A call that it answers leaves the holds of sessions as they are.
+    ghost stays: { (call : calls.Call) → serves call ≡ true → keeps_holds call ≡ true };
+
+    /// Looks at a call with these holds of sessions, and changes nothing.
     fn look<E: Edits>(
         &self,
         alloc: Global,
         sup: &Super,
         bitmap: &mut Bitmap,
         edits: &mut E,
+        holds: &[Hold],
         call: &Call,
     ) -> Result<Looked, MapFault>
         requires valid { IsValid sup.now }
@@ -56,7 +61,7 @@ pub trait Answers {
         requires serves { serves call.now ≡ true }
         requires ranges { KeepsRanges call.now }
         requires ready { (m : ℕ → Option (List ℕ)) → E.told edits.old ≡ Some m → HasReady (geometry_of sup.now) bitmap.old m }
-        ensures looked { (m : ℕ → Option (List ℕ)) (tree : Tree) (lists : Lists) → E.told edits.old ≡ Some m → IsReady (geometry_of sup.now) bitmap.old m tree lists → IfOk result (IsLooked (geometry_of sup.now) m tree call.now) }
+        ensures looked { (m : ℕ → Option (List ℕ)) (tree : Tree) (lists : Lists) → E.told edits.old ≡ Some m → IsReady (geometry_of sup.now) bitmap.old m tree lists → IfOk result (IsLooked (geometry_of sup.now) m tree holds.now call.now) }
         ensures own { IfOk result FindsOwn }
         ensures may { IfOk result (FindsMay may sup.now call.now) }
         ensures unanswered { (m : ℕ → Option (List ℕ)) (tree : Tree) (lists : Lists) → E.told edits.old ≡ Some m → IsReady (geometry_of sup.now) bitmap.old m tree lists → IfErr result IsUnanswered }
@@ -67,13 +72,14 @@ pub trait Answers {
         ensures frame { E.frame edits.new ≡ E.frame edits.old }
         ensures later { AreLater (E.counts edits.old) (E.counts edits.new) };
 
-    /// Answers a call that has no refusal of its own and is to be done. Its effects have this stamp.
+    /// Answers a call that has no refusal of its own with these holds, and is to be done. Its effects have this stamp.
     fn answer<E: Edits>(
         &self,
         alloc: Global,
         sup: &Super,
         bitmap: &mut Bitmap,
         edits: &mut E,
+        holds: &[Hold],
         call: &Call,
         stamp: i64,
     ) -> Result<Reply, MapFault>
@@ -82,10 +88,11 @@ pub trait Answers {
         requires volume { IsOfVolume (sizes_of sup.now) bitmap.old }
         requires serves { serves call.now ≡ true }
         requires ranges { KeepsRanges call.now }
+        requires settled { IsSettled bitmap.old }
         requires may { may sup.now call.now }
         requires ready { (m : ℕ → Option (List ℕ)) → E.told edits.old ≡ Some m → HasReady (geometry_of sup.now) bitmap.old m }
-        requires fine { (m : ℕ → Option (List ℕ)) (tree : Tree) (lists : Lists) (s : State) → E.told edits.old ≡ Some m → IsReady (geometry_of sup.now) bitmap.old m tree lists → s.tree ≡ tree → own_refusal call.now s ≡ None }
-        ensures answered { (m : ℕ → Option (List ℕ)) (tree : Tree) (lists : Lists) → E.told edits.old ≡ Some m → IsReady (geometry_of sup.now) bitmap.old m tree lists → IfOk result (λ reply. IsAnswered (geometry_of sup.now) bitmap.old bitmap.new m tree stamp call.now reply (E.told edits.new) (E.changed edits.old) (E.changed edits.new)) }
+        requires fine { (m : ℕ → Option (List ℕ)) (tree : Tree) (lists : Lists) (s : State) → E.told edits.old ≡ Some m → IsReady (geometry_of sup.now) bitmap.old m tree lists → s.tree ≡ tree → s.holds ≡ holds.now → own_refusal call.now s ≡ None }
+        ensures answered { (m : ℕ → Option (List ℕ)) (tree : Tree) (lists : Lists) → E.told edits.old ≡ Some m → IsReady (geometry_of sup.now) bitmap.old m tree lists → IfOk result (λ reply. IsAnswered (geometry_of sup.now) bitmap.old bitmap.new m tree holds.now stamp call.now reply (E.told edits.new) (E.changed edits.old) (E.changed edits.new)) }
         ensures unanswered { (m : ℕ → Option (List ℕ)) (tree : Tree) (lists : Lists) → E.told edits.old ≡ Some m → IsReady (geometry_of sup.now) bitmap.old m tree lists → IfErr result IsUnanswered }
         ensures cause { IfErr result (HasAnswerCause (E.counts edits.old) (E.counts edits.new)) }
         ensures own { IfOk result (λ reply. is_own reply ≡ true) }

@@ -26,7 +26,7 @@ use crate::{Answers, Unkept};
 use bfs_bitmap::Bitmap;
 use bfs_stream_pages::MapFault;
 use bfs_super::Super;
-use bfs_tree::{Call, Reply};
+use bfs_tree::{Call, Hold, Reply};
 use bfs_txn::{Blocks, Changed, Overlay};
 use std::alloc::Global;
 use thiserror::Error;
@@ -40,7 +40,7 @@ pub enum CallFault {
     Unkept(Unkept),
 }
 
-/// Answers a call that is to be done, and looks whether what it changed may be kept.
+/// Answers a call that is to be done with these holds of sessions, and looks whether what it changed may be kept.
 fn answer_over<A: Answers, B: Blocks>(
     alloc: Global,
     sup: &Super,
@@ -48,6 +48,7 @@ fn answer_over<A: Answers, B: Blocks>(
     bitmap: &mut Bitmap,
     overlay: &mut Overlay<'_, B>,
     mark: usize,
+    holds: &[Hold],
     call: &Call,
     stamp: i64,
     allowed: u64,
@@ -55,6 +56,7 @@ fn answer_over<A: Answers, B: Blocks>(
     requires valid { IsValid sup.now }
     requires size { B.size overlay.old.under.now ≡ sup.now.block_size }
     requires volume { IsOfVolume (sizes_of sup.now) bitmap.old }
+    requires settled { IsSettled bitmap.old }
     requires mark { mark ≡ overlay.old.mark }
     requires begun { mark ≡ length overlay.old.group.now }
     requires open { MayBeSealed (layout_of sup.now) sup.now.block_size overlay.old.group.now }
@@ -62,8 +64,8 @@ fn answer_over<A: Answers, B: Blocks>(
     requires ranges { KeepsRanges call.now }
     requires may { A.may sup.now call.now }
     requires ready { (m : ℕ → Option (List ℕ)) → B.told overlay.old.under.now ≡ Some m → HasReady (geometry_of sup.now) bitmap.old (over overlay.old.group.now m) }
-    requires fine { (m : ℕ → Option (List ℕ)) (tree : Tree) (lists : Lists) (s : State) → B.told overlay.old.under.now ≡ Some m → IsReady (geometry_of sup.now) bitmap.old (over overlay.old.group.now m) tree lists → s.tree ≡ tree → own_refusal call.now s ≡ None }
-    ensures answered { (m : ℕ → Option (List ℕ)) (tree : Tree) (lists : Lists) → B.told overlay.old.under.now ≡ Some m → IsReady (geometry_of sup.now) bitmap.old (over overlay.old.group.now m) tree lists → IfOk result (λ reply. IsAnswered (geometry_of sup.now) bitmap.old bitmap.new (over overlay.old.group.now m) tree stamp call.now reply (option_map (over overlay.new.group.now) (B.told overlay.new.under.now)) (is_changed overlay.old.group.now) (is_changed overlay.new.group.now)) }
+    requires fine { (m : ℕ → Option (List ℕ)) (tree : Tree) (lists : Lists) (s : State) → B.told overlay.old.under.now ≡ Some m → IsReady (geometry_of sup.now) bitmap.old (over overlay.old.group.now m) tree lists → s.tree ≡ tree → s.holds ≡ holds.now → own_refusal call.now s ≡ None }
+    ensures answered { (m : ℕ → Option (List ℕ)) (tree : Tree) (lists : Lists) → B.told overlay.old.under.now ≡ Some m → IsReady (geometry_of sup.now) bitmap.old (over overlay.old.group.now m) tree lists → IfOk result (λ reply. IsAnswered (geometry_of sup.now) bitmap.old bitmap.new (over overlay.old.group.now m) tree holds.now stamp call.now reply (option_map (over overlay.new.group.now) (B.told overlay.new.under.now)) (is_changed overlay.old.group.now) (is_changed overlay.new.group.now)) }
     ensures unanswered { (m : ℕ → Option (List ℕ)) (tree : Tree) (lists : Lists) → B.told overlay.old.under.now ≡ Some m → IsReady (geometry_of sup.now) bitmap.old (over overlay.old.group.now m) tree lists → IfErr result IsCallFault }
     ensures cause { IfErr result (HasCallCause (B.counts overlay.old.under.now) (B.counts overlay.new.under.now)) }
     ensures own { IfOk result (λ reply. is_own reply ≡ true) }
@@ -85,7 +87,7 @@ fn answer_over<A: Answers, B: Blocks>(
     ensures note { (B.frame overlay.new.under.now).note ≡ (B.frame overlay.old.under.now).note }
 {
     let was = bitmap.used();
-    match answers.answer(alloc, sup, bitmap, overlay, call, stamp) {
+    match answers.answer(alloc, sup, bitmap, overlay, holds, call, stamp) {
         Ok(reply) => match may_be_kept(overlay, sup, bitmap, mark, was, allowed) {
             Ok(()) => Ok(reply),
             Err(why) => Err(CallFault::Unkept(why)),
@@ -94,8 +96,8 @@ fn answer_over<A: Answers, B: Blocks>(
     }
 }
 
-/// Answers a call that is to be done, and keeps what it changed where it may be kept: at most so many blocks. Else the open group and the bitmap
-/// are as they were.
+/// Answers a call that is to be done with these holds of sessions, and keeps what it changed where it may be kept: at most so many blocks.
+/// Else the open group and the bitmap are as they were.
 pub fn answer_call<A: Answers, B: Blocks>(
     alloc: Global,
     sup: &Super,
@@ -103,6 +105,7 @@ pub fn answer_call<A: Answers, B: Blocks>(
     bitmap: &mut Bitmap,
     group: &mut Changed,
     under: &mut B,
+    holds: &[Hold],
     call: &Call,
     stamp: i64,
     allowed: u64,
@@ -116,8 +119,8 @@ pub fn answer_call<A: Answers, B: Blocks>(
     requires ranges { KeepsRanges call.now }
     requires may { A.may sup.now call.now }
     requires ready { (m : ℕ → Option (List ℕ)) → B.told under.old ≡ Some m → HasReady (geometry_of sup.now) bitmap.old (over group.old m) }
-    requires fine { (m : ℕ → Option (List ℕ)) (tree : Tree) (lists : Lists) (s : State) → B.told under.old ≡ Some m → IsReady (geometry_of sup.now) bitmap.old (over group.old m) tree lists → s.tree ≡ tree → own_refusal call.now s ≡ None }
-    ensures kept { (m : ℕ → Option (List ℕ)) (tree : Tree) (lists : Lists) → B.told under.old ≡ Some m → IsReady (geometry_of sup.now) bitmap.old (over group.old m) tree lists → IfOk result (λ reply. IsKept (geometry_of sup.now) bitmap.old bitmap.new m group.old group.new tree stamp call.now reply) }
+    requires fine { (m : ℕ → Option (List ℕ)) (tree : Tree) (lists : Lists) (s : State) → B.told under.old ≡ Some m → IsReady (geometry_of sup.now) bitmap.old (over group.old m) tree lists → s.tree ≡ tree → s.holds ≡ holds.now → own_refusal call.now s ≡ None }
+    ensures kept { (m : ℕ → Option (List ℕ)) (tree : Tree) (lists : Lists) → B.told under.old ≡ Some m → IsReady (geometry_of sup.now) bitmap.old (over group.old m) tree lists → IfOk result (λ reply. IsKept (geometry_of sup.now) bitmap.old bitmap.new m group.old group.new tree holds.now stamp call.now reply) }
     ensures unanswered { (m : ℕ → Option (List ℕ)) (tree : Tree) (lists : Lists) → B.told under.old ≡ Some m → IsReady (geometry_of sup.now) bitmap.old (over group.old m) tree lists → IfErr result IsCallFault }
     ensures cause { IfErr result (HasCallCause (B.counts under.old) (B.counts under.new)) }
     ensures own { IfOk result (λ reply. is_own reply ≡ true) }
@@ -144,6 +147,7 @@ pub fn answer_call<A: Answers, B: Blocks>(
         bitmap,
         &mut overlay,
         mark,
+        holds,
         call,
         stamp,
         allowed,

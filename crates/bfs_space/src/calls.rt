@@ -1,4 +1,4 @@
-// The calls that are built so far: those that make a node and set a mode, and those that only read.
+// The calls that are built so far: those that make a node, set a mode, remove a node and remove an index, and those that only read.
 ghost use Rattle.std.specs.Prelude.{◌≡◌, ◌≤◌, ℕ, ℤ, List, Option, Some, true, IfOk, IfErr, MatchResult, length};
 ghost use Rattle.bfs_super.specs.Conditions.{IsValid, natural};
 ghost use Rattle.bfs_super.specs.Geometry.{geometry_of};
@@ -6,6 +6,7 @@ ghost use Rattle.bfs_super.specs.declared.geometry.Geometry as geometries;
 ghost use Rattle.bfs_super.specs.declared.sup.Super as sups;
 ghost use Rattle.bfs_txn.specs.Faults.{AreLater, Counts};
 ghost use Rattle.bfs_tree.specs.declared.call.Call as calls;
+ghost use Rattle.bfs_tree.specs.declared.state.Hold as hold;
 ghost use Rattle.bfs_tree.specs.declared.call.Call.TheVariants.{Make, SetMode};
 ghost use Rattle.bfs_tree.specs.States.{State};
 ghost use Rattle.bfs_tree.specs.Steps.{Reads};
@@ -17,6 +18,7 @@ ghost use Rattle.bfs_calls.specs.Done.{IsUnanswered, HasAnswerCause};
 ghost use Rattle.bfs_calls.specs.Refusals.{is_own};
 ghost use Rattle.bfs_space.specs.Looks.{IsLooked, FindsMay, FindsOwn, MayBeDone};
 
+use crate::taking::{drop_index, look_remove, look_remove_index, remove};
 use crate::{Answers, Looked};
 use bfs_bitmap::Bitmap;
 use bfs_calls::{make_allowance, make_node, make_refusal, set_mode, set_mode_refusal};
@@ -25,11 +27,11 @@ use bfs_node::TreeFault;
 use bfs_query::{attr_list, attr_read, index_find, index_list};
 use bfs_stream_pages::MapFault;
 use bfs_super::Super;
-use bfs_tree::{Call, MakeKind, Reply};
+use bfs_tree::{Call, Hold, MakeKind, Reply};
 use bfs_txn::Edits;
 use std::alloc::Global;
 
-/// Answers Make, SetMode, and the calls that only read: Lookup, List, Stat, ReadLink, AttrRead, AttrList, IndexList and IndexFind.
+/// Answers Make, SetMode, Remove, IndexRemove, and the calls that only read: Lookup, List, Stat, ReadLink, AttrRead, AttrList, IndexList and IndexFind.
 #[derive(Clone, Copy, Debug, Drop)]
 pub struct Calls {}
 
@@ -71,7 +73,7 @@ fn found(reply: Reply) -> Result<Looked, MapFault>
 
 /// What a look has found by a call that only reads.
 fn looked(read: Result<Reply, MapFault>) -> Result<Looked, MapFault>
-    ensures looked { (g : geometries.Geometry) (m : ℕ → Option (List ℕ)) (tree : Tree) (call : calls.Call) → ((s : State) → s.tree ≡ tree → MatchResult read (Reads call s) IsUndone) → IfOk result (IsLooked g m tree call) }
+    ensures looked { (g : geometries.Geometry) (m : ℕ → Option (List ℕ)) (tree : Tree) (holds : List hold.Hold) (call : calls.Call) → ((s : State) → s.tree ≡ tree → MatchResult read (Reads call s) IsUndone) → IfOk result (IsLooked g m tree holds call) }
     ensures own { IfOk result FindsOwn }
     ensures may { (sup : sups.Super) (call : calls.Call) → IfOk result (FindsMay MayBeDone sup call) }
     ensures unanswered { (call : calls.Call) (s : State) → MatchResult read (Reads call s) IsUndone → IfErr result IsUnanswered }
@@ -96,7 +98,7 @@ fn look_make<E: Edits>(
     requires valid { IsValid sup.now }
     requires size { E.size edits.old ≡ sup.now.block_size }
     requires ready { (m : ℕ → Option (List ℕ)) → E.told edits.old ≡ Some m → HasReady (geometry_of sup.now) bitmap.old m }
-    ensures looked { (m : ℕ → Option (List ℕ)) (tree : Tree) (lists : Lists) (mode : ℕ) → E.told edits.old ≡ Some m → IsReady (geometry_of sup.now) bitmap.old m tree lists → IfOk result (IsLooked (geometry_of sup.now) m tree (Make dir name.now kind.now mode)) }
+    ensures looked { (m : ℕ → Option (List ℕ)) (tree : Tree) (lists : Lists) (holds : List hold.Hold) (mode : ℕ) → E.told edits.old ≡ Some m → IsReady (geometry_of sup.now) bitmap.old m tree lists → IfOk result (IsLooked (geometry_of sup.now) m tree holds (Make dir name.now kind.now mode)) }
     ensures own { IfOk result FindsOwn }
     ensures may { (mode : ℕ) → IfOk result (FindsMay MayBeDone sup.now (Make dir name.now kind.now mode)) }
     ensures unanswered { (m : ℕ → Option (List ℕ)) (tree : Tree) (lists : Lists) → E.told edits.old ≡ Some m → IsReady (geometry_of sup.now) bitmap.old m tree lists → IfErr result IsUnanswered }
@@ -132,7 +134,7 @@ fn look_set_mode<E: Edits>(
     requires valid { IsValid sup.now }
     requires size { E.size edits.old ≡ sup.now.block_size }
     requires ready { (m : ℕ → Option (List ℕ)) → E.told edits.old ≡ Some m → HasReady (geometry_of sup.now) bitmap.old m }
-    ensures looked { (m : ℕ → Option (List ℕ)) (tree : Tree) (lists : Lists) (mode : ℕ) (uid gid : ℤ) → E.told edits.old ≡ Some m → IsReady (geometry_of sup.now) bitmap.old m tree lists → IfOk result (IsLooked (geometry_of sup.now) m tree (SetMode id mode uid gid)) }
+    ensures looked { (m : ℕ → Option (List ℕ)) (tree : Tree) (lists : Lists) (holds : List hold.Hold) (mode : ℕ) (uid gid : ℤ) → E.told edits.old ≡ Some m → IsReady (geometry_of sup.now) bitmap.old m tree lists → IfOk result (IsLooked (geometry_of sup.now) m tree holds (SetMode id mode uid gid)) }
     ensures own { IfOk result FindsOwn }
     ensures may { (mode : ℕ) (uid gid : ℤ) → IfOk result (FindsMay MayBeDone sup.now (SetMode id mode uid gid)) }
     ensures unanswered { (m : ℕ → Option (List ℕ)) (tree : Tree) (lists : Lists) → E.told edits.old ≡ Some m → IsReady (geometry_of sup.now) bitmap.old m tree lists → IfErr result IsUnanswered }
@@ -155,10 +157,13 @@ fn look_set_mode<E: Edits>(
 
 impl Answers for Calls {
     ghost use Rattle.bfs_space.specs.Looks.{MayBeDone, is_built};
+    ghost use Rattle.bfs_space.specs.BuiltLaws.{built_stays};
 
     ghost serves = { is_built };
 
     ghost may = { MayBeDone };
+
+    ghost stays = { built_stays };
 
     fn look<E: Edits>(
         &self,
@@ -166,6 +171,7 @@ impl Answers for Calls {
         sup: &Super,
         bitmap: &mut Bitmap,
         edits: &mut E,
+        holds: &[Hold],
         call: &Call,
     ) -> Result<Looked, MapFault> {
         match call {
@@ -176,6 +182,12 @@ impl Answers for Calls {
                 ..
             } => look_make(alloc, sup, bitmap, edits, *dir, name.as_slice(), kind),
             Call::SetMode { id, .. } => look_set_mode(alloc, sup, bitmap, edits, *id),
+            Call::Remove { dir, name } => {
+                look_remove(alloc, sup, bitmap, edits, holds, *dir, name.as_slice())
+            }
+            Call::IndexRemove { name } => {
+                look_remove_index(alloc, sup, bitmap, edits, name.as_slice())
+            }
             Call::Lookup { dir, name } => {
                 looked(lookup(alloc, sup, bitmap, edits, *dir, name.as_slice()))
             }
@@ -206,6 +218,7 @@ impl Answers for Calls {
         sup: &Super,
         bitmap: &mut Bitmap,
         edits: &mut E,
+        holds: &[Hold],
         call: &Call,
         stamp: i64,
     ) -> Result<Reply, MapFault> {
@@ -237,6 +250,11 @@ impl Answers for Calls {
                     Err(fault) => Err(fault),
                 }
             }
+            Call::Remove { dir, name } => {
+                let name = name.as_slice();
+                remove(alloc, sup, bitmap, edits, holds, *dir, name, stamp)
+            }
+            Call::IndexRemove { name } => drop_index(alloc, sup, bitmap, edits, name.as_slice()),
             _ => Err(TreeFault::NoMemory),
         }
     }

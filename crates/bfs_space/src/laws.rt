@@ -1,6 +1,7 @@
 // What a call of a space begins with, and what it leaves.
-ghost use Rattle.bfs_space.specs.Called.{FaceIsAtWork, FaceIsReady, CallIsEntered, DoneIsCalled};
-ghost use Rattle.bfs_space.specs.Answered.{DoneIsAnswered};
+ghost use Rattle.bfs_space.specs.Called.{FaceIsAtWork, FaceIsReady, CallIsEntered, DoneIsCalled, LeftIsCalled};
+ghost use Rattle.bfs_space.specs.Answered.{DoneIsAnswered, LeftIsAnswered};
+ghost use Rattle.bfs_space.specs.Holds.{EntryIsHeld, EntryKeepsHolds, HeldIsAfter};
 
 /// A call begins.
 pub fn face_is_at_work()
@@ -25,4 +26,29 @@ pub fn done_is_called()
 /// And so is its answer.
 pub fn done_is_answered()
     ensures { DoneIsAnswered }
+{}
+
+/// What a call that may have given blocks back has done is what is asked of it.
+pub fn left_is_called()
+    ensures { LeftIsCalled }
+{}
+
+/// And so is its answer.
+pub fn left_is_answered()
+    ensures { LeftIsAnswered }
+{}
+
+/// The holds after a history are those that its entries leave.
+pub fn held_is_after()
+    ensures { HeldIsAfter }
+{}
+
+/// An entry that is no Hold and no Release, or isn't done, leaves them.
+pub fn entry_keeps_holds()
+    ensures { EntryKeepsHolds }
+{}
+
+/// The holds that a history leaves with one entry more.
+pub fn entry_is_held()
+    ensures { EntryIsHeld }
 {}

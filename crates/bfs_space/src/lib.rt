@@ -6,6 +6,7 @@
 mod answers;
 mod calling;
 mod calls;
+mod holds;
 mod keep;
 mod lacking;
 mod laws;
@@ -13,12 +14,16 @@ mod looking;
 mod replying;
 mod space;
 mod stamp;
+mod taking;
 
 pub use answers::{Answers, Looked};
 pub use calling::{CallFault, answer_call};
 pub use calls::Calls;
 pub use keep::Unkept;
-pub use laws::{call_is_entered, done_is_answered, done_is_called, face_is_at_work, face_is_ready};
+pub use laws::{
+    call_is_entered, done_is_answered, done_is_called, entry_is_held, entry_keeps_holds,
+    face_is_at_work, face_is_ready, held_is_after, left_is_answered, left_is_called,
+};
 pub use space::{Outcome, Space};
 
 #[cfg(test)]

@@ -17,11 +17,11 @@ use crate::{Answers, Looked};
 use bfs_bitmap::Bitmap;
 use bfs_stream_pages::MapFault;
 use bfs_super::Super;
-use bfs_tree::Call;
+use bfs_tree::{Call, Hold};
 use bfs_txn::{Blocks, Changed, Overlay};
 use std::alloc::Global;
 
-/// Looks at a call, and changes nothing.
+/// Looks at a call with these holds of sessions, and changes nothing.
 pub fn look_call<A: Answers, B: Blocks>(
     alloc: Global,
     sup: &Super,
@@ -29,6 +29,7 @@ pub fn look_call<A: Answers, B: Blocks>(
     bitmap: &mut Bitmap,
     group: &mut Changed,
     under: &mut B,
+    holds: &[Hold],
     call: &Call,
 ) -> Result<Looked, MapFault>
     requires valid { IsValid sup.now }
@@ -37,7 +38,7 @@ pub fn look_call<A: Answers, B: Blocks>(
     requires serves { A.serves call.now ≡ true }
     requires ranges { KeepsRanges call.now }
     requires ready { (m : ℕ → Option (List ℕ)) → B.told under.old ≡ Some m → HasReady (geometry_of sup.now) bitmap.old (over group.old m) }
-    ensures looked { (m : ℕ → Option (List ℕ)) (tree : Tree) (lists : Lists) → B.told under.old ≡ Some m → IsReady (geometry_of sup.now) bitmap.old (over group.old m) tree lists → IfOk result (IsLooked (geometry_of sup.now) (over group.old m) tree call.now) }
+    ensures looked { (m : ℕ → Option (List ℕ)) (tree : Tree) (lists : Lists) → B.told under.old ≡ Some m → IsReady (geometry_of sup.now) bitmap.old (over group.old m) tree lists → IfOk result (IsLooked (geometry_of sup.now) (over group.old m) tree holds.now call.now) }
     ensures own { IfOk result FindsOwn }
     ensures may { IfOk result (FindsMay A.may sup.now call.now) }
     ensures unanswered { (m : ℕ → Option (List ℕ)) (tree : Tree) (lists : Lists) → B.told under.old ≡ Some m → IsReady (geometry_of sup.now) bitmap.old (over group.old m) tree lists → IfErr result IsUnanswered }
@@ -50,7 +51,7 @@ pub fn look_call<A: Answers, B: Blocks>(
     ensures size { B.size under.new ≡ B.size under.old }
 {
     let mut overlay = Overlay::begin(group, under);
-    let looked = answers.look(alloc, sup, bitmap, &mut overlay, call);
+    let looked = answers.look(alloc, sup, bitmap, &mut overlay, holds, call);
     overlay.drop_call();
     looked
 }

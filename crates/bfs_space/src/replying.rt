@@ -9,6 +9,7 @@ ghost use Rattle.bfs_txn.specs.Faults as faults;
 ghost use Rattle.bfs_stream.specs.Grown.{IsOfVolume};
 ghost use Rattle.bfs_stream.specs.Sizes.{sizes_of};
 ghost use Rattle.bfs_tree.specs.declared.call.Call as calls;
+ghost use Rattle.bfs_tree.specs.declared.state.Hold as hold;
 ghost use Rattle.bfs_tree.specs.Answers.{KeepsRanges};
 ghost use Rattle.bfs_tree.specs.Refusals.{own_refusal};
 ghost use Rattle.bfs_tree.specs.States.{State};
@@ -37,7 +38,7 @@ use bfs_node::TreeFault;
 use bfs_stream::GrowFault;
 use bfs_stream_pages::MapFault;
 use bfs_super::Super;
-use bfs_tree::{Call, Reply};
+use bfs_tree::{Call, Hold, Reply};
 use bfs_txn::{Blocks, Changed};
 use std::alloc::Global;
 
@@ -65,8 +66,8 @@ fn reply_to_step(fault: MapFault) -> Result<Reply, NoReply>
 
 /// What becomes of a call that changed so many blocks, which with those of the open group are more than the log takes.
 fn crowds_log(sup: &Super, idle: bool, blocks: u64) -> Result<Reply, NoReply>
-    ensures crowded { (v : runs.Room) (m : ℕ → Option (List ℕ)) (tree : Tree) (call : calls.Call) → IsChange tree call → blocks ≤ logged_need (volume_in (geometry_of sup.now) m) tree call → (idle ≡ true → IsTooLong (geometry_of sup.now) blocks) → IfOk result (IsOutside (geometry_of sup.now) v m tree (idle ≡ true) call) }
-    ensures put_off { (v : runs.Room) (m : ℕ → Option (List ℕ)) (tree : Tree) (call : calls.Call) (begun : ℕ) → IsChange tree call → blocks ≤ logged_need (volume_in (geometry_of sup.now) m) tree call → IsTooLong (geometry_of sup.now) (begun + blocks) → IfErr result (IsNoReply (geometry_of sup.now) v m begun tree (idle ≡ true) call) }
+    ensures crowded { (v : runs.Room) (m : ℕ → Option (List ℕ)) (tree : Tree) (holds : List hold.Hold) (call : calls.Call) → IsChange tree holds call → blocks ≤ logged_need (volume_in (geometry_of sup.now) m) tree call → (idle ≡ true → IsTooLong (geometry_of sup.now) blocks) → IfOk result (IsOutside (geometry_of sup.now) v m tree holds (idle ≡ true) call) }
+    ensures put_off { (v : runs.Room) (m : ℕ → Option (List ℕ)) (tree : Tree) (holds : List hold.Hold) (call : calls.Call) (begun : ℕ) → IsChange tree holds call → blocks ≤ logged_need (volume_in (geometry_of sup.now) m) tree call → IsTooLong (geometry_of sup.now) (begun + blocks) → IfErr result (IsNoReply (geometry_of sup.now) v m begun tree holds (idle ≡ true) call) }
     ensures cause { (old new : faults.Counts) (stop : Option stops.Stop) → IfOk result (HasReplyCause old new stop) }
 {
     if idle {
@@ -79,7 +80,8 @@ fn crowds_log(sup: &Super, idle: bool, blocks: u64) -> Result<Reply, NoReply>
     Err(NoReply::Drain)
 }
 
-/// Performs a call that is to be done and may change so many blocks; what it changed is in the open group, or nothing is.
+/// Performs a call that is to be done with these holds of sessions and may change so many blocks; what it changed is in the open group, or
+/// nothing is.
 fn perform<A: Answers, B: Blocks>(
     alloc: Global,
     sup: &Super,
@@ -88,6 +90,7 @@ fn perform<A: Answers, B: Blocks>(
     group: &mut Changed,
     under: &mut B,
     idle: bool,
+    holds: &[Hold],
     call: &Call,
     stamp: i64,
     allowed: u64,
@@ -102,9 +105,9 @@ fn perform<A: Answers, B: Blocks>(
     requires may { A.may sup.now call.now }
     requires ready { (m : ℕ → Option (List ℕ)) → B.told under.old ≡ Some m → HasReady (geometry_of sup.now) bitmap.old (over group.old m) }
     requires empty { idle ≡ true → group.old ≡ [] }
-    requires allowed { (m : ℕ → Option (List ℕ)) (tree : Tree) (lists : Lists) → B.told under.old ≡ Some m → IsReady (geometry_of sup.now) bitmap.old (over group.old m) tree lists → IsAllowed (geometry_of sup.now) (over group.old m) tree call.now allowed }
-    ensures replied { (m : ℕ → Option (List ℕ)) (tree : Tree) (lists : Lists) → B.told under.old ≡ Some m → IsReady (geometry_of sup.now) bitmap.old (over group.old m) tree lists → IfOk result (IsReplied (geometry_of sup.now) bitmap.old bitmap.new m group.old group.new tree (idle ≡ true) stamp call.now) }
-    ensures put_off { (m : ℕ → Option (List ℕ)) (tree : Tree) (lists : Lists) → B.told under.old ≡ Some m → IsReady (geometry_of sup.now) bitmap.old (over group.old m) tree lists → IfErr result (IsNoReply (geometry_of sup.now) bitmap.old (over group.old m) (length group.old) tree (idle ≡ true) call.now) }
+    requires allowed { (m : ℕ → Option (List ℕ)) (tree : Tree) (lists : Lists) → B.told under.old ≡ Some m → IsReady (geometry_of sup.now) bitmap.old (over group.old m) tree lists → IsAllowed (geometry_of sup.now) (over group.old m) tree holds.now call.now allowed }
+    ensures replied { (m : ℕ → Option (List ℕ)) (tree : Tree) (lists : Lists) → B.told under.old ≡ Some m → IsReady (geometry_of sup.now) bitmap.old (over group.old m) tree lists → IfOk result (IsReplied (geometry_of sup.now) bitmap.old bitmap.new m group.old group.new tree holds.now (idle ≡ true) stamp call.now) }
+    ensures put_off { (m : ℕ → Option (List ℕ)) (tree : Tree) (lists : Lists) → B.told under.old ≡ Some m → IsReady (geometry_of sup.now) bitmap.old (over group.old m) tree lists → IfErr result (IsNoReply (geometry_of sup.now) bitmap.old (over group.old m) (length group.old) tree holds.now (idle ≡ true) call.now) }
     ensures cause { (stop : Option stops.Stop) → IfOk result (HasReplyCause (B.counts under.old) (B.counts under.new) stop) }
     ensures left { OnErr result ((group.new ≡ group.old) × (bitmap.new ≡ bitmap.old)) }
     ensures idle { StaysIdle bitmap.old bitmap.new group.old group.new }
@@ -117,7 +120,7 @@ fn perform<A: Answers, B: Blocks>(
     ensures size { B.size under.new ≡ B.size under.old }
 {
     let fault = match answer_call(
-        alloc, sup, answers, bitmap, group, under, call, stamp, allowed,
+        alloc, sup, answers, bitmap, group, under, holds, call, stamp, allowed,
     ) {
         Ok(reply) => return Ok(reply),
         Err(fault) => fault,
@@ -142,8 +145,8 @@ fn is_no_run(fault: &MapFault) -> bool {
     matches!(fault, TreeFault::Pages(GrowFault::NoRun { .. }))
 }
 
-/// Answers a call over an open group and what lies below: what it changed is in the open group, or nothing is. `idle` says that nothing is held
-/// back.
+/// Answers a call over an open group and what lies below, with these holds of sessions: what it changed is in the open group, or nothing
+/// is. `idle` says that nothing is held back.
 pub fn reply_call<A: Answers, B: Blocks>(
     alloc: Global,
     sup: &Super,
@@ -152,6 +155,7 @@ pub fn reply_call<A: Answers, B: Blocks>(
     group: &mut Changed,
     under: &mut B,
     idle: bool,
+    holds: &[Hold],
     call: &Call,
     stamp: i64,
 ) -> Result<Reply, NoReply>
@@ -164,8 +168,8 @@ pub fn reply_call<A: Answers, B: Blocks>(
     requires ranges { KeepsRanges call.now }
     requires ready { (m : ℕ → Option (List ℕ)) → B.told under.old ≡ Some m → HasReady (geometry_of sup.now) bitmap.old (over group.old m) }
     requires empty { idle ≡ true → group.old ≡ [] }
-    ensures replied { (m : ℕ → Option (List ℕ)) (tree : Tree) (lists : Lists) → B.told under.old ≡ Some m → IsReady (geometry_of sup.now) bitmap.old (over group.old m) tree lists → IfOk result (IsReplied (geometry_of sup.now) bitmap.old bitmap.new m group.old group.new tree (idle ≡ true) stamp call.now) }
-    ensures put_off { (m : ℕ → Option (List ℕ)) (tree : Tree) (lists : Lists) → B.told under.old ≡ Some m → IsReady (geometry_of sup.now) bitmap.old (over group.old m) tree lists → IfErr result (IsNoReply (geometry_of sup.now) bitmap.old (over group.old m) (length group.old) tree (idle ≡ true) call.now) }
+    ensures replied { (m : ℕ → Option (List ℕ)) (tree : Tree) (lists : Lists) → B.told under.old ≡ Some m → IsReady (geometry_of sup.now) bitmap.old (over group.old m) tree lists → IfOk result (IsReplied (geometry_of sup.now) bitmap.old bitmap.new m group.old group.new tree holds.now (idle ≡ true) stamp call.now) }
+    ensures put_off { (m : ℕ → Option (List ℕ)) (tree : Tree) (lists : Lists) → B.told under.old ≡ Some m → IsReady (geometry_of sup.now) bitmap.old (over group.old m) tree lists → IfErr result (IsNoReply (geometry_of sup.now) bitmap.old (over group.old m) (length group.old) tree holds.now (idle ≡ true) call.now) }
     ensures cause { (stop : Option stops.Stop) → IfOk result (HasReplyCause (B.counts under.old) (B.counts under.new) stop) }
     ensures left { OnErr result ((group.new ≡ group.old) × (bitmap.new ≡ bitmap.old)) }
     ensures idle { StaysIdle bitmap.old bitmap.new group.old group.new }
@@ -177,7 +181,7 @@ pub fn reply_call<A: Answers, B: Blocks>(
     ensures note { (B.frame under.new).note ≡ (B.frame under.old).note }
     ensures size { B.size under.new ≡ B.size under.old }
 {
-    let looked = match look_call(alloc, sup, answers, bitmap, group, under, call) {
+    let looked = match look_call(alloc, sup, answers, bitmap, group, under, holds, call) {
         Ok(looked) => looked,
         Err(fault) => return reply_to_step(fault),
     };
@@ -187,7 +191,7 @@ pub fn reply_call<A: Answers, B: Blocks>(
             Ok(reply)
         }
         Looked::Allowed(allowed) => perform(
-            alloc, sup, answers, bitmap, group, under, idle, call, stamp, allowed,
+            alloc, sup, answers, bitmap, group, under, idle, holds, call, stamp, allowed,
         ),
     }
 }
@@ -202,6 +206,7 @@ pub fn reply_or_stopped<A: Answers, B: Blocks>(
     group: &mut Changed,
     under: &mut B,
     idle: bool,
+    holds: &[Hold],
     call: &Call,
     stamp: i64,
 ) -> Result<Reply, NoReply>
@@ -214,8 +219,8 @@ pub fn reply_or_stopped<A: Answers, B: Blocks>(
     requires ranges { KeepsRanges call.now }
     requires ready { (m : ℕ → Option (List ℕ)) → B.told under.old ≡ Some m → HasReady (geometry_of sup.now) bitmap.old (over group.old m) }
     requires empty { idle ≡ true → group.old ≡ [] }
-    ensures replied { (m : ℕ → Option (List ℕ)) (tree : Tree) (lists : Lists) → B.told under.old ≡ Some m → IsReady (geometry_of sup.now) bitmap.old (over group.old m) tree lists → IfOk result (IsReplied (geometry_of sup.now) bitmap.old bitmap.new m group.old group.new tree (idle ≡ true) stamp call.now) }
-    ensures put_off { (m : ℕ → Option (List ℕ)) (tree : Tree) (lists : Lists) → B.told under.old ≡ Some m → IsReady (geometry_of sup.now) bitmap.old (over group.old m) tree lists → IfErr result (IsNoReply (geometry_of sup.now) bitmap.old (over group.old m) (length group.old) tree (idle ≡ true) call.now) }
+    ensures replied { (m : ℕ → Option (List ℕ)) (tree : Tree) (lists : Lists) → B.told under.old ≡ Some m → IsReady (geometry_of sup.now) bitmap.old (over group.old m) tree lists → IfOk result (IsReplied (geometry_of sup.now) bitmap.old bitmap.new m group.old group.new tree holds.now (idle ≡ true) stamp call.now) }
+    ensures put_off { (m : ℕ → Option (List ℕ)) (tree : Tree) (lists : Lists) → B.told under.old ≡ Some m → IsReady (geometry_of sup.now) bitmap.old (over group.old m) tree lists → IfErr result (IsNoReply (geometry_of sup.now) bitmap.old (over group.old m) (length group.old) tree holds.now (idle ≡ true) call.now) }
     ensures cause { IfOk result (HasReplyCause (B.counts under.old) (B.counts under.new) stop) }
     ensures stopped { (s : stops.Stop) → stop ≡ Some s → IfOk result (λ reply. is_stopped reply ≡ true) }
     ensures left { OnErr result ((group.new ≡ group.old) × (bitmap.new ≡ bitmap.old)) }
@@ -230,6 +235,8 @@ pub fn reply_or_stopped<A: Answers, B: Blocks>(
 {
     match stop {
         Some(Stop { durable, faults }) => Ok(Reply::Stopped { durable, faults }),
-        None => reply_call(alloc, sup, answers, bitmap, group, under, idle, call, stamp),
+        None => reply_call(
+            alloc, sup, answers, bitmap, group, under, idle, holds, call, stamp,
+        ),
     }
 }

@@ -12,12 +12,13 @@ ghost use Rattle.bfs_bitmap.specs.Runs.{Fits};
 ghost use Rattle.bfs_space.specs.Books.{IsIdle, fresh, without, with_note, entry_noted, stop_after, sealed_room, released_room};
 
 use crate::Answers;
+use crate::holds::note_holds;
 use crate::replying::{NoReply, reply_or_stopped};
 use crate::stamp::draw;
 use bfs_bitmap::Bitmap;
 use bfs_device::Stop;
 use bfs_super::Super;
-use bfs_tree::{Call, Entry, Reply};
+use bfs_tree::{Call, Entry, Hold, Reply};
 use bfs_txn::{Blocks, Changed, Group};
 use std::alloc::{AllocError, Global};
 use std::marker::Model;
@@ -48,21 +49,24 @@ pub struct Space {
     /// The last entry's stamp.
     last: i64,
     promised: Vec<u32>,
+    /// The holds that the entries leave to sessions, with room for one more by each promise.
+    holds: Vec<Hold>,
     stop: Option<Stop>,
     /// Up to which number groups have left the log.
     left: u64,
 }
 
 impl Model for Space {
-    ghost use Rattle.std.specs.Prelude.{◌≤◌, ◌+◌, ◌^◌, length};
+    ghost use Rattle.std.specs.Prelude.{◌≡◌, ◌≤◌, ◌+◌, ◌^◌, length};
     ghost use Rattle.std.specs.Vec.{vec_capacity};
     ghost use Rattle.bfs_space.specs.Books.{SpaceBooks, HasParts, IsLastStamp, KnowsStop};
+    ghost use Rattle.bfs_space.specs.Holds.{held_by};
 
     ghost Value = { SpaceBooks };
 
     ghost view = { λ s. record { view = record { sup = s.sup; used = s.bitmap.tally.used; group = s.group; history = s.history.items; sealed = s.sealed; sealed_used = s.sealed_used; given = s.bitmap.given }; room = s.bitmap; promised = s.promised.items; stop = s.stop; left = s.left } };
 
-    ghost invariant = { λ s. HasParts s.sup s.bitmap s.group s.sealed (length s.history.items) × IsLastStamp s.history.items s.last × (length s.history.items + length s.promised.items ≤ vec_capacity s.history) × (length s.history.items + length s.promised.items ≤ 2 ^ 60) × KnowsStop s.history.items s.stop };
+    ghost invariant = { λ s. HasParts s.sup s.bitmap s.group s.sealed (length s.history.items) × IsLastStamp s.history.items s.last × (length s.history.items + length s.promised.items ≤ vec_capacity s.history) × (length s.history.items + length s.promised.items ≤ 2 ^ 60) × KnowsStop s.history.items s.stop × (s.holds.items ≡ held_by s.history.items) × (length s.holds.items + length s.promised.items ≤ vec_capacity s.holds) };
 }
 
 impl Space {
@@ -79,6 +83,7 @@ impl Space {
         let history = Vec::with_capacity(alloc, 1)?;
         let mut promised = Vec::new(alloc);
         promised.push(0)?;
+        let holds = Vec::with_capacity(alloc, 1)?;
         let bitmap = Bitmap::of(alloc, &sup);
         let sealed_used = bitmap.used();
         Ok(Space {
@@ -90,6 +95,7 @@ impl Space {
             sealed_used,
             last: 0,
             promised,
+            holds,
             stop: None,
             left: 0,
             sup,
@@ -117,13 +123,14 @@ impl Space {
             sealed_used: _,
             last: _,
             promised: _,
+            holds: _,
             stop: _,
             left: _,
         } = self;
         history
     }
 
-    /// Promises a session room for one entry, which every other call keeps.
+    /// Promises a session room for one entry, and for a hold that it may leave, which every other call keeps.
     pub fn promise(&mut self, session: u32) -> Result<(), AllocError>
         requires none { times session self.old.promised ≡ 0 }
         ensures ok { OnOk result (self.new ≡ record self.old { promised = self.old.promised ++ session ∷ [] }) }
@@ -133,6 +140,7 @@ impl Space {
             return Err(AllocError);
         }
         self.history.reserve(self.promised.len() + 1)?;
+        self.holds.reserve(self.promised.len() + 1)?;
         self.promised.push(session)?;
         Ok(())
     }
@@ -162,6 +170,7 @@ impl Space {
             call,
             reply,
         };
+        note_holds(&mut self.holds, &entry);
         append(&mut self.history, entry);
     }
 
@@ -209,6 +218,7 @@ impl Space {
             &mut self.group,
             under,
             idle,
+            self.holds.as_slice(),
             &call,
             stamp,
         ) {

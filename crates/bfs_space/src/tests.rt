@@ -1,6 +1,8 @@
-// A space without calls: what it is promised, what is noted and what is sealed; a call that fails over an open group; and calls of a
-// space, over blocks that tell nothing. The volume is the one that `mk --blocks 4096` makes, with 529 used blocks.
+// A space without calls: what it is promised, what is noted and what is sealed; a call that fails over an open group; calls of a
+// space, over blocks that tell nothing; and the holds that entries leave. The volume is the one that `mk --blocks 4096` makes, with 529 used
+// blocks.
 ghost use Rattle.std.specs.Prelude.{◌≡◌, ◌≢◌, ◌≤◌, ◌<◌, ◌+◌, ◌*◌, ◌^◌, ℕ, length, true, IsTrue, IfOk};
+ghost use Rattle.std.specs.Vec.{vec_capacity};
 ghost use Rattle.bfs_txn.specs.Changed.{number_at};
 ghost use Rattle.bfs_base.specs.Lists.{times, Has};
 ghost use Rattle.bfs_super.specs.Conditions.{IsValid};
@@ -8,6 +10,7 @@ ghost use Rattle.bfs_tree.specs.Answers.{KeepsRanges};
 ghost use Rattle.bfs_tree.specs.declared.call.Call.TheVariants.{Sync};
 ghost use Rattle.bfs_space.specs.Looks.{is_built};
 
+use crate::holds::note_holds;
 use crate::{Answers, CallFault, Calls, Looked, Outcome, Space, answer_call};
 use bfs_bitmap::Bitmap;
 use bfs_bytes::{Run, put_run, put_u32};
@@ -16,7 +19,7 @@ use bfs_mkfs::{format, layout_with_log};
 use bfs_node::TreeFault;
 use bfs_stream_pages::MapFault;
 use bfs_super::{Super, SuperFault};
-use bfs_tree::{Bytes, Call, FoundRow, Key, MakeKind, Reply};
+use bfs_tree::{Bytes, Call, Entry, FoundRow, Hold, Key, MakeKind, Reply};
 use bfs_txn::{BlockFault, Blocks, Changed, Edits, MemBlocks};
 use std::alloc::{AllocError, Global};
 use std::test::Fail;
@@ -151,11 +154,13 @@ struct Failing {
 }
 
 impl Answers for Failing {
-    ghost use Rattle.std.specs.Prelude.{true};
+    ghost use Rattle.bfs_space.specs.Holds.{keeps_holds};
 
-    ghost serves = { λ call. true };
+    ghost serves = { keeps_holds };
 
     ghost may = { λ sup call. Unit {0} };
+
+    ghost stays = { λ call is. is };
 
     fn look<E: Edits>(
         &self,
@@ -163,6 +168,7 @@ impl Answers for Failing {
         _sup: &Super,
         _bitmap: &mut Bitmap,
         _edits: &mut E,
+        _holds: &[Hold],
         _call: &Call,
     ) -> Result<Looked, MapFault> {
         Err(TreeFault::NoMemory)
@@ -174,6 +180,7 @@ impl Answers for Failing {
         sup: &Super,
         _bitmap: &mut Bitmap,
         edits: &mut E,
+        _holds: &[Hold],
         _call: &Call,
         _stamp: i64,
     ) -> Result<Reply, MapFault> {
@@ -206,6 +213,13 @@ fn what_a_failed_call_changed_is_given_up(rt: HostRuntime) -> Result<(), Fail> {
     let mut bitmap = Bitmap::of(alloc, &sup);
     let mut group = Changed::new(alloc);
     let answers = Failing { block: 600 };
+    let holds = [Hold {
+        session: 2,
+        id: 600,
+        at: 0,
+        length: 1,
+        write: true,
+    }];
     let answer = answer_call(
         alloc,
         &sup,
@@ -213,6 +227,7 @@ fn what_a_failed_call_changed_is_given_up(rt: HostRuntime) -> Result<(), Fail> {
         &mut bitmap,
         &mut group,
         &mut under,
+        &holds,
         &Call::IndexList,
         0,
         1,
@@ -301,6 +316,9 @@ fn told_by(reply: &Reply) -> (u8, u64, u64) {
         Reply::Rows { rows } => (16, rows.as_slice().len() as u64, first_id(rows.as_slice())),
         Reply::KeyKind => (17, 0, 0),
         Reply::NoIndex => (18, 0, 0),
+        Reply::NotEmpty => (19, 0, 0),
+        Reply::BuiltIn => (20, 0, 0),
+        Reply::NotDir => (21, 0, 0),
         _ => (0, 0, 0),
     }
 }
@@ -551,6 +569,76 @@ fn read_call(alloc: Global, which: u8) -> Result<Call, AllocError>
     })
 }
 
+/// A call that takes something out: a node with a name of one letter leaves a directory, or an index goes.
+fn taking_call(alloc: Global, dir: u64, name: &[u8], index: bool) -> Result<Call, AllocError>
+    ensures serves { IfOk result (λ call. is_built call ≡ true) }
+    ensures ranges { IfOk result KeepsRanges }
+    ensures other { IfOk result (λ call. call ≢ Sync) }
+{
+    let name = Bytes::from_slice(alloc, name)?;
+    if index {
+        return Ok(Call::IndexRemove { name });
+    }
+    Ok(Call::Remove { dir, name })
+}
+
+/// The reply to a call that takes something out.
+fn takes(
+    alloc: Global,
+    mount: &mut Mount,
+    dir: u64,
+    name: &[u8],
+    index: bool,
+) -> Result<(u8, u64, u64), AllocError> {
+    let call = taking_call(alloc, dir, name, index)?;
+    let answers = Calls {};
+    match mount
+        .space
+        .call(&answers, &mut mount.under, 1, 4, 1000, call)?
+    {
+        Outcome::Replied => match mount.space.history().last() {
+            Some(entry) => Ok(told_by(&entry.reply)),
+            None => Ok((0, 0, 0)),
+        },
+        Outcome::Drain(_) => Ok((5, 0, 0)),
+    }
+}
+
+#[test]
+fn what_is_removed_is_gone_and_its_blocks_serve_again(rt: HostRuntime) -> Result<(), Fail> {
+    let alloc = rt.alloc();
+    let Some(bytes) = new_volume(alloc, 4096, 512)? else {
+        return Err(Fail::from("no volume"));
+    };
+    let Some(mut mount) = mounts(alloc, bytes, 4096)? else {
+        return Err(Fail::from("no mount"));
+    };
+    let file = asks(alloc, &mut mount, 514, b'a', MakeKind::File)?;
+    assert_eq!(rt; file, (1, 529, 0));
+    assert_eq!(rt; reads(alloc, &mut mount, 5)?, (16, 1, 529));
+    assert_eq!(rt; takes(alloc, &mut mount, 514, b"a", false)?, (6, 0, 0));
+    assert_eq!(rt; takes(alloc, &mut mount, 514, b"a", false)?, (11, 0, 0));
+    assert_eq!(rt; takes(alloc, &mut mount, 529, b"a", false)?, (11, 0, 0));
+    assert_eq!(rt; reads(alloc, &mut mount, 5)?, (16, 0, 0));
+    assert_eq!(rt; asks_of(&mut mount, 2, 514)?, (8, 0, 0));
+    // Its block waits for the group to leave the log.
+    let dir = asks(alloc, &mut mount, 514, b'b', MakeKind::Dir)?;
+    assert_eq!(rt; dir, (1, 530, 0));
+    let inner = asks(alloc, &mut mount, 530, b'c', MakeKind::File)?;
+    assert_eq!(rt; inner.0, 1);
+    assert_eq!(rt; takes(alloc, &mut mount, 514, b"b", false)?, (19, 0, 0));
+    assert_eq!(rt; takes(alloc, &mut mount, inner.1, b"x", false)?, (21, 0, 0));
+    assert!(rt; drains(&mut mount));
+    let again = asks(alloc, &mut mount, 514, b'a', MakeKind::File)?;
+    assert_eq!(rt; again, (1, 529, 0));
+    assert_eq!(rt; takes(alloc, &mut mount, 530, b"c", false)?, (6, 0, 0));
+    assert_eq!(rt; takes(alloc, &mut mount, 514, b"b", false)?, (6, 0, 0));
+    assert_eq!(rt; asks_of(&mut mount, 2, 514)?, (8, 1, 0));
+    assert_eq!(rt; takes(alloc, &mut mount, 0, b"name", true)?, (20, 0, 0));
+    assert_eq!(rt; takes(alloc, &mut mount, 0, b"none", true)?, (18, 0, 0));
+    Ok(())
+}
+
 /// The reply to one of the calls that read attributes or indices.
 fn reads(alloc: Global, mount: &mut Mount, which: u8) -> Result<(u8, u64, u64), AllocError> {
     let call = read_call(alloc, which)?;
@@ -592,5 +680,71 @@ fn attributes_and_indices_are_read(rt: HostRuntime) -> Result<(), Fail> {
     for which in 0..8u8 {
         assert_eq!(rt; reads(alloc, &mut mount, which)?, wanted[which as usize]);
     }
+    Ok(())
+}
+
+/// Notes a call of a session in the holds, for which there is room.
+fn holds_since(holds: &mut Vec<Hold>, session: u32, call: Call, reply: Reply)
+    requires { length holds.old.items < vec_capacity holds.old }
+    ensures few { length holds.new.items ≤ length holds.old.items + 1 }
+    ensures room { vec_capacity holds.old ≤ vec_capacity holds.new }
+{
+    let entry = Entry {
+        session,
+        tag: 0,
+        stamp: 0,
+        call,
+        reply,
+    };
+    note_holds(holds, &entry);
+}
+
+/// A Hold for reading.
+fn hold_of(id: u64, at: u64) -> Call {
+    Call::Hold {
+        id,
+        at,
+        length: 4,
+        write: false,
+    }
+}
+
+/// A Release that says nothing of the bytes.
+fn release_of(alloc: Global, id: u64) -> Call {
+    Call::Release {
+        id,
+        bytes: Bytes::new(Vec::new(alloc)),
+        whole: false,
+        before: 0,
+        after: 0,
+    }
+}
+
+/// The session and the place of the hold at an index, or zeros.
+fn held_at(holds: &[Hold], i: usize) -> (u32, u64) {
+    match holds.get(i) {
+        Some(hold) => (hold.session, hold.at),
+        None => (0, 0),
+    }
+}
+
+#[test]
+fn holds_are_those_that_done_entries_leave(rt: HostRuntime) -> Result<(), Fail> {
+    let alloc = rt.alloc();
+    let mut holds = Vec::with_capacity(alloc, 8)?;
+    holds_since(&mut holds, 1, hold_of(600, 0), Reply::Done);
+    holds_since(&mut holds, 2, hold_of(600, 8), Reply::Done);
+    holds_since(&mut holds, 1, hold_of(600, 16), Reply::Done);
+    holds_since(&mut holds, 1, hold_of(601, 24), Reply::NotFound);
+    assert_eq!(rt; holds.len(), 3);
+    holds_since(&mut holds, 1, release_of(alloc, 600), Reply::Done);
+    assert_eq!(rt; holds.len(), 2);
+    assert_eq!(rt; held_at(&holds, 0), (1, 0));
+    assert_eq!(rt; held_at(&holds, 1), (2, 8));
+    holds_since(&mut holds, 1, release_of(alloc, 601), Reply::Done);
+    assert_eq!(rt; holds.len(), 2);
+    holds_since(&mut holds, 1, release_of(alloc, 600), Reply::Done);
+    assert_eq!(rt; holds.len(), 1);
+    assert_eq!(rt; held_at(&holds, 0), (2, 8));
     Ok(())
 }

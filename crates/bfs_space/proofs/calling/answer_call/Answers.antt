@@ -8,7 +8,7 @@ use Rattle.bfs_space.specs.Called.{is_changed}
 use Rattle.bfs_look.specs.Ready.{HasReady, IsReady}
 use Rattle.bfs_space.specs.Answered.{IsAnswered, IsKept, IsWithin, StaysIdle}
 use Rattle.bfs_bitmap.specs.Runs.{Room}
-use Rattle.bfs_space.proofs.Within.{idle_kept, idle_same, within}
+use Rattle.bfs_space.proofs.Within.{idle_kept, within}
 use Rattle.bfs_space.proofs.Fits.{kept_of, may_be_sealed, same_mark, whole}
 use Rattle.bfs_space.proofs.calling.answer_call.Goals as goal
 
@@ -17,9 +17,9 @@ answer_over-requires-clause-ready g c = λ m e. subst (λ (ps : List (ℕ × Lis
     (c.requires.ready m (ap g.B.Blocks.told (sym c.begin-overlay.ensures.under_now) ∙ e))
 
 pub answer_over-requires-clause-fine : goal.answer_over-requires-clause-fine
-answer_over-requires-clause-fine g c = λ m tree lists st e ready same.
+answer_over-requires-clause-fine g c = λ m tree lists st e ready same held.
     c.requires.fine m tree lists st (ap g.B.Blocks.told (sym c.begin-overlay.ensures.under_now) ∙ e)
-    (subst (λ (ps : List (ℕ × List ℕ)). IsReady (geometry_of c.args.sup.now) c.args.bitmap.now (over ps m) tree lists) c.begin-overlay.ensures.open_now ready) same
+    (subst (λ (ps : List (ℕ × List ℕ)). IsReady (geometry_of c.args.sup.now) c.args.bitmap.now (over ps m) tree lists) c.begin-overlay.ensures.open_now ready) same held
 
 pub returns-in-Ok-clause-within : goal.returns-in-Ok-clause-within
 returns-in-Ok-clause-within g c = λ m.
@@ -36,11 +36,11 @@ returns-in-Ok-clause-kept g c = λ m tree lists told ready.
     let under : g.B.Blocks.told c.begin-overlay.result.under.now ≡ Some m = ap g.B.Blocks.told c.begin-overlay.ensures.under_now ∙ told in
     let below : g.B.Blocks.told c.answer_over.new.overlay.under.now ≡ Some m = c.answer_over.ensures.told ∙ under in
     let same : to_z w64 (of_z w64 c.args.stamp) ≡ c.args.stamp = search rules in
-    let first = subst (λ (z : ℤ). IsAnswered (geometry_of c.args.sup.now) c.args.bitmap.now c.answer_over.new.bitmap (over c.begin-overlay.result.group.now m) tree z c.args.call.now c.in-Ok.reply (option_map (over c.answer_over.new.overlay.group.now) (g.B.Blocks.told c.answer_over.new.overlay.under.now)) (is_changed c.begin-overlay.result.group.now) (is_changed c.answer_over.new.overlay.group.now)) same
+    let first = subst (λ (z : ℤ). IsAnswered (geometry_of c.args.sup.now) c.args.bitmap.now c.answer_over.new.bitmap (over c.begin-overlay.result.group.now m) tree c.args.holds.now z c.args.call.now c.in-Ok.reply (option_map (over c.answer_over.new.overlay.group.now) (g.B.Blocks.told c.answer_over.new.overlay.under.now)) (is_changed c.begin-overlay.result.group.now) (is_changed c.answer_over.new.overlay.group.now)) same
     (c.in-Ok.ensures.answered m tree lists under (subst (λ (ps : List (ℕ × List ℕ)). IsReady (geometry_of c.args.sup.now) c.args.bitmap.now (over ps m) tree lists) (sym c.begin-overlay.ensures.open_now) ready)) in
-    let answered = subst (λ (ps : List (ℕ × List ℕ)). IsAnswered (geometry_of c.args.sup.now) c.args.bitmap.now c.answer_over.new.bitmap (over ps m) tree c.args.stamp c.args.call.now c.in-Ok.reply (option_map (over c.answer_over.new.overlay.group.now) (g.B.Blocks.told c.answer_over.new.overlay.under.now)) (is_changed ps) (is_changed c.answer_over.new.overlay.group.now)) c.begin-overlay.ensures.open_now first in
-    subst (λ (ps : List (ℕ × List ℕ)). IsKept (geometry_of c.args.sup.now) c.args.bitmap.now c.keep-in-Ok.new.self m c.args.group.now ps tree c.args.stamp c.args.call.now c.in-Ok.reply) (search rules)
-    (kept_of (geometry_of c.args.sup.now) c.args.bitmap.now c.answer_over.new.bitmap c.keep-in-Ok.new.self m tree c.args.stamp c.args.call.now c.in-Ok.reply c.args.group.now c.answer_over.new.overlay.group.now c.keep.new.self.0 (g.B.Blocks.told c.answer_over.new.overlay.under.now) below c.keep.ensures.reads c.keep-in-Ok.ensures.given c.keep-in-Ok.ensures.fits answered)
+    let answered = subst (λ (ps : List (ℕ × List ℕ)). IsAnswered (geometry_of c.args.sup.now) c.args.bitmap.now c.answer_over.new.bitmap (over ps m) tree c.args.holds.now c.args.stamp c.args.call.now c.in-Ok.reply (option_map (over c.answer_over.new.overlay.group.now) (g.B.Blocks.told c.answer_over.new.overlay.under.now)) (is_changed ps) (is_changed c.answer_over.new.overlay.group.now)) c.begin-overlay.ensures.open_now first in
+    subst (λ (ps : List (ℕ × List ℕ)). IsKept (geometry_of c.args.sup.now) c.args.bitmap.now c.keep-in-Ok.new.self m c.args.group.now ps tree c.args.holds.now c.args.stamp c.args.call.now c.in-Ok.reply) (search rules)
+    (kept_of (geometry_of c.args.sup.now) c.args.bitmap.now c.answer_over.new.bitmap c.keep-in-Ok.new.self m tree c.args.holds.now c.args.stamp c.args.call.now c.in-Ok.reply c.args.group.now c.answer_over.new.overlay.group.now c.keep.new.self.0 (g.B.Blocks.told c.answer_over.new.overlay.under.now) below c.keep.ensures.reads c.keep-in-Ok.ensures.given c.keep-in-Ok.ensures.fits answered)
 
 pub returns-in-Ok-clause-group : goal.returns-in-Ok-clause-group
 returns-in-Ok-clause-group g c =

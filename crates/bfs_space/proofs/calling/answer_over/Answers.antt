@@ -15,8 +15,8 @@ answer-requires-clause-ready g c = λ m e. let r = mapped (over c.args.overlay.n
     subst (HasReady (geometry_of c.args.sup.now) c.args.bitmap.now) r.1.1 (c.requires.ready r.0 r.1.0)
 
 pub answer-requires-clause-fine : goal.answer-requires-clause-fine
-answer-requires-clause-fine g c = λ m tree lists st e ready same. let r = mapped (over c.args.overlay.now.group.now) (g.B.Blocks.told c.args.overlay.now.under.now) m e in
-    c.requires.fine r.0 tree lists st r.1.0 (subst (λ (x : ℕ → Option (List ℕ)). IsReady (geometry_of c.args.sup.now) c.args.bitmap.now x tree lists) (sym r.1.1) ready) same
+answer-requires-clause-fine g c = λ m tree lists st e ready same held. let r = mapped (over c.args.overlay.now.group.now) (g.B.Blocks.told c.args.overlay.now.under.now) m e in
+    c.requires.fine r.0 tree lists st r.1.0 (subst (λ (x : ℕ → Option (List ℕ)). IsReady (geometry_of c.args.sup.now) c.args.bitmap.now x tree lists) (sym r.1.1) ready) same held
 
 pub may_be_kept-requires-clause-mark : goal.may_be_kept-requires-clause-mark
 may_be_kept-requires-clause-mark g c =
@@ -27,7 +27,7 @@ may_be_kept-requires-clause-mark g c =
 pub returns-in-Ok-may_be_kept-clause-answered : goal.returns-in-Ok-may_be_kept-clause-answered
 returns-in-Ok-may_be_kept-clause-answered g c = λ m tree lists told ready.
     let same : to_z w64 (of_z w64 c.args.stamp) ≡ c.args.stamp = search rules in
-    subst (λ (z : ℤ). IsAnswered (geometry_of c.args.sup.now) c.args.bitmap.now c.answer.new.bitmap (over c.args.overlay.now.group.now m) tree z c.args.call.now c.in-Ok.reply (option_map (over c.answer.new.edits.group.now) (g.B.Blocks.told c.answer.new.edits.under.now)) (is_changed c.args.overlay.now.group.now) (is_changed c.answer.new.edits.group.now)) same
+    subst (λ (z : ℤ). IsAnswered (geometry_of c.args.sup.now) c.args.bitmap.now c.answer.new.bitmap (over c.args.overlay.now.group.now m) tree c.args.holds.now z c.args.call.now c.in-Ok.reply (option_map (over c.answer.new.edits.group.now) (g.B.Blocks.told c.answer.new.edits.under.now)) (is_changed c.args.overlay.now.group.now) (is_changed c.answer.new.edits.group.now)) same
     (c.in-Ok.ensures.answered (over c.args.overlay.now.group.now m) tree lists (ap (option_map (over c.args.overlay.now.group.now)) told) ready)
 
 pub returns-in-Ok-may_be_kept-clause-fit : goal.returns-in-Ok-may_be_kept-clause-fit
@@ -38,7 +38,7 @@ returns-in-Ok-may_be_kept-clause-fit g c =
 
 pub returns-in-Err-may_be_kept-clause-unanswered : goal.returns-in-Err-may_be_kept-clause-unanswered
 returns-in-Err-may_be_kept-clause-unanswered g c = λ m tree lists told ready.
-    kept_but c.args.sup.now c.args.bitmap.now c.answer.new.bitmap (over c.args.overlay.now.group.now m) tree _ c.args.call.now c.in-Ok.reply _ c.args.overlay.now.group.now c.answer.new.edits.group.now c.args.mark c.args.allowed c.used-was.result c.in-Err-may_be_kept.why c.requires.open
+    kept_but c.args.sup.now c.args.bitmap.now c.answer.new.bitmap (over c.args.overlay.now.group.now m) tree c.args.holds.now _ c.args.call.now c.in-Ok.reply _ c.args.overlay.now.group.now c.answer.new.edits.group.now c.args.mark c.args.allowed c.used-was.result c.in-Err-may_be_kept.why c.requires.open
     (c.in-Ok.ensures.answered (over c.args.overlay.now.group.now m) tree lists (ap (option_map (over c.args.overlay.now.group.now)) told) ready) c.in-Err-may_be_kept.ensures.err
 
 pub returns-in-Err-clause-unanswered : goal.returns-in-Err-clause-unanswered

@@ -15,7 +15,7 @@ returns-in-Err-clause-unanswered g c m tree lists told ready =
     undone_unanswered c.in-Err.fault (c.in-Err.ensures.refused m tree lists (record { tree = tree; holds = []; known = empty }) 0 told ready refl)
 
 pub returns-in-Some-clause-looked : goal.returns-in-Some-clause-looked
-returns-in-Some-clause-looked g c m tree lists mode told ready = λ s same session stamp.
+returns-in-Some-clause-looked g c m tree lists holds mode told ready = λ s same held session stamp.
     ByTree.refused (sym (sym c.in-Some.is ∙ c.in-Ok.ensures.refused m tree lists s mode told ready same)) refl
 
 pub make_allowance-requires-clause-ready : goal.make_allowance-requires-clause-ready
@@ -23,13 +23,13 @@ make_allowance-requires-clause-ready g c m told =
     subst (λ (v : Room). HasReady (geometry_of c.args.sup.now) v m) (sym c.in-Ok.ensures.bitmap) (c.requires.ready m (sym c.in-Ok.ensures.told ∙ told))
 
 pub returns-in-Ok-make_allowance-clause-looked : goal.returns-in-Ok-make_allowance-clause-looked
-returns-in-Ok-make_allowance-clause-looked g c m tree lists mode told ready =
+returns-in-Ok-make_allowance-clause-looked g c m tree lists holds mode told ready =
     let st : State = record { tree = tree; holds = []; known = empty } in
     let ready_here = subst (λ (v : Room). IsReady (geometry_of c.args.sup.now) v m tree lists) (sym c.in-Ok.ensures.bitmap) ready in
     let told_here = c.in-Ok.ensures.told ∙ told in
     let here = may_be st c.args.dir c.args.name.now c.args.kind.now mode (sym (sym c.in-None.is ∙ c.in-Ok.ensures.refused m tree lists st mode told ready refl)) in record {
       changes = refl;
-      fine = λ s same. sym (sym c.in-None.is ∙ c.in-Ok.ensures.refused m tree lists s mode told ready same);
+      fine = λ s same held. sym (sym c.in-None.is ∙ c.in-Ok.ensures.refused m tree lists s mode told ready same);
       is = c.in-Ok-make_allowance.ensures.allowed m tree lists c.args.dir c.args.name.now mode told_here ready_here;
       within = c.in-Ok-make_allowance.ensures.within m tree lists c.args.dir here.0 c.args.name.now mode told_here ready_here here.1 (dir_is here.0.kind here.2);
     }

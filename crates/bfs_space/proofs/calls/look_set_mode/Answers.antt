@@ -14,15 +14,15 @@ returns-in-Err-clause-unanswered g c m tree lists told ready =
     undone_unanswered c.in-Err.fault (c.in-Err.ensures.refused m tree lists (record { tree = tree; holds = []; known = empty }) 0 (pos 0) (pos 0) told ready refl)
 
 pub returns-in-Some-clause-looked : goal.returns-in-Some-clause-looked
-returns-in-Some-clause-looked g c m tree lists mode uid gid told ready =
-    IfOk-weaker c.found.result (λ l. l ≡ Answered c.in-Some.reply) (IsLooked (geometry_of c.args.sup.now) m tree (SetMode c.args.id mode uid gid))
-    (λ l e. subst (IsLooked (geometry_of c.args.sup.now) m tree (SetMode c.args.id mode uid gid)) (sym e)
-    (λ s same session stamp. ByTree.refused (sym (sym c.in-Some.is ∙ c.in-Ok.ensures.refused m tree lists s mode uid gid told ready same)) refl)) c.found.ensures.that
+returns-in-Some-clause-looked g c m tree lists holds mode uid gid told ready =
+    IfOk-weaker c.found.result (λ l. l ≡ Answered c.in-Some.reply) (IsLooked (geometry_of c.args.sup.now) m tree holds (SetMode c.args.id mode uid gid))
+    (λ l e. subst (IsLooked (geometry_of c.args.sup.now) m tree holds (SetMode c.args.id mode uid gid)) (sym e)
+    (λ s same held session stamp. ByTree.refused (sym (sym c.in-Some.is ∙ c.in-Ok.ensures.refused m tree lists s mode uid gid told ready same)) refl)) c.found.ensures.that
 
 pub returns-in-None-clause-looked : goal.returns-in-None-clause-looked
-returns-in-None-clause-looked g c m tree lists mode uid gid told ready = record {
+returns-in-None-clause-looked g c m tree lists holds mode uid gid told ready = record {
   changes = refl;
-  fine = λ s same. sym (sym c.in-None.is ∙ c.in-Ok.ensures.refused m tree lists s mode uid gid told ready same);
+  fine = λ s same held. sym (sym c.in-None.is ∙ c.in-Ok.ensures.refused m tree lists s mode uid gid told ready same);
   is = omega arith;
   within = omega arith;
 }

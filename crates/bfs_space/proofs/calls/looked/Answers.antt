@@ -11,6 +11,6 @@ use Rattle.bfs_space.specs.Looks.{IsLooked}
 use Rattle.bfs_space.proofs.calls.looked.Goals as goal
 
 pub returns-in-Ok-clause-looked : goal.returns-in-Ok-clause-looked
-returns-in-Ok-clause-looked c = λ g m tree call reads.
-    IfOk-weaker c.found.result (λ l. l ≡ Answered c.in-Ok.reply) (IsLooked g m tree call)
-    (λ l e. subst (IsLooked g m tree call) (sym e) (λ s same. subst (λ (r : Result Reply (TreeFault GrowFault)). MatchResult r (Reads call s) IsUndone) c.in-Ok.is (reads s same))) c.found.ensures.that
+returns-in-Ok-clause-looked c = λ g m tree holds call reads.
+    IfOk-weaker c.found.result (λ l. l ≡ Answered c.in-Ok.reply) (IsLooked g m tree holds call)
+    (λ l e. subst (IsLooked g m tree holds call) (sym e) (λ s same held. subst (λ (r : Result Reply (TreeFault GrowFault)). MatchResult r (Reads call s) IsUndone) c.in-Ok.is (reads s same))) c.found.ensures.that

@@ -5,7 +5,7 @@ use Rattle.bfs_txn.specs.Changed.{over}
 use Rattle.bfs_space.proofs.lacking.say_no_space.Goals as goal
 
 pub returns-then-few-clause-short : goal.returns-then-few-clause-short
-returns-then-few-clause-short g c = λ m tree call told has change takes within.
+returns-then-few-clause-short g c = λ m tree holds call told has change takes within.
     let blocks : c.geometry-geometry.result.blocks ≡ c.args.bitmap.now.blocks = ap (λ (x : Geometry). x.blocks) c.geometry-geometry.ensures ∙ sym c.requires.volume.blocks in
     let used = c.used.ensures.value in
     let len : c.array_length.result ≡ array_run c.args.bitmap.now = c.array_length.ensures.value ∙ ap (λ (n : ℕ). max 1 (4096 / n)) (sym c.requires.volume.block_size) in record {

@@ -17,7 +17,7 @@ look-looked-requires-clause-ready g c = λ m e.
 pub returns-clause-looked : goal.returns-clause-looked
 returns-clause-looked g c = λ m tree lists told ready.
     let under : g.B.Blocks.told c.begin-overlay.result.under.now ≡ Some m = ap g.B.Blocks.told c.begin-overlay.ensures.under_now ∙ told in
-    subst (λ (ps : List (ℕ × List ℕ)). IfOk c.look-looked.result (IsLooked (geometry_of c.args.sup.now) (over ps m) tree c.args.call.now)) c.begin-overlay.ensures.open_now
+    subst (λ (ps : List (ℕ × List ℕ)). IfOk c.look-looked.result (IsLooked (geometry_of c.args.sup.now) (over ps m) tree c.args.holds.now c.args.call.now)) c.begin-overlay.ensures.open_now
     (c.look-looked.ensures.looked (over c.begin-overlay.result.group.now m) tree lists (ap (option_map (over c.begin-overlay.result.group.now)) under)
     (subst (λ (ps : List (ℕ × List ℕ)). IsReady (geometry_of c.args.sup.now) c.args.bitmap.now (over ps m) tree lists) (sym c.begin-overlay.ensures.open_now) ready))
 

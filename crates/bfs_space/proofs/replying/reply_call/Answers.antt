@@ -21,9 +21,9 @@ use Rattle.bfs_space.proofs.replying.reply_call.Goals as goal
 pub returns-in-Err-clause-replied : goal.returns-in-Err-clause-replied
 returns-in-Err-clause-replied g c = λ m tree lists told ready.
     let s = geometry_of c.args.sup.now in
-    that_ok (reply_to c.in-Err.fault) (IsReplied s c.args.bitmap.now c.look_call.new.bitmap m c.args.group.now c.look_call.new.group tree (c.args.idle ≡ true) c.args.stamp c.args.call.now) c.reply_to_step.result c.reply_to_step.ensures
-    (λ r is. away s c.args.bitmap.now c.look_call.new.bitmap m c.args.group.now c.look_call.new.group tree (c.args.idle ≡ true) c.args.stamp c.args.call.now r c.in-Err.ensures.bitmap c.in-Err.ensures.group
-    (step_outside s c.args.bitmap.now (over c.args.group.now m) tree (c.args.idle ≡ true) c.args.call.now c.in-Err.fault r is (c.in-Err.ensures.unanswered m tree lists told ready)))
+    that_ok (reply_to c.in-Err.fault) (IsReplied s c.args.bitmap.now c.look_call.new.bitmap m c.args.group.now c.look_call.new.group tree c.args.holds.now (c.args.idle ≡ true) c.args.stamp c.args.call.now) c.reply_to_step.result c.reply_to_step.ensures
+    (λ r is. away s c.args.bitmap.now c.look_call.new.bitmap m c.args.group.now c.look_call.new.group tree c.args.holds.now (c.args.idle ≡ true) c.args.stamp c.args.call.now r c.in-Err.ensures.bitmap c.in-Err.ensures.group
+    (step_outside s c.args.bitmap.now (over c.args.group.now m) tree c.args.holds.now (c.args.idle ≡ true) c.args.call.now c.in-Err.fault r is (c.in-Err.ensures.unanswered m tree lists told ready)))
 
 pub perform-requires-clause-ready : goal.perform-requires-clause-ready
 perform-requires-clause-ready g c = λ m told.
@@ -35,19 +35,19 @@ perform-requires-clause-allowed g c = λ m tree lists told ready.
     let s = geometry_of c.args.sup.now in
     let here : IsReady s c.args.bitmap.now (over c.args.group.now m) tree lists =
     subst (λ (ps : List (ℕ × List ℕ)). IsReady s c.args.bitmap.now (over ps m) tree lists) c.in-Ok.ensures.group (subst (λ (x : Room). IsReady s x (over c.look_call.new.group m) tree lists) c.in-Ok.ensures.bitmap ready) in
-    let found = subst (λ (l : Looked). IsLooked s (over c.args.group.now m) tree c.args.call.now l) c.in-Allowed.is (c.in-Ok.ensures.looked m tree lists (sym c.in-Ok.ensures.told ∙ told) here) in
-    subst (λ (ps : List (ℕ × List ℕ)). IsAllowed s (over ps m) tree c.args.call.now c.in-Allowed.allowed) (sym c.in-Ok.ensures.group) found
+    let found = subst (λ (l : Looked). IsLooked s (over c.args.group.now m) tree c.args.holds.now c.args.call.now l) c.in-Allowed.is (c.in-Ok.ensures.looked m tree lists (sym c.in-Ok.ensures.told ∙ told) here) in
+    subst (λ (ps : List (ℕ × List ℕ)). IsAllowed s (over ps m) tree c.args.holds.now c.args.call.now c.in-Allowed.allowed) (sym c.in-Ok.ensures.group) found
 
 pub returns-in-Answered-clause-replied : goal.returns-in-Answered-clause-replied
 returns-in-Answered-clause-replied g c = λ m tree lists told ready.
     let s = geometry_of c.args.sup.now in
-    let reads = subst (λ (l : Looked). IsLooked s (over c.args.group.now m) tree c.args.call.now l) c.in-Answered.is (c.in-Ok.ensures.looked m tree lists told ready) in
+    let reads = subst (λ (l : Looked). IsLooked s (over c.args.group.now m) tree c.args.holds.now c.args.call.now l) c.in-Answered.is (c.in-Ok.ensures.looked m tree lists told ready) in
     let room : c.keep.new.self ≡ room_kept c.args.bitmap.now = c.keep.ensures.given ∙ ap room_kept c.in-Ok.ensures.bitmap in
     let keeps : (x : ℕ → Option (List ℕ)) → Fits c.args.bitmap.now x → Fits c.keep.new.self x = λ x fits. c.keep.ensures.fits x (subst (λ (r : Room). Fits r x) (sym c.in-Ok.ensures.bitmap) fits) in
-    let kept : IsKept s c.args.bitmap.now c.keep.new.self m c.args.group.now c.args.group.now tree c.args.stamp c.args.call.now c.in-Answered.reply =
-    kept_of s c.args.bitmap.now c.args.bitmap.now c.keep.new.self m tree c.args.stamp c.args.call.now c.in-Answered.reply c.args.group.now c.args.group.now c.args.group.now (Some m) refl (λ k. refl) room keeps
-    (read_is_answered s c.args.bitmap.now (over c.args.group.now m) tree lists (Some (over c.args.group.now m)) (is_changed c.args.group.now) c.args.stamp c.args.call.now c.in-Answered.reply ready refl reads) in
-    subst (λ (ps : List (ℕ × List ℕ)). IsReplied s c.args.bitmap.now c.keep.new.self m c.args.group.now ps tree (c.args.idle ≡ true) c.args.stamp c.args.call.now c.in-Answered.reply) (sym c.in-Ok.ensures.group)
+    let kept : IsKept s c.args.bitmap.now c.keep.new.self m c.args.group.now c.args.group.now tree c.args.holds.now c.args.stamp c.args.call.now c.in-Answered.reply =
+    kept_of s c.args.bitmap.now c.args.bitmap.now c.keep.new.self m tree c.args.holds.now c.args.stamp c.args.call.now c.in-Answered.reply c.args.group.now c.args.group.now c.args.group.now (Some m) refl (λ k. refl) room keeps
+    (read_is_answered s c.args.bitmap.now (over c.args.group.now m) tree c.args.holds.now lists (Some (over c.args.group.now m)) (is_changed c.args.group.now) c.args.stamp c.args.call.now c.in-Answered.reply ready refl reads) in
+    subst (λ (ps : List (ℕ × List ℕ)). IsReplied s c.args.bitmap.now c.keep.new.self m c.args.group.now ps tree c.args.holds.now (c.args.idle ≡ true) c.args.stamp c.args.call.now c.in-Answered.reply) (sym c.in-Ok.ensures.group)
     (inl (record {
       kept = kept;
       own = subst FindsOwn c.in-Answered.is c.in-Ok.ensures.own;
@@ -61,9 +61,9 @@ returns-in-Allowed-clause-replied g c = λ m tree lists told ready.
     let same : to_z w64 (of_z w64 c.args.stamp) ≡ c.args.stamp = search rules in
     let there : IsReady s c.look_call.new.bitmap (over c.look_call.new.group m) tree lists =
     subst (λ (x : Room). IsReady s x (over c.look_call.new.group m) tree lists) (sym c.in-Ok.ensures.bitmap) (subst (λ (ps : List (ℕ × List ℕ)). IsReady s c.args.bitmap.now (over ps m) tree lists) (sym c.in-Ok.ensures.group) ready) in
-    subst (λ (z : ℤ). IfOk c.perform.result (IsReplied s c.args.bitmap.now c.perform.new.bitmap m c.args.group.now c.perform.new.group tree (c.args.idle ≡ true) z c.args.call.now)) same
-    (subst (λ (ps : List (ℕ × List ℕ)). IfOk c.perform.result (IsReplied s c.args.bitmap.now c.perform.new.bitmap m ps c.perform.new.group tree (c.args.idle ≡ true) (to_z w64 (of_z w64 c.args.stamp)) c.args.call.now)) c.in-Ok.ensures.group
-    (subst (λ (x : Room). IfOk c.perform.result (IsReplied s x c.perform.new.bitmap m c.look_call.new.group c.perform.new.group tree (c.args.idle ≡ true) (to_z w64 (of_z w64 c.args.stamp)) c.args.call.now)) c.in-Ok.ensures.bitmap
+    subst (λ (z : ℤ). IfOk c.perform.result (IsReplied s c.args.bitmap.now c.perform.new.bitmap m c.args.group.now c.perform.new.group tree c.args.holds.now (c.args.idle ≡ true) z c.args.call.now)) same
+    (subst (λ (ps : List (ℕ × List ℕ)). IfOk c.perform.result (IsReplied s c.args.bitmap.now c.perform.new.bitmap m ps c.perform.new.group tree c.args.holds.now (c.args.idle ≡ true) (to_z w64 (of_z w64 c.args.stamp)) c.args.call.now)) c.in-Ok.ensures.group
+    (subst (λ (x : Room). IfOk c.perform.result (IsReplied s x c.perform.new.bitmap m c.look_call.new.group c.perform.new.group tree c.args.holds.now (c.args.idle ≡ true) (to_z w64 (of_z w64 c.args.stamp)) c.args.call.now)) c.in-Ok.ensures.bitmap
     (c.perform.ensures.replied m tree lists (c.in-Ok.ensures.told ∙ told) there)))
 
 pub returns-in-Allowed-clause-put_off : goal.returns-in-Allowed-clause-put_off
@@ -71,8 +71,8 @@ returns-in-Allowed-clause-put_off g c = λ m tree lists told ready.
     let s = geometry_of c.args.sup.now in
     let there : IsReady s c.look_call.new.bitmap (over c.look_call.new.group m) tree lists =
     subst (λ (x : Room). IsReady s x (over c.look_call.new.group m) tree lists) (sym c.in-Ok.ensures.bitmap) (subst (λ (ps : List (ℕ × List ℕ)). IsReady s c.args.bitmap.now (over ps m) tree lists) (sym c.in-Ok.ensures.group) ready) in
-    subst (λ (ps : List (ℕ × List ℕ)). IfErr c.perform.result (IsNoReply s c.args.bitmap.now (over ps m) (length ps) tree (c.args.idle ≡ true) c.args.call.now)) c.in-Ok.ensures.group
-    (subst (λ (x : Room). IfErr c.perform.result (IsNoReply s x (over c.look_call.new.group m) (length c.look_call.new.group) tree (c.args.idle ≡ true) c.args.call.now)) c.in-Ok.ensures.bitmap
+    subst (λ (ps : List (ℕ × List ℕ)). IfErr c.perform.result (IsNoReply s c.args.bitmap.now (over ps m) (length ps) tree c.args.holds.now (c.args.idle ≡ true) c.args.call.now)) c.in-Ok.ensures.group
+    (subst (λ (x : Room). IfErr c.perform.result (IsNoReply s x (over c.look_call.new.group m) (length c.look_call.new.group) tree c.args.holds.now (c.args.idle ≡ true) c.args.call.now)) c.in-Ok.ensures.bitmap
     (c.perform.ensures.put_off m tree lists (c.in-Ok.ensures.told ∙ told) there))
 
 pub returns-in-Allowed-clause-cause : goal.returns-in-Allowed-clause-cause

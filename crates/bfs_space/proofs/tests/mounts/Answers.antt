@@ -1,4 +1,4 @@
-use Rattle.std.proofs.Common.{rules, ◌≡◌, ◌*◌, length}
+use Rattle.std.proofs.Common.{rules}
 use Rattle.bfs_space.proofs.tests.mounts.Goals as goal
 
 pub new-requires : goal.new-requires

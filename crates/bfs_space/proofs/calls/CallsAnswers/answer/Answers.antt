@@ -1,9 +1,11 @@
 use Rattle.std.proofs.Common.{rules, ◌≡◌, ◌∙◌, ℕ, ℤ, List, [], None, refl, sym, ap, subst, w32, w64, to_z, of_z}
 use Rattle.std.specs.FinMap.{empty}
+use Rattle.std.specs.Prelude.{IfOk}
 use Rattle.bfs_super.specs.Geometry.{geometry_of}
 use Rattle.bfs_tree.specs.declared.call.Call.{Call}
-use Rattle.bfs_tree.specs.declared.call.Call.TheVariants.{Make, SetMode}
+use Rattle.bfs_tree.specs.declared.call.Call.TheVariants.{Make, SetMode, Remove, IndexRemove}
 use Rattle.bfs_tree.specs.declared.reply.Reply.TheVariants.{Done, Made}
+use Rattle.bfs_tree.specs.declared.reply.Reply.{Reply}
 use Rattle.bfs_tree.specs.Refusals.{own_refusal}
 use Rattle.bfs_tree.specs.States.{State}
 use Rattle.bfs_calls.specs.Done.{IsDoneSo}
@@ -16,7 +18,7 @@ use Rattle.bfs_space.proofs.calls.CallsAnswers.answer.Goals as goal
 pub make_node-requires-clause-fine : goal.make_node-requires-clause-fine
 make_node-requires-clause-fine g c m tree lists s told ready same =
     let is : c.args.call.now ≡ Make c.in-Make.dir c.as_slice.result.now c.in-Make.kind c.in-Make.mode = c.in-Make.is ∙ ap (λ (n : List ℕ). Make c.in-Make.dir n c.in-Make.kind c.in-Make.mode) (sym c.as_slice.ensures) in
-    subst (λ (x : Call). own_refusal x s ≡ None) is (c.requires.fine m tree lists s told ready same)
+    subst (λ (x : Call). own_refusal x (record { tree = s.tree; holds = c.args.holds.now; known = s.known }) ≡ None) is (c.requires.fine m tree lists (record { tree = s.tree; holds = c.args.holds.now; known = s.known }) told ready same refl)
 
 pub returns-in-Ok-clause-answered : goal.returns-in-Ok-clause-answered
 returns-in-Ok-clause-answered g c m tree lists told ready =
@@ -29,9 +31,9 @@ returns-in-Ok-clause-answered g c m tree lists told ready =
     (c.in-Ok.ensures.made m tree lists st told ready refl) in
     let so =
     made_so s c.args.bitmap.now c.make_node.new.bitmap m tree c.in-Make.dir c.as_slice.result.now c.in-Make.kind c.in-Make.mode c.args.stamp c.in-Ok.id (g.E.Blocks.told c.make_node.new.edits) (g.E.Blocks.changed c.args.edits.now) (g.E.Blocks.changed c.make_node.new.edits)
-    (λ other same. subst (λ (x : Call). own_refusal x other ≡ None) is (c.requires.fine m tree lists other told ready same)) one in
-    subst (λ (x : Call). IsAnswered s c.args.bitmap.now c.make_node.new.bitmap m tree c.args.stamp x (Made c.in-Ok.id) (g.E.Blocks.told c.make_node.new.edits) (g.E.Blocks.changed c.args.edits.now) (g.E.Blocks.changed c.make_node.new.edits)) (sym is)
-    (done_is_answered s c.args.bitmap.now c.make_node.new.bitmap m tree lists (g.E.Blocks.told c.make_node.new.edits) (g.E.Blocks.changed c.args.edits.now) (g.E.Blocks.changed c.make_node.new.edits) ready c.args.stamp (Make c.in-Make.dir c.as_slice.result.now c.in-Make.kind c.in-Make.mode) (Made c.in-Ok.id) so)
+    (λ other same. subst (λ (x : Call). own_refusal x (record { tree = other.tree; holds = c.args.holds.now; known = other.known }) ≡ None) is (c.requires.fine m tree lists (record { tree = other.tree; holds = c.args.holds.now; known = other.known }) told ready same refl)) one in
+    subst (λ (x : Call). IsAnswered s c.args.bitmap.now c.make_node.new.bitmap m tree c.args.holds.now c.args.stamp x (Made c.in-Ok.id) (g.E.Blocks.told c.make_node.new.edits) (g.E.Blocks.changed c.args.edits.now) (g.E.Blocks.changed c.make_node.new.edits)) (sym is)
+    (done_is_answered s c.args.bitmap.now c.make_node.new.bitmap m tree lists (g.E.Blocks.told c.make_node.new.edits) (g.E.Blocks.changed c.args.edits.now) (g.E.Blocks.changed c.make_node.new.edits) ready c.args.holds.now c.args.stamp (Make c.in-Make.dir c.as_slice.result.now c.in-Make.kind c.in-Make.mode) (Made c.in-Ok.id) so)
 
 pub returns-in-Ok-set_mode-clause-answered : goal.returns-in-Ok-set_mode-clause-answered
 returns-in-Ok-set_mode-clause-answered g c m tree lists told ready =
@@ -43,5 +45,34 @@ returns-in-Ok-set_mode-clause-answered g c m tree lists told ready =
     let so : IsDoneSo s c.args.bitmap.now c.args.bitmap.now m tree c.args.stamp c.args.call.now Done (g.E.Blocks.told c.set_mode.new.edits) (g.E.Blocks.changed c.args.edits.now) (g.E.Blocks.changed c.set_mode.new.edits) =
     subst (λ (x : Call). IsDoneSo s c.args.bitmap.now c.args.bitmap.now m tree c.args.stamp x Done (g.E.Blocks.told c.set_mode.new.edits) (g.E.Blocks.changed c.args.edits.now) (g.E.Blocks.changed c.set_mode.new.edits)) (sym is)
     (subst (λ (z : ℤ). IsDoneSo s c.args.bitmap.now c.args.bitmap.now m tree z (SetMode c.in-SetMode.id c.in-SetMode.mode (to_z w32 (of_z w32 c.in-SetMode.uid)) (to_z w32 (of_z w32 c.in-SetMode.gid))) Done (g.E.Blocks.told c.set_mode.new.edits) (g.E.Blocks.changed c.args.edits.now) (g.E.Blocks.changed c.set_mode.new.edits)) stamp
-    (c.in-Ok-set_mode.ensures.done c.args.bitmap.now m tree lists told ready (λ other same. subst (λ (x : Call). own_refusal x other ≡ None) is (c.requires.fine m tree lists other told ready same)))) in
-    done_is_answered s c.args.bitmap.now c.args.bitmap.now m tree lists (g.E.Blocks.told c.set_mode.new.edits) (g.E.Blocks.changed c.args.edits.now) (g.E.Blocks.changed c.set_mode.new.edits) ready c.args.stamp c.args.call.now Done so
+    (c.in-Ok-set_mode.ensures.done c.args.bitmap.now m tree lists told ready (λ other same. subst (λ (x : Call). own_refusal x (record { tree = other.tree; holds = c.args.holds.now; known = other.known }) ≡ None) is (c.requires.fine m tree lists (record { tree = other.tree; holds = c.args.holds.now; known = other.known }) told ready same refl)))) in
+    done_is_answered s c.args.bitmap.now c.args.bitmap.now m tree lists (g.E.Blocks.told c.set_mode.new.edits) (g.E.Blocks.changed c.args.edits.now) (g.E.Blocks.changed c.set_mode.new.edits) ready c.args.holds.now c.args.stamp c.args.call.now Done so
+
+pub remove-requires-clause-fine : goal.remove-requires-clause-fine
+remove-requires-clause-fine g c m tree lists s told ready same held =
+    let is : c.args.call.now ≡ Remove c.in-Remove.dir c.as_slice-name.result.now = c.in-Remove.is ∙ ap (λ (n : List ℕ). Remove c.in-Remove.dir n) (sym c.as_slice-name.ensures) in
+    subst (λ (x : Call). own_refusal x s ≡ None) is (c.requires.fine m tree lists s told ready same held)
+
+pub drop_index-requires-clause-fine : goal.drop_index-requires-clause-fine
+drop_index-requires-clause-fine g c m tree lists s told ready same =
+    let is : c.args.call.now ≡ IndexRemove c.as_slice-in-IndexRemove.result.now = c.in-IndexRemove.is ∙ ap (λ (n : List ℕ). IndexRemove n) (sym c.as_slice-in-IndexRemove.ensures) in
+    subst (λ (x : Call). own_refusal x (record { tree = s.tree; holds = c.args.holds.now; known = s.known }) ≡ None) is (c.requires.fine m tree lists (record { tree = s.tree; holds = c.args.holds.now; known = s.known }) told ready same refl)
+
+pub returns-in-Remove-clause-answered : goal.returns-in-Remove-clause-answered
+returns-in-Remove-clause-answered g c m tree lists told ready =
+    let v = geometry_of c.args.sup.now in
+    let n = c.remove.new in
+    let is : c.args.call.now ≡ Remove c.in-Remove.dir c.as_slice-name.result.now = c.in-Remove.is ∙ ap (λ (l : List ℕ). Remove c.in-Remove.dir l) (sym c.as_slice-name.ensures) in
+    let e : to_z w64 (of_z w64 c.args.stamp) ≡ c.args.stamp = search rules in
+    let so : ℤ → Call → Reply → Type 0 = λ z x reply. IsAnswered v c.args.bitmap.now n.bitmap m tree c.args.holds.now z x reply (g.E.Blocks.told n.edits) (g.E.Blocks.changed c.args.edits.now) (g.E.Blocks.changed n.edits) in
+    subst (λ (x : Call). IfOk c.remove.result (so c.args.stamp x)) (sym is)
+    (subst (λ (z : ℤ). IfOk c.remove.result (so z (Remove c.in-Remove.dir c.as_slice-name.result.now))) e (c.remove.ensures.answered m tree lists told ready))
+
+pub returns-in-IndexRemove-clause-answered : goal.returns-in-IndexRemove-clause-answered
+returns-in-IndexRemove-clause-answered g c m tree lists told ready =
+    let v = geometry_of c.args.sup.now in
+    let n = c.drop_index.new in
+    let is : c.args.call.now ≡ IndexRemove c.as_slice-in-IndexRemove.result.now = c.in-IndexRemove.is ∙ ap (λ (l : List ℕ). IndexRemove l) (sym c.as_slice-in-IndexRemove.ensures) in
+    let so : Call → Reply → Type 0 = λ x reply. IsAnswered v c.args.bitmap.now n.bitmap m tree c.args.holds.now c.args.stamp x reply (g.E.Blocks.told n.edits) (g.E.Blocks.changed c.args.edits.now) (g.E.Blocks.changed n.edits) in
+    subst (λ (x : Call). IfOk c.drop_index.result (so x)) (sym is)
+    (c.drop_index.ensures.answered m tree lists c.args.holds.now c.args.stamp told ready)

@@ -12,7 +12,7 @@ use Rattle.bfs_space.proofs.calls.CallsAnswers.look.Goals as goal
 pub returns-in-Make-clause-looked : goal.returns-in-Make-clause-looked
 returns-in-Make-clause-looked g c m tree lists told ready =
     let is : c.args.call.now ≡ Make c.in-Make.dir c.as_slice.result.now c.in-Make.kind c.in-Make.mode = c.in-Make.is ∙ ap (λ (n : List ℕ). Make c.in-Make.dir n c.in-Make.kind c.in-Make.mode) (sym c.as_slice.ensures) in
-    subst (λ (x : Call). IfOk c.look_make.result (IsLooked (geometry_of c.args.sup.now) m tree x)) (sym is) (c.look_make.ensures.looked m tree lists c.in-Make.mode told ready)
+    subst (λ (x : Call). IfOk c.look_make.result (IsLooked (geometry_of c.args.sup.now) m tree c.args.holds.now x)) (sym is) (c.look_make.ensures.looked m tree lists c.args.holds.now c.in-Make.mode told ready)
 
 pub returns-in-Make-clause-may : goal.returns-in-Make-clause-may
 returns-in-Make-clause-may g c =
@@ -21,7 +21,7 @@ returns-in-Make-clause-may g c =
 
 pub returns-in-SetMode-clause-looked : goal.returns-in-SetMode-clause-looked
 returns-in-SetMode-clause-looked g c m tree lists told ready =
-    subst (λ (x : Call). IfOk c.look_set_mode.result (IsLooked (geometry_of c.args.sup.now) m tree x)) (sym c.in-SetMode.is) (c.look_set_mode.ensures.looked m tree lists c.in-SetMode.mode c.in-SetMode.uid c.in-SetMode.gid told ready)
+    subst (λ (x : Call). IfOk c.look_set_mode.result (IsLooked (geometry_of c.args.sup.now) m tree c.args.holds.now x)) (sym c.in-SetMode.is) (c.look_set_mode.ensures.looked m tree lists c.args.holds.now c.in-SetMode.mode c.in-SetMode.uid c.in-SetMode.gid told ready)
 
 pub returns-in-SetMode-clause-may : goal.returns-in-SetMode-clause-may
 returns-in-SetMode-clause-may g c =
@@ -30,7 +30,7 @@ returns-in-SetMode-clause-may g c =
 pub returns-in-Lookup-clause-looked : goal.returns-in-Lookup-clause-looked
 returns-in-Lookup-clause-looked g c m tree lists told ready =
     let is : c.args.call.now ≡ calls.Lookup c.in-Lookup.dir c.as_slice-in-Lookup.result.now = c.in-Lookup.is ∙ ap (λ (n : List ℕ). calls.Lookup c.in-Lookup.dir n) (sym c.as_slice-in-Lookup.ensures) in
-    subst (λ (x : Call). IfOk c.looked.result (IsLooked (geometry_of c.args.sup.now) m tree x)) (sym is) (c.looked.ensures.looked (geometry_of c.args.sup.now) m tree (calls.Lookup c.in-Lookup.dir c.as_slice-in-Lookup.result.now) (λ s same. c.lookup.ensures.reads m tree lists s told ready same))
+    subst (λ (x : Call). IfOk c.looked.result (IsLooked (geometry_of c.args.sup.now) m tree c.args.holds.now x)) (sym is) (c.looked.ensures.looked (geometry_of c.args.sup.now) m tree c.args.holds.now (calls.Lookup c.in-Lookup.dir c.as_slice-in-Lookup.result.now) (λ s same. c.lookup.ensures.reads m tree lists s told ready same))
 
 pub returns-in-Lookup-clause-may : goal.returns-in-Lookup-clause-may
 returns-in-Lookup-clause-may g c = c.looked.ensures.may c.args.sup.now c.args.call.now
@@ -46,7 +46,7 @@ returns-in-Lookup-clause-cause g c = c.looked.ensures.cause (g.E.Blocks.counts c
 pub returns-in-List-clause-looked : goal.returns-in-List-clause-looked
 returns-in-List-clause-looked g c m tree lists told ready =
     let is : c.args.call.now ≡ calls.List c.in-List.dir = c.in-List.is in
-    subst (λ (x : Call). IfOk c.looked-in-List.result (IsLooked (geometry_of c.args.sup.now) m tree x)) (sym is) (c.looked-in-List.ensures.looked (geometry_of c.args.sup.now) m tree (calls.List c.in-List.dir) (λ s same. c.list.ensures.reads m tree lists s told ready same))
+    subst (λ (x : Call). IfOk c.looked-in-List.result (IsLooked (geometry_of c.args.sup.now) m tree c.args.holds.now x)) (sym is) (c.looked-in-List.ensures.looked (geometry_of c.args.sup.now) m tree c.args.holds.now (calls.List c.in-List.dir) (λ s same. c.list.ensures.reads m tree lists s told ready same))
 
 pub returns-in-List-clause-may : goal.returns-in-List-clause-may
 returns-in-List-clause-may g c = c.looked-in-List.ensures.may c.args.sup.now c.args.call.now
@@ -62,7 +62,7 @@ returns-in-List-clause-cause g c = c.looked-in-List.ensures.cause (g.E.Blocks.co
 pub returns-in-Stat-clause-looked : goal.returns-in-Stat-clause-looked
 returns-in-Stat-clause-looked g c m tree lists told ready =
     let is : c.args.call.now ≡ calls.Stat c.in-Stat.id = c.in-Stat.is in
-    subst (λ (x : Call). IfOk c.looked-in-Stat.result (IsLooked (geometry_of c.args.sup.now) m tree x)) (sym is) (c.looked-in-Stat.ensures.looked (geometry_of c.args.sup.now) m tree (calls.Stat c.in-Stat.id) (λ s same. c.stat.ensures.reads m tree lists s told ready same))
+    subst (λ (x : Call). IfOk c.looked-in-Stat.result (IsLooked (geometry_of c.args.sup.now) m tree c.args.holds.now x)) (sym is) (c.looked-in-Stat.ensures.looked (geometry_of c.args.sup.now) m tree c.args.holds.now (calls.Stat c.in-Stat.id) (λ s same. c.stat.ensures.reads m tree lists s told ready same))
 
 pub returns-in-Stat-clause-may : goal.returns-in-Stat-clause-may
 returns-in-Stat-clause-may g c = c.looked-in-Stat.ensures.may c.args.sup.now c.args.call.now
@@ -78,7 +78,7 @@ returns-in-Stat-clause-cause g c = c.looked-in-Stat.ensures.cause (g.E.Blocks.co
 pub returns-in-ReadLink-clause-looked : goal.returns-in-ReadLink-clause-looked
 returns-in-ReadLink-clause-looked g c m tree lists told ready =
     let is : c.args.call.now ≡ calls.ReadLink c.in-ReadLink.id = c.in-ReadLink.is in
-    subst (λ (x : Call). IfOk c.looked-in-ReadLink.result (IsLooked (geometry_of c.args.sup.now) m tree x)) (sym is) (c.looked-in-ReadLink.ensures.looked (geometry_of c.args.sup.now) m tree (calls.ReadLink c.in-ReadLink.id) (λ s same. c.read_link.ensures.reads m tree lists s told ready same))
+    subst (λ (x : Call). IfOk c.looked-in-ReadLink.result (IsLooked (geometry_of c.args.sup.now) m tree c.args.holds.now x)) (sym is) (c.looked-in-ReadLink.ensures.looked (geometry_of c.args.sup.now) m tree c.args.holds.now (calls.ReadLink c.in-ReadLink.id) (λ s same. c.read_link.ensures.reads m tree lists s told ready same))
 
 pub returns-in-ReadLink-clause-may : goal.returns-in-ReadLink-clause-may
 returns-in-ReadLink-clause-may g c = c.looked-in-ReadLink.ensures.may c.args.sup.now c.args.call.now
@@ -94,7 +94,7 @@ returns-in-ReadLink-clause-cause g c = c.looked-in-ReadLink.ensures.cause (g.E.B
 pub returns-in-AttrRead-clause-looked : goal.returns-in-AttrRead-clause-looked
 returns-in-AttrRead-clause-looked g c m tree lists told ready =
     let is : c.args.call.now ≡ calls.AttrRead c.in-AttrRead.id c.as_slice-in-AttrRead.result.now = c.in-AttrRead.is ∙ ap (λ (n : List ℕ). calls.AttrRead c.in-AttrRead.id n) (sym c.as_slice-in-AttrRead.ensures) in
-    subst (λ (x : Call). IfOk c.looked-in-AttrRead.result (IsLooked (geometry_of c.args.sup.now) m tree x)) (sym is) (c.looked-in-AttrRead.ensures.looked (geometry_of c.args.sup.now) m tree (calls.AttrRead c.in-AttrRead.id c.as_slice-in-AttrRead.result.now) (λ s same. c.attr_read.ensures.reads m tree lists s told ready same))
+    subst (λ (x : Call). IfOk c.looked-in-AttrRead.result (IsLooked (geometry_of c.args.sup.now) m tree c.args.holds.now x)) (sym is) (c.looked-in-AttrRead.ensures.looked (geometry_of c.args.sup.now) m tree c.args.holds.now (calls.AttrRead c.in-AttrRead.id c.as_slice-in-AttrRead.result.now) (λ s same. c.attr_read.ensures.reads m tree lists s told ready same))
 
 pub returns-in-AttrRead-clause-may : goal.returns-in-AttrRead-clause-may
 returns-in-AttrRead-clause-may g c = c.looked-in-AttrRead.ensures.may c.args.sup.now c.args.call.now
@@ -110,7 +110,7 @@ returns-in-AttrRead-clause-cause g c = c.looked-in-AttrRead.ensures.cause (g.E.B
 pub returns-in-AttrList-clause-looked : goal.returns-in-AttrList-clause-looked
 returns-in-AttrList-clause-looked g c m tree lists told ready =
     let is : c.args.call.now ≡ calls.AttrList c.in-AttrList.id = c.in-AttrList.is in
-    subst (λ (x : Call). IfOk c.looked-in-AttrList.result (IsLooked (geometry_of c.args.sup.now) m tree x)) (sym is) (c.looked-in-AttrList.ensures.looked (geometry_of c.args.sup.now) m tree (calls.AttrList c.in-AttrList.id) (λ s same. c.attr_list.ensures.reads m tree lists s told ready same))
+    subst (λ (x : Call). IfOk c.looked-in-AttrList.result (IsLooked (geometry_of c.args.sup.now) m tree c.args.holds.now x)) (sym is) (c.looked-in-AttrList.ensures.looked (geometry_of c.args.sup.now) m tree c.args.holds.now (calls.AttrList c.in-AttrList.id) (λ s same. c.attr_list.ensures.reads m tree lists s told ready same))
 
 pub returns-in-AttrList-clause-may : goal.returns-in-AttrList-clause-may
 returns-in-AttrList-clause-may g c = c.looked-in-AttrList.ensures.may c.args.sup.now c.args.call.now
@@ -126,7 +126,7 @@ returns-in-AttrList-clause-cause g c = c.looked-in-AttrList.ensures.cause (g.E.B
 pub returns-in-IndexList-clause-looked : goal.returns-in-IndexList-clause-looked
 returns-in-IndexList-clause-looked g c m tree lists told ready =
     let is : c.args.call.now ≡ calls.IndexList = c.in-IndexList.is in
-    subst (λ (x : Call). IfOk c.looked-in-IndexList.result (IsLooked (geometry_of c.args.sup.now) m tree x)) (sym is) (c.looked-in-IndexList.ensures.looked (geometry_of c.args.sup.now) m tree (calls.IndexList) (λ s same. c.index_list.ensures.reads m tree lists s told ready same))
+    subst (λ (x : Call). IfOk c.looked-in-IndexList.result (IsLooked (geometry_of c.args.sup.now) m tree c.args.holds.now x)) (sym is) (c.looked-in-IndexList.ensures.looked (geometry_of c.args.sup.now) m tree c.args.holds.now (calls.IndexList) (λ s same. c.index_list.ensures.reads m tree lists s told ready same))
 
 pub returns-in-IndexList-clause-may : goal.returns-in-IndexList-clause-may
 returns-in-IndexList-clause-may g c = c.looked-in-IndexList.ensures.may c.args.sup.now c.args.call.now
@@ -142,7 +142,7 @@ returns-in-IndexList-clause-cause g c = c.looked-in-IndexList.ensures.cause (g.E
 pub returns-in-IndexFind-clause-looked : goal.returns-in-IndexFind-clause-looked
 returns-in-IndexFind-clause-looked g c m tree lists told ready =
     let is : c.args.call.now ≡ calls.IndexFind c.as_slice-in-IndexFind.result.now c.in-IndexFind.low c.in-IndexFind.high = c.in-IndexFind.is ∙ ap (λ (n : List ℕ). calls.IndexFind n c.in-IndexFind.low c.in-IndexFind.high) (sym c.as_slice-in-IndexFind.ensures) in
-    subst (λ (x : Call). IfOk c.looked-in-IndexFind.result (IsLooked (geometry_of c.args.sup.now) m tree x)) (sym is) (c.looked-in-IndexFind.ensures.looked (geometry_of c.args.sup.now) m tree (calls.IndexFind c.as_slice-in-IndexFind.result.now c.in-IndexFind.low c.in-IndexFind.high) (λ s same. c.index_find.ensures.reads m tree lists s told ready same))
+    subst (λ (x : Call). IfOk c.looked-in-IndexFind.result (IsLooked (geometry_of c.args.sup.now) m tree c.args.holds.now x)) (sym is) (c.looked-in-IndexFind.ensures.looked (geometry_of c.args.sup.now) m tree c.args.holds.now (calls.IndexFind c.as_slice-in-IndexFind.result.now c.in-IndexFind.low c.in-IndexFind.high) (λ s same. c.index_find.ensures.reads m tree lists s told ready same))
 
 pub returns-in-IndexFind-clause-may : goal.returns-in-IndexFind-clause-may
 returns-in-IndexFind-clause-may g c = c.looked-in-IndexFind.ensures.may c.args.sup.now c.args.call.now
@@ -154,3 +154,23 @@ returns-in-IndexFind-clause-unanswered g c m tree lists told ready =
 
 pub returns-in-IndexFind-clause-cause : goal.returns-in-IndexFind-clause-cause
 returns-in-IndexFind-clause-cause g c = c.looked-in-IndexFind.ensures.cause (g.E.Blocks.counts c.args.edits.now) (g.E.Blocks.counts c.index_find.new.edits) c.index_find.ensures.cause
+
+pub returns-in-Remove-clause-looked : goal.returns-in-Remove-clause-looked
+returns-in-Remove-clause-looked g c m tree lists told ready =
+    let is : c.args.call.now ≡ calls.Remove c.in-Remove.dir c.as_slice-in-Remove.result.now = c.in-Remove.is ∙ ap (λ (n : List ℕ). calls.Remove c.in-Remove.dir n) (sym c.as_slice-in-Remove.ensures) in
+    subst (λ (x : Call). IfOk c.look_remove.result (IsLooked (geometry_of c.args.sup.now) m tree c.args.holds.now x)) (sym is) (c.look_remove.ensures.looked m tree lists told ready)
+
+pub returns-in-Remove-clause-may : goal.returns-in-Remove-clause-may
+returns-in-Remove-clause-may g c =
+    let is : c.args.call.now ≡ calls.Remove c.in-Remove.dir c.as_slice-in-Remove.result.now = c.in-Remove.is ∙ ap (λ (n : List ℕ). calls.Remove c.in-Remove.dir n) (sym c.as_slice-in-Remove.ensures) in
+    subst (λ (x : Call). IfOk c.look_remove.result (FindsMay MayBeDone c.args.sup.now x)) (sym is) c.look_remove.ensures.may
+
+pub returns-in-IndexRemove-clause-looked : goal.returns-in-IndexRemove-clause-looked
+returns-in-IndexRemove-clause-looked g c m tree lists told ready =
+    let is : c.args.call.now ≡ calls.IndexRemove c.as_slice-in-IndexRemove.result.now = c.in-IndexRemove.is ∙ ap (λ (n : List ℕ). calls.IndexRemove n) (sym c.as_slice-in-IndexRemove.ensures) in
+    subst (λ (x : Call). IfOk c.look_remove_index.result (IsLooked (geometry_of c.args.sup.now) m tree c.args.holds.now x)) (sym is) (c.look_remove_index.ensures.looked m tree lists c.args.holds.now told ready)
+
+pub returns-in-IndexRemove-clause-may : goal.returns-in-IndexRemove-clause-may
+returns-in-IndexRemove-clause-may g c =
+    let is : c.args.call.now ≡ calls.IndexRemove c.as_slice-in-IndexRemove.result.now = c.in-IndexRemove.is ∙ ap (λ (n : List ℕ). calls.IndexRemove n) (sym c.as_slice-in-IndexRemove.ensures) in
+    subst (λ (x : Call). IfOk c.look_remove_index.result (FindsMay MayBeDone c.args.sup.now x)) (sym is) c.look_remove_index.ensures.may

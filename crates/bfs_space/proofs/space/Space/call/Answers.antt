@@ -1,9 +1,10 @@
-use Rattle.std.proofs.Common.{rules, ◌≡◌, ◌∙◌, ◌+◌, ◌++◌, ◌∷◌, [], ℤ, Bool, true, false, List, Option, Some, None, length, refl, sym, ap, subst, arith, length-append, w64, to_z, of_z}
+use Rattle.std.proofs.Common.{rules, inl, ◌≡◌, ◌∙◌, ◌+◌, ◌++◌, ◌∷◌, [], ℤ, Bool, true, false, List, Option, Some, None, length, refl, sym, ap, subst, arith, length-append, w64, to_z, of_z}
 use Rattle.std.specs.Prelude.{is_some}
 use Rattle.std.specs.List.{list_any}
 use Rattle.bfs_super.specs.Geometry.{geometry_of}
 use Rattle.bfs_txn.specs.Changed.{over}
 use Rattle.bfs_tree.specs.declared.reply.Entry.{Entry}
+use Rattle.bfs_tree.specs.declared.state.Hold.{Hold}
 use Rattle.bfs_tree.specs.Histories.{after, drawn, is_stop, is_stopped, last_stamp}
 use Rattle.bfs_device.specs.declared.journal.Stop.{Stop}
 use Rattle.bfs_core.specs.Spaces.{face}
@@ -12,9 +13,11 @@ use Rattle.bfs_shift.proofs.Basics.{some_bytes}
 use Rattle.bfs_space.specs.declared.replying.NoReply.{NoReply}
 use Rattle.bfs_space.specs.Books.{SpaceBooks, IsIdle, IsLastStamp, KnowsStop, entry_noted}
 use Rattle.bfs_space.specs.Faces.{IsFaceOf, HasFace, HasEntered, HasReplied}
+use Rattle.bfs_space.specs.Holds.{holds_after}
 use Rattle.bfs_space.specs.Replies.{IsNoReply, IsPutOff, IsReplied}
 use Rattle.bfs_space.proofs.Entering.{ready, replied_with}
 use Rattle.bfs_space.proofs.Groups.{parts_kept}
+use Rattle.bfs_space.proofs.Held.{held_is_after, still_held}
 use Rattle.bfs_space.proofs.Stamps.{last_noted}
 use Rattle.bfs_space.proofs.Stops.{caused_no_stop, stop_kept}
 use Rattle.bfs_space.proofs.Turned.{put_off_for}
@@ -63,6 +66,8 @@ invariant_of-self-in-Ok-reply_or_stopped g c =
       omega (arith, long, capacity, room, three, as_long),
       omega (arith, long, few, one, two),
       subst (λ (l : List Entry). KnowsStop l i.stop) (sym items) (stop_kept i.history.items entry i.stop silent c.self.invariant.4),
+      still_held i.holds.items i.history.items c.append.new.history.items entry items (inl (g.A.Answers.stays c.args.call c.requires.serves)) c.self.invariant.5,
+      c.self.invariant.6,
     )
 
 pub returns-in-Ok-reply_or_stopped-clause-entered : goal.returns-in-Ok-reply_or_stopped-clause-entered
@@ -80,9 +85,12 @@ returns-in-Ok-reply_or_stopped-clause-entered g c = λ t0 m told face_of.
     c.append.ensures.items ∙ (λ j. c.reserve.ensures.items j ++ (record { session = c.args.session; tag = c.args.tag; stamp = stamp j; call = c.args.call; reply = c.in-Ok-reply_or_stopped.reply }) ∷ []) in
     let tree = after t0 i.history.items in
     let lists = lists_of (face inside.view m) tree in
-    let replied : IsReplied (geometry_of i.sup) i.bitmap c.reply_or_stopped.new.bitmap m i.group c.reply_or_stopped.new.group tree (c.is_idle-idle.result ≡ true) (drawn (last_stamp i.history.items) c.args.now) c.args.call c.in-Ok-reply_or_stopped.reply =
-    subst (λ (z : ℤ). IsReplied (geometry_of i.sup) i.bitmap c.reply_or_stopped.new.bitmap m i.group c.reply_or_stopped.new.group tree (c.is_idle-idle.result ≡ true) z c.args.call c.in-Ok-reply_or_stopped.reply) stamp
-    (c.in-Ok-reply_or_stopped.ensures.replied m tree lists told (ready t0 inside m f volume some refl refl)) in
+    let given : c.as_slice.result.now ≡ i.holds.items = search rules in
+    let held : c.as_slice.result.now ≡ holds_after t0 i.history.items = given ∙ c.self.invariant.5 ∙ sym (held_is_after t0 i.history.items) in
+    let replied : IsReplied (geometry_of i.sup) i.bitmap c.reply_or_stopped.new.bitmap m i.group c.reply_or_stopped.new.group tree (holds_after t0 i.history.items) (c.is_idle-idle.result ≡ true) (drawn (last_stamp i.history.items) c.args.now) c.args.call c.in-Ok-reply_or_stopped.reply =
+    subst (λ (z : ℤ). IsReplied (geometry_of i.sup) i.bitmap c.reply_or_stopped.new.bitmap m i.group c.reply_or_stopped.new.group tree (holds_after t0 i.history.items) (c.is_idle-idle.result ≡ true) z c.args.call c.in-Ok-reply_or_stopped.reply) stamp
+    (subst (λ (hs : List Hold). IsReplied (geometry_of i.sup) i.bitmap c.reply_or_stopped.new.bitmap m i.group c.reply_or_stopped.new.group tree hs (c.is_idle-idle.result ≡ true) (to_z w64 (of_z w64 c.draw-stamp.result)) c.args.call c.in-Ok-reply_or_stopped.reply) held
+    (c.in-Ok-reply_or_stopped.ensures.replied m tree lists told (ready t0 inside m f volume some refl refl))) in
     let idle : c.is_idle-idle.result ≡ true → IsIdle inside = λ e. subst (λ (h : List Entry). IsIdle (record { view = record { sup = i.sup; used = i.bitmap.tally.used; group = i.group; history = h; sealed = i.sealed; sealed_used = i.sealed_used; given = i.bitmap.given }; room = i.bitmap; promised = i.promised.items; stop = i.stop; left = i.left })) c.reserve.ensures.items (c.is_idle-idle.ensures.idle e) in
     let quiet : list_any (λ (e : Entry). is_stop e.reply) i.history.items ≡ true → is_stopped c.in-Ok-reply_or_stopped.reply ≡ true = λ any. let s = some_stop i.stop (sym c.self.invariant.4 ∙ any) in c.in-Ok-reply_or_stopped.ensures.stopped s.0 s.1 in
     subst (λ (b : SpaceBooks). HasEntered t0 b since m c.args.session c.args.tag c.args.now c.args.call) c.self.view_is
@@ -118,9 +126,12 @@ returns-in-Err-Drain-clause-entered g c = λ t0 m told face_of.
     let f = subst (λ (b : SpaceBooks). IsFaceOf t0 b m) (sym c.self.view_is) face_of in
     let tree = after t0 i.history.items in
     let lists = lists_of (face inside.view m) tree in
-    let why : IsNoReply (geometry_of i.sup) i.bitmap (over i.group m) (length i.group) tree (c.is_idle-idle.result ≡ true) c.args.call c.in-Err-Drain.field-0 =
-    c.in-Err-Drain.ensures.put_off m tree lists told (ready t0 inside m f c.self.invariant.0.volume (some_bytes i.sup c.self.invariant.0.valid) refl refl) in
-    let off = subst (λ (e : NoReply). IsNoReply (geometry_of i.sup) i.bitmap (over i.group m) (length i.group) tree (c.is_idle-idle.result ≡ true) c.args.call e) c.in-Err-Drain.field-0-is why in
+    let given : c.as_slice.result.now ≡ i.holds.items = search rules in
+    let held : c.as_slice.result.now ≡ holds_after t0 i.history.items = given ∙ c.self.invariant.5 ∙ sym (held_is_after t0 i.history.items) in
+    let why : IsNoReply (geometry_of i.sup) i.bitmap (over i.group m) (length i.group) tree (holds_after t0 i.history.items) (c.is_idle-idle.result ≡ true) c.args.call c.in-Err-Drain.field-0 =
+    subst (λ (hs : List Hold). IsNoReply (geometry_of i.sup) i.bitmap (over i.group m) (length i.group) tree hs (c.is_idle-idle.result ≡ true) c.args.call c.in-Err-Drain.field-0) held
+    (c.in-Err-Drain.ensures.put_off m tree lists told (ready t0 inside m f c.self.invariant.0.volume (some_bytes i.sup c.self.invariant.0.valid) refl refl)) in
+    let off = subst (λ (e : NoReply). IsNoReply (geometry_of i.sup) i.bitmap (over i.group m) (length i.group) tree (holds_after t0 i.history.items) (c.is_idle-idle.result ≡ true) c.args.call e) c.in-Err-Drain.field-0-is why in
     let idle : IsIdle inside → c.is_idle-idle.result ≡ true = λ q. true_of c.is_idle-idle.result (λ none. c.is_idle-idle.ensures.busy none (subst (λ (h : List Entry). IsIdle (record { view = record { sup = i.sup; used = i.bitmap.tally.used; group = i.group; history = h; sealed = i.sealed; sealed_used = i.sealed_used; given = i.bitmap.given }; room = i.bitmap; promised = i.promised.items; stop = i.stop; left = i.left })) (sym c.reserve.ensures.items) q)) in
-    subst (λ (b : SpaceBooks). IsPutOff (geometry_of b.view.sup) b.room (over b.view.group m) (length b.view.group) (after t0 b.view.history) (IsIdle b) c.args.call) c.self.view_is
-    (put_off_for (geometry_of i.sup) i.bitmap (over i.group m) (length i.group) tree (c.is_idle-idle.result ≡ true) (IsIdle inside) c.args.call idle off)
+    subst (λ (b : SpaceBooks). IsPutOff (geometry_of b.view.sup) b.room (over b.view.group m) (length b.view.group) (after t0 b.view.history) (holds_after t0 b.view.history) (IsIdle b) c.args.call) c.self.view_is
+    (put_off_for (geometry_of i.sup) i.bitmap (over i.group m) (length i.group) tree (holds_after t0 i.history.items) (c.is_idle-idle.result ≡ true) (IsIdle inside) c.args.call idle off)

@@ -9,4 +9,5 @@ invariant_of-self c =
     let is = ap length c.drop_promise.ensures in
     let room = c.self.invariant.2 in
     let few = c.self.invariant.3 in
-    (c.self.invariant.0, c.self.invariant.1, omega (arith, fewer, is, room), omega (arith, fewer, is, few), c.self.invariant.4)
+    let places = c.self.invariant.6 in
+    (c.self.invariant.0, c.self.invariant.1, omega (arith, fewer, is, room), omega (arith, fewer, is, few), c.self.invariant.4, c.self.invariant.5, omega (arith, fewer, is, places))

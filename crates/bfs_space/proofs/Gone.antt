@@ -1,0 +1,36 @@
+-- What calls answer that take something out.
+use Rattle.std.proofs.Common.{◌≡◌, ℕ, ℤ, List, Bool, true, false, Option, Some, None, refl, sym, ◌∙◌}
+use Rattle.std.specs.FinMap.{get, remove}
+use Rattle.bfs_base.specs.declared.kind.KeyKind.{KeyKind}
+use Rattle.bfs_tree.specs.declared.call.Call.TheVariants.{Remove, IndexRemove}
+use Rattle.bfs_tree.specs.declared.reply.Reply.TheVariants.{Done, NoIndex, BuiltIn}
+use Rattle.bfs_tree.specs.declared.state.Hold.{Hold}
+use Rattle.bfs_tree.specs.Changes.{removed}
+use Rattle.bfs_tree.specs.Refusals.{is_built_in, own_refusal}
+use Rattle.bfs_tree.specs.States.{State}
+use Rattle.bfs_tree.specs.Steps.{ByTree}
+use Rattle.bfs_tree.specs.Trees.{Tree, child}
+use Rattle.bfs_remove_index.specs.Removed.{IsOwnIndex}
+use Rattle.bfs_remove_index.proofs.Refusing.{no_such_index, is_there_so}
+use Rattle.bfs_space.specs.Answered.{AnswersIn}
+
+-- of a node that is removed
+pub removed_answers : (tree after : Tree) (holds : List Hold) (dir : ℕ) (name : List ℕ) (stamp : ℤ) → ((s : State) → s.tree ≡ tree → s.holds ≡ holds → own_refusal (Remove dir name) s ≡ None)
+    → ((s : State) → s.tree ≡ tree → (removed s dir stamp (child s.tree dir name)).tree ≡ after) → AnswersIn stamp (Remove dir name) Done tree holds after
+removed_answers tree after holds dir name stamp fine follows = λ s same held.
+    (removed s dir stamp (child s.tree dir name), follows s same, λ session. ByTree.answered (fine s same held) refl refl)
+
+-- of an index
+pub unindexed_answers : (tree after : Tree) (holds : List Hold) (name : List ℕ) (stamp : ℤ) → ((s : State) → s.tree ≡ tree → own_refusal (IndexRemove name) s ≡ None)
+    → ((s : State) → s.tree ≡ tree → after ≡ record s.tree { indices = remove s.tree.indices name }) → AnswersIn stamp (IndexRemove name) Done tree holds after
+unindexed_answers tree after holds name stamp fine follows = λ s same held.
+    (record s { tree = record s.tree { indices = remove s.tree.indices name } }, sym (follows s same), λ session. ByTree.answered (fine s same) refl refl)
+
+-- a call that removes an index has no refusal of its own only where the index is there and isn't built in
+pub own_index : (s : State) (name : List ℕ) → own_refusal (IndexRemove name) s ≡ None → IsOwnIndex s.tree name
+own_index s name fine = by_kind (get s.tree.indices name) refl (is_built_in name) refl
+  where
+    by_kind : (o : Option KeyKind) → get s.tree.indices name ≡ o → (built : Bool) → is_built_in name ≡ built → IsOwnIndex s.tree name
+    by_kind None there built is = absurd (let bad : None ≡ Some NoIndex = sym fine ∙ no_such_index s name there in cc)
+    by_kind (Some kind) there true is = absurd (let bad : None ≡ Some BuiltIn = sym fine ∙ is_there_so s name kind true there is in cc)
+    by_kind (Some kind) there false is = record { kind = kind; there = there; other = is }

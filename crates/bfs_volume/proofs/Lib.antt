@@ -6,3 +6,4 @@ pub mod Opened
 pub mod Closed
 pub mod Images
 pub mod Ends
+pub mod Happens

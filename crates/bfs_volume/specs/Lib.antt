@@ -2,3 +2,4 @@ pub mod Volumes
 pub mod Faults
 pub mod Entries
 pub mod Causes
+pub mod Events

@@ -6,6 +6,8 @@ ghost use Rattle.bfs_tree.specs.Answers.{KeepsRanges};
 ghost use Rattle.bfs_tree.specs.Histories.{Mounted};
 ghost use Rattle.bfs_device.specs.Books.{durable_of};
 ghost use Rattle.bfs_device_blocks.specs.Lent.{HasCore};
+ghost use Rattle.bfs_core.specs.Spaces.{SpaceView};
+ghost use Rattle.bfs_space.specs.Books.{SpaceBooks};
 ghost use Rattle.bfs_volume.specs.Volumes.{AreJoined};
 ghost use Rattle.bfs_volume.specs.Causes.{HasSyncCause};
 ghost use Rattle.bfs_volume.specs.Entries.{HasEntry, HasEntryOf, HasFailedSync, HasReplyIn, IsAnsweredIn, IsEnded, sync_fault_of};
@@ -19,8 +21,24 @@ use bfs_space::{Answers, Outcome, Space};
 use bfs_tree::{Call, Reply};
 use std::alloc::AllocError;
 
+/// Room for the marks of a seal.
+pub fn make_room<D: Disk>(device: &mut Device<D>) -> Result<(), AllocError>
+    ensures joined { (sp : SpaceBooks) → AreJoined sp device.old.books (D.state device.old.disk) → AreJoined sp device.new.books (D.state device.new.disk) }
+    ensures ok { OnOk result (2 ≤ device.new.books.spare) }
+    ensures rest { device.new.books ≡ record device.old.books { spare = device.new.books.spare } }
+    ensures spare { device.old.books.spare ≤ device.new.books.spare }
+    ensures disk { device.new.disk ≡ device.old.disk }
+    ensures core { (t0 : Mounted) (adopted : ℕ) (sp : SpaceView) → HasCore t0 adopted sp device.old.books (D.state device.old.disk) (D.clock device.old.disk) (D.since device.old.disk)
+        → HasCore t0 adopted sp device.new.books (D.state device.new.disk) (D.clock device.new.disk) (D.since device.new.disk) }
+{
+    let made = device.room();
+    device.steady();
+    let _durable = device.durable();
+    made
+}
+
 /// Room for an entry of the session and for the marks of a seal; without both nothing is promised.
-fn prepare<D: Disk>(
+pub fn prepare<D: Disk>(
     space: &mut Space,
     device: &mut Device<D>,
     session: u32,
@@ -31,6 +49,7 @@ fn prepare<D: Disk>(
     requires spare { 1 ≤ device.old.books.spare }
     ensures joined { AreJoined space.new device.new.books (D.state device.new.disk) }
     ensures history { space.new.view.history ≡ space.old.view.history }
+    ensures view { space.new.view ≡ space.old.view }
     ensures ok { OnOk result ((space.new.promised ≡ 0 ∷ session ∷ []) × (2 ≤ device.new.books.spare)) }
     ensures err { OnErr result ((space.new.promised ≡ 0 ∷ []) × (1 ≤ device.new.books.spare)) }
     ensures stop { device.new.books.stop ≡ device.old.books.stop }
@@ -38,9 +57,7 @@ fn prepare<D: Disk>(
     ensures core { (t0 : Mounted) (adopted : ℕ) → HasCore t0 adopted space.old.view device.old.books (D.state device.old.disk) (D.clock device.old.disk) (D.since device.old.disk)
         → HasCore t0 adopted space.new.view device.new.books (D.state device.new.disk) (D.clock device.new.disk) (D.since device.new.disk) }
 {
-    device.room()?;
-    device.steady();
-    let _durable = device.durable();
+    make_room(device)?;
     space.promise(session)
 }
 

@@ -5,11 +5,13 @@
 #![tactic(auto)]
 
 mod calls;
+mod event;
 mod events;
 mod notes;
 mod settle;
 mod volume;
 
+pub use event::{Event, Happened};
 pub use events::SyncFault;
 pub use volume::Volume;
 

@@ -4,8 +4,9 @@ ghost use Rattle.bfs_disk.specs.State.{Tells, Holds, ReadsAs};
 ghost use Rattle.bfs_tree.specs.Histories.{Mounted};
 ghost use Rattle.bfs_device_blocks.specs.Lent.{HasCore};
 ghost use Rattle.bfs_volume.specs.Volumes.{HasTree, VolumeView};
+ghost use Rattle.bfs_volume.specs.Events.{MayHappen};
 
-use crate::Volume;
+use crate::{Event, Happened, Volume};
 use bfs_disk::{Disk, MemDisk};
 use bfs_mkfs::{format, layout_with_log};
 use bfs_ports::Fixed;
@@ -95,7 +96,7 @@ fn make_file(
 }
 
 /// Whether the last entry says that a node was made.
-fn is_made(volume: &Volume<MemDisk, Fixed>) -> bool {
+fn is_made<D: Disk>(volume: &Volume<D, Fixed>) -> bool {
     match volume.history().last() {
         Some(entry) => matches!(entry.reply, Reply::Made { .. }),
         None => false,
@@ -191,5 +192,153 @@ fn what_a_sync_acknowledged_is_there_after_a_stop_at_each_disk_call(
             }
         }
     }
+    Ok(())
+}
+
+/// The next of numbers that come in no order which shows.
+fn next_number(number: u64) -> u64 {
+    number
+        .wrapping_mul(6_364_136_223_846_793_005)
+        .wrapping_add(1_442_695_040_888_963_407)
+}
+
+/// An event by a number: a file is made whose name is a letter, what is open is sealed, or the device makes a step.
+fn event_by(alloc: Global, dir: u64, name: u8, number: u64) -> Result<Event, AllocError>
+    ensures { IfOk result MayHappen }
+{
+    let choice = number / 65536 % 8;
+    if choice == 0 {
+        return Ok(Event::Seal);
+    }
+    if choice < 6 {
+        return Ok(Event::Step);
+    }
+    let name = letter(alloc, name)?;
+    Ok(Event::Call {
+        session: 1,
+        tag: 1,
+        call: Call::Make {
+            dir,
+            name,
+            kind: MakeKind::File,
+            mode: 0o644,
+        },
+    })
+}
+
+/// Makes an event, and tells whether a file was made.
+fn makes_one<D: Disk>(volume: &mut Volume<D, Fixed>, event: Event) -> Result<bool, AllocError>
+    requires { MayHappen event }
+    ensures core { (t0 : Mounted) (adopted : ℕ) → HasCore t0 adopted volume.old.space.view volume.old.device.books (D.state volume.old.device.disk) (D.clock volume.old.device.disk) (D.since volume.old.device.disk)
+        → HasCore t0 adopted volume.new.space.view volume.new.device.books (D.state volume.new.device.disk) (D.clock volume.new.device.disk) (D.since volume.new.device.disk) }
+{
+    match volume.event(event) {
+        Ok(Happened::Replied) => Ok(is_made(volume)),
+        Ok(_) => Ok(false),
+        Err(fault) => Err(fault),
+    }
+}
+
+/// A sync in each 32nd turn, and whether it went well.
+fn syncs_at<D: Disk>(volume: &mut Volume<D, Fixed>, turn: u64) -> bool
+    ensures core { (t0 : Mounted) (adopted : ℕ) → HasCore t0 adopted volume.old.space.view volume.old.device.books (D.state volume.old.device.disk) (D.clock volume.old.device.disk) (D.since volume.old.device.disk)
+        → HasCore t0 adopted volume.new.space.view volume.new.device.books (D.state volume.new.device.disk) (D.clock volume.new.device.disk) (D.since volume.new.device.disk) }
+{
+    if turn % 32 != 31 {
+        return false;
+    }
+    volume.sync(1, 1).is_ok()
+}
+
+/// Makes so many events on a volume, by numbers from a seed on, and a sync behind each 32nd. How many files were made, their names the letters in
+/// their order, and how many of them a sync has acknowledged.
+fn by_events<D: Disk>(
+    alloc: Global,
+    volume: &mut Volume<D, Fixed>,
+    dir: u64,
+    seed: u64,
+    events: u64,
+) -> Result<(u8, u8), AllocError>
+    ensures core { (t0 : Mounted) (adopted : ℕ) → HasCore t0 adopted volume.old.space.view volume.old.device.books (D.state volume.old.device.disk) (D.clock volume.old.device.disk) (D.since volume.old.device.disk)
+        → HasCore t0 adopted volume.new.space.view volume.new.device.books (D.state volume.new.device.disk) (D.clock volume.new.device.disk) (D.since volume.new.device.disk) }
+{
+    let mut number = seed;
+    let mut made = 0u8;
+    let mut acknowledged = 0u8;
+    for i in 0..events {
+        number = next_number(number);
+        let event = event_by(alloc, dir, b'a' + made % 26, number)?;
+        if makes_one(volume, event)? {
+            made = (made + 1) % 128;
+        }
+        let synced = syncs_at(volume, i);
+        if synced {
+            acknowledged = made;
+        }
+    }
+    Ok((made, acknowledged))
+}
+
+/// What a crash leaves after so many events: with it how many files were made, and how many a sync has acknowledged.
+fn left_by_events(
+    alloc: Global,
+    dir: u64,
+    seed: u64,
+    events: u64,
+    pick: u64,
+) -> Result<Option<(u8, u8, Vec<u8>)>, AllocError>
+    ensures { IfOk result (λ o. IfSome o (λ r. HasTree r.2.items)) }
+{
+    let Some(image) = new_image(alloc)? else {
+        return Ok(None);
+    };
+    let mut volume = mounts(alloc, image, 0)?;
+    let (made, acknowledged) = by_events(alloc, &mut volume, dir, seed, events)?;
+    let (disk, _clock, _history) = volume.abandon();
+    let left = disk.crash(pick)?;
+    Ok(Some((made, acknowledged, left)))
+}
+
+/// How many letters from a on are names of a directory, where those are all of the first 26.
+fn letters_there(alloc: Global, image: Vec<u8>, dir: u64) -> Result<Option<u8>, AllocError>
+    requires { HasTree image.items }
+{
+    let mut volume = mounts(alloc, image, 0)?;
+    let mut count = 0u8;
+    for i in 0..26u8 {
+        let name = letter(alloc, b'a' + i)?;
+        volume.call(1, 1, Call::Lookup { dir, name })?;
+        if is_found(&volume) {
+            if count != i {
+                return Ok(None);
+            }
+            count = i + 1;
+        }
+    }
+    Ok(Some(count))
+}
+
+#[test]
+fn what_a_crash_leaves_after_events_is_a_prefix_of_what_was_made(
+    rt: HostRuntime,
+) -> Result<(), Fail> {
+    let alloc = rt.alloc();
+    let mut most = 0u8;
+    for seed in 1..4 {
+        for turns in 1..9 {
+            let pick = 0x5555_5555_5555_5555 * (seed % 2);
+            let left = left_by_events(alloc, 66, seed, 20 * turns, pick)?;
+            let Some((made, acknowledged, left)) = left else {
+                return Err(Fail::from("no volume"));
+            };
+            most = most.max(acknowledged);
+            let there = letters_there(alloc, left, 66)?;
+            assert!(rt; there.is_some());
+            let there = there.unwrap_or(0);
+            assert!(rt; acknowledged.min(26) <= there && there <= made.min(26));
+        }
+    }
+    // (and so not of volumes on which nothing was acknowledged)
+    assert!(rt; most > 4);
     Ok(())
 }

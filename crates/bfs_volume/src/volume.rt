@@ -14,10 +14,12 @@ ghost use Rattle.bfs_device_blocks.specs.Lent.{HasCore};
 ghost use Rattle.bfs_space.specs.Looks.{is_built};
 ghost use Rattle.bfs_volume.specs.Volumes.{MayBeMounted};
 ghost use Rattle.bfs_volume.specs.Entries.{HasEntry, HasEntryOf, HasFailedSync, HasReplyIn, IsAnsweredIn, IsEnded};
+ghost use Rattle.bfs_volume.specs.Events.{MayHappen, IsHappened, HasReplied};
 ghost use Rattle.bfs_volume.specs.Causes.{HasSyncCause, HasStopCause};
 
 use crate::calls::{answer, sync};
-use crate::events::SyncFault;
+use crate::event::{Event, Happened, as_happened, attempt, seal_open};
+use crate::events::{SyncFault, step};
 use crate::settle::settle;
 use bfs_cache::Cache;
 use bfs_device::{Device, DeviceFault};
@@ -127,6 +129,34 @@ impl<D: Disk, C: Clock> Volume<D, C> {
         )
     }
 
+    /// Makes one event: a call that is asked once, a seal, or a step of the device. Where no memory was found, none has come about.
+    pub fn event(&mut self, event: Event) -> Result<Happened, AllocError>
+        requires may { MayHappen event }
+        ensures happened { IfOk result (IsHappened self.old.space self.new.space self.old.device.books self.new.device.books (D.faults self.old.device.disk) (D.faults self.new.device.disk) (D.stops self.old.device.disk) (D.stops self.new.device.disk) event) }
+        ensures no_memory { OnErr result (self.new.space.view.history ≡ self.old.space.view.history) }
+        // Over what the disk tells, a call's reply is as the space's call says it, and it is put off only as that says.
+        ensures replied { (t0 : Mounted) (adopted : ℕ) → HasCore t0 adopted self.old.space.view self.old.device.books (D.state self.old.device.disk) (D.clock self.old.device.disk) (D.since self.old.device.disk)
+            → IfOk result (HasReplied t0 self.old.space self.new.space self.old.device.books self.new.device.books (D.state self.new.device.disk) (D.faults self.old.device.disk) (D.faults self.new.device.disk) event) }
+        ensures core { (t0 : Mounted) (adopted : ℕ) → HasCore t0 adopted self.old.space.view self.old.device.books (D.state self.old.device.disk) (D.clock self.old.device.disk) (D.since self.old.device.disk)
+            → HasCore t0 adopted self.new.space.view self.new.device.books (D.state self.new.device.disk) (D.clock self.new.device.disk) (D.since self.new.device.disk) }
+    {
+        match event {
+            Event::Call { session, tag, call } => {
+                let now = self.clock.seconds();
+                let space = &mut self.space;
+                as_happened(attempt(space, &mut self.device, &Calls {}, session, tag, now, call))
+            }
+            Event::Seal => match seal_open(&mut self.space, &mut self.device) {
+                Ok(sealed) => Ok(Happened::Sealed(sealed)),
+                Err(fault) => Err(fault),
+            },
+            Event::Step => match step(&mut self.space, &mut self.device) {
+                Ok(progress) => Ok(Happened::Stepped(progress)),
+                Err(fault) => Ok(Happened::Fault(fault)),
+            },
+        }
+    }
+
     /// Makes all entries durable, and tells how many there are. The sync's own entry comes behind them.
     pub fn sync(&mut self, session: u32, tag: u32) -> Result<u64, SyncFault>
         requires session { session ≢ 0 }
@@ -139,6 +169,21 @@ impl<D: Disk, C: Clock> Volume<D, C> {
     {
         let now = self.clock.seconds();
         sync(&mut self.space, &mut self.device, session, tag, now)
+    }
+
+    /// Gives up the volume as it stands: what wasn't sealed is lost, and the disk is as a crash now would meet it. Takes no memory.
+    pub fn abandon(self) -> (D, C, Vec<Entry>)
+        ensures history { result.2.items ≡ self.space.view.history }
+        ensures held { (t0 : Mounted) (adopted : ℕ) → HasCore t0 adopted self.space.view self.device.books (D.state self.device.disk) (D.clock self.device.disk) (D.since self.device.disk)
+            → (image : List ℕ) → MayLeave (D.state result.0) image → RecoversFrom t0 self.space.view.history (durable_of self.device.books) image }
+    {
+        let Volume {
+            space,
+            device,
+            clock,
+        } = self;
+        let _durable = device.durable();
+        (device.into_disk(), clock, space.into_history())
     }
 
     /// Closes the volume: all that was done is made durable and leaves the log. The history is handed back with disk and clock. Takes no memory.

@@ -1,32 +1,21 @@
-use Rattle.std.proofs.Common.{◌∙◌, sym, ap, subst}
-use Rattle.bfs_core.specs.Moments.{DeviceMoves}
+use Rattle.std.proofs.Common.{sym, subst}
 use Rattle.bfs_core.specs.Spaces.{SpaceView}
-use Rattle.bfs_core.proofs.Calls.{room_moves, room_rests}
 use Rattle.bfs_device_blocks.specs.Lent.{HasCore}
-use Rattle.bfs_device_blocks.proofs.Holding.{hold_moved}
-use Rattle.bfs_volume.proofs.Joined.{joined_moved, joined_promised, view_promised}
+use Rattle.bfs_volume.proofs.Joined.{joined_promised, view_promised}
 use Rattle.bfs_volume.proofs.calls.prepare.Goals as goal
 
 pub returns-clause-joined : goal.returns-clause-joined
 returns-clause-joined g c =
-    let old = c.args.device.now in
-    let new = c.room.new.self in
-    let e = c.room.ensures in
+    let new = c.make_room.new.device in
     let sp = c.args.space.now in
-    let rests = room_rests old.books new.books c.room.result e.ok e.err in
-    let moves = subst (λ d. DeviceMoves old.books new.books (g.D.Disk.state d) (g.D.Disk.state new.disk) (g.D.Disk.clock d) (g.D.Disk.clock new.disk) (g.D.Disk.since d) (g.D.Disk.since new.disk)) e.disk
-    (room_moves old.books new.books (g.D.Disk.state new.disk) (g.D.Disk.clock new.disk) (g.D.Disk.since new.disk) rests c.steady.ensures.steady c.durable-durable.ensures.recovers (g.met.D.Disk.only_now new.disk)) in
-    joined_promised c.promise.result sp c.promise.new.self _ new.books (g.D.Disk.state new.disk) c.promise.ensures.ok c.promise.ensures.err
-    (joined_moved sp old.books new.books (g.D.Disk.state old.disk) (g.D.Disk.state new.disk) (g.D.Disk.clock old.disk) (g.D.Disk.clock new.disk) (g.D.Disk.since old.disk) (g.D.Disk.since new.disk) moves (λ st is. (st, ap g.D.Disk.state (sym e.disk) ∙ is)) c.requires.joined)
+    joined_promised c.promise.result sp c.promise.new.self _ new.books (g.D.Disk.state new.disk) c.promise.ensures.ok c.promise.ensures.err (c.make_room.ensures.joined sp c.requires.joined)
+
+pub returns-clause-view : goal.returns-clause-view
+returns-clause-view g c = view_promised c.promise.result c.args.space.now c.promise.new.self _ c.promise.ensures.ok c.promise.ensures.err
 
 pub returns-clause-core : goal.returns-clause-core
 returns-clause-core g c = λ t0 adopted core.
-    let old = c.args.device.now in
-    let new = c.room.new.self in
-    let e = c.room.ensures in
+    let new = c.make_room.new.device in
     let sp = c.args.space.now in
-    let rests = room_rests old.books new.books c.room.result e.ok e.err in
-    let moves = subst (λ d. DeviceMoves old.books new.books (g.D.Disk.state d) (g.D.Disk.state new.disk) (g.D.Disk.clock d) (g.D.Disk.clock new.disk) (g.D.Disk.since d) (g.D.Disk.since new.disk)) e.disk
-    (room_moves old.books new.books (g.D.Disk.state new.disk) (g.D.Disk.clock new.disk) (g.D.Disk.since new.disk) rests c.steady.ensures.steady c.durable-durable.ensures.recovers (g.met.D.Disk.only_now new.disk)) in
     subst (λ (v : SpaceView). HasCore t0 adopted v new.books (g.D.Disk.state new.disk) (g.D.Disk.clock new.disk) (g.D.Disk.since new.disk)) (sym (view_promised c.promise.result sp c.promise.new.self _ c.promise.ensures.ok c.promise.ensures.err))
-    (hold_moved t0 adopted sp.view old.books (g.D.Disk.state old.disk) (g.D.Disk.clock old.disk) (g.D.Disk.since old.disk) new.books (g.D.Disk.state new.disk) (g.D.Disk.clock new.disk) (g.D.Disk.since new.disk) moves core)
+    (c.make_room.ensures.core t0 adopted sp.view core)

@@ -1,4 +1,4 @@
-use Rattle.std.proofs.Common.{◌≡◌, ◌∙◌, List}
+use Rattle.std.proofs.Common.{◌∙◌}
 use Rattle.bfs_volume.proofs.Images.{whole_has_tree}
 use Rattle.bfs_volume.proofs.tests.formats.Goals as goal
 

@@ -1,4 +1,4 @@
-use Rattle.std.proofs.Common.{rules, ◌≡◌, ◌*◌, ◌/◌, ◌∙◌, List, Some, length, sym, subst}
+use Rattle.std.proofs.Common.{rules, ◌≡◌, ◌*◌, ◌/◌, ◌∙◌, Some, length, sym, subst}
 use Rattle.std.specs.FinMap.{empty}
 use Rattle.bfs_disk.specs.State.{Holds, state_of}
 use Rattle.bfs_tree.specs.Histories.{Mounted}

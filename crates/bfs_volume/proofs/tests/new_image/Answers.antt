@@ -1,4 +1,4 @@
-use Rattle.std.proofs.Common.{rules, ◌≡◌, ◌*◌, ◌/◌, ◌∙◌, List, Some, length, sym, subst}
+use Rattle.std.proofs.Common.{rules, ◌≡◌, ◌*◌, ◌/◌, ◌∙◌, Some, length, sym, subst}
 use Rattle.bfs_disk.specs.State.{State, ReadsAs, state_of}
 use Rattle.bfs_volume.proofs.Images.{holds_bytes}
 use Rattle.bfs_volume.proofs.tests.new_image.Goals as goal

@@ -1,0 +1,49 @@
+use Rattle.std.proofs.Common.{◌⊎◌, inl, sym, subst}
+use Rattle.std.proofs.lemmas.Result.{IfOk-weaker}
+use Rattle.bfs_core.specs.Cores.{newest_map}
+use Rattle.bfs_space.specs.Books.{SpaceBooks}
+use Rattle.bfs_space.specs.Faces.{IsOutcome}
+use Rattle.bfs_space.specs.declared.space.Outcome.{Outcome}
+use Rattle.bfs_device_blocks.specs.Lent.{HasCore}
+use Rattle.bfs_volume.specs.Entries.{IsEnded}
+use Rattle.bfs_volume.specs.Events.{IsOutcomeIn}
+use Rattle.bfs_volume.proofs.Asked.{face_core}
+use Rattle.bfs_volume.proofs.Ends.{rest_of, tells_since}
+use Rattle.bfs_volume.proofs.Joined.{joined_unpromised}
+use Rattle.bfs_volume.proofs.event.attempt.Goals as goal
+
+pub returns-in-Some-clause-core : goal.returns-in-Some-clause-core
+returns-in-Some-clause-core g c = λ t0 adopted core. c.note.ensures.core t0 adopted (c.prepare.ensures.core t0 adopted core)
+
+pub returns-clause-joined : goal.returns-clause-joined
+returns-clause-joined g c = joined_unpromised c.ask-outcome.new.space c.unpromise.new.self _ c.ask-outcome.new.device.books (g.D.Disk.state c.ask-outcome.new.device.disk) c.unpromise.ensures c.ask-outcome.ensures.joined
+
+pub returns-clause-core : goal.returns-clause-core
+returns-clause-core g c = λ t0 adopted core.
+    let d = c.ask-outcome.new.device in
+    subst (λ (x : SpaceBooks). HasCore t0 adopted x.view d.books (g.D.Disk.state d.disk) (g.D.Disk.clock d.disk) (g.D.Disk.since d.disk)) (sym c.unpromise.ensures)
+    (c.ask-outcome.ensures.core t0 adopted (c.prepare.ensures.core t0 adopted core))
+
+pub returns-clause-answered : goal.returns-clause-answered
+returns-clause-answered g c = λ t0 adopted core.
+    let q = c.prepare.new.device in
+    let u = c.ask-outcome.new.device in
+    let sp = c.prepare.new.space in
+    let held = c.prepare.ensures.core t0 adopted core in
+    let face = face_core t0 adopted sp q.books (g.D.Disk.state q.disk) (g.D.Disk.clock q.disk) (g.D.Disk.since q.disk) c.prepare.ensures.joined held in
+    let faults = g.D.Disk.faults c.args.device.now.disk in
+    let ended : Outcome → Type 0 = λ o. IsEnded c.args.space.now.view.history c.unpromise.new.self.view.history c.args.session c.args.tag c.args.call c.args.device.now.books.stop faults (g.D.Disk.faults u.disk) in
+    let into : Outcome → Type 0 = λ o. IsOutcomeIn t0 c.args.space.now c.unpromise.new.self u.books (g.D.Disk.state u.disk) c.args.session c.args.tag c.args.call o ⊎ ended o in
+    let from : Outcome → Type 0 = λ o. IsOutcome t0 sp c.ask-outcome.new.space (newest_map q.books held.0.0) c.args.session c.args.tag c.args.now c.args.call o in
+    IfOk-weaker c.ask-outcome.result from into
+    (λ (o : Outcome) (is : from o). (let it : into o = inl (record {
+      at = sp;
+      books = c.ask-outcome.new.space;
+      map = newest_map q.books held.0.0;
+      now = c.args.now;
+      same = c.prepare.ensures.view;
+      rest = rest_of c.ask-outcome.new.space c.unpromise.new.self _ c.unpromise.ensures;
+      tells = tells_since q.books u.books (g.D.Disk.state q.disk) (g.D.Disk.state u.disk) held.0.0 c.ask-outcome.ensures.rests c.ask-outcome.ensures.state held.0.1;
+      outcome_is = is;
+    }) in it))
+    (c.ask-outcome.ensures.entered t0 held.0.0 held.0.1 face)

@@ -1,0 +1,4 @@
+use Rattle.bfs_volume.proofs.event.seal_open.Goals as goal
+
+pub returns-clause-core : goal.returns-clause-core
+returns-clause-core g c = λ t0 adopted core. c.seal.ensures.core t0 adopted (c.make_room.ensures.core t0 adopted c.args.space.now.view core)

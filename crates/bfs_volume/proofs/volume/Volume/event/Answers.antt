@@ -1,0 +1,35 @@
+use Rattle.std.proofs.Common.{sym, subst}
+use Rattle.std.specs.Prelude.{IfOk}
+use Rattle.bfs_device_blocks.specs.Lent.{HasCore}
+use Rattle.bfs_volume.specs.Events.{HasReplied}
+use Rattle.bfs_volume.specs.Volumes.{VolumeView}
+use Rattle.bfs_volume.specs.declared.event.Event.{Event}
+use Rattle.bfs_volume.specs.declared.event.Event.TheVariants as events
+use Rattle.bfs_volume.proofs.Happens.{replied_by}
+use Rattle.bfs_volume.proofs.volume.Volume.event.Goals as goal
+
+pub returns-in-Call-clause-replied : goal.returns-in-Call-clause-replied
+returns-in-Call-clause-replied g c = λ t0 adopted core.
+    let i = c.self.inside in
+    let n = c.attempt.new in
+    let event : Event = events.Call c.in-Call.session c.in-Call.tag c.in-Call.call in
+    let inside : HasCore t0 adopted i.space.view i.device.books (g.D.Disk.state i.device.disk) (g.D.Disk.clock i.device.disk) (g.D.Disk.since i.device.disk) =
+    subst (λ (v : VolumeView g.row.D.Denot). HasCore t0 adopted v.space.view v.device.books (g.D.Disk.state v.device.disk) (g.D.Disk.clock v.device.disk) (g.D.Disk.since v.device.disk)) (sym c.self.view_is) core in
+    let here = replied_by t0 i.space n.space i.device.books n.device.books (g.D.Disk.state n.device.disk) (g.D.Disk.faults i.device.disk) (g.D.Disk.faults n.device.disk) c.in-Call.session c.in-Call.tag c.in-Call.call c.attempt.result c.as_happened.result c.as_happened.ensures.ok c.as_happened.ensures.err c.attempt.ensures.entry (c.attempt.ensures.answered t0 adopted inside) in
+    let there = subst (λ (v : VolumeView g.row.D.Denot). IfOk c.as_happened.result (HasReplied t0 v.space n.space v.device.books n.device.books (g.D.Disk.state n.device.disk) (g.D.Disk.faults v.device.disk) (g.D.Disk.faults n.device.disk) event)) c.self.view_is here in
+    subst (λ (e : Event). IfOk c.as_happened.result (HasReplied t0 c.args.self.now.space n.space c.args.self.now.device.books n.device.books (g.D.Disk.state n.device.disk) (g.D.Disk.faults c.args.self.now.device.disk) (g.D.Disk.faults n.device.disk) e)) (sym c.in-Call.is) there
+
+pub returns-in-Call-clause-core : goal.returns-in-Call-clause-core
+returns-in-Call-clause-core g c = λ t0 adopted core.
+    c.attempt.ensures.core t0 adopted
+    (subst (λ (v : VolumeView g.row.D.Denot). HasCore t0 adopted v.space.view v.device.books (g.D.Disk.state v.device.disk) (g.D.Disk.clock v.device.disk) (g.D.Disk.since v.device.disk)) (sym c.self.view_is) core)
+
+pub returns-after-seal_open-clause-core : goal.returns-after-seal_open-clause-core
+returns-after-seal_open-clause-core g c = λ t0 adopted core.
+    c.seal_open.ensures.core t0 adopted
+    (subst (λ (v : VolumeView g.row.D.Denot). HasCore t0 adopted v.space.view v.device.books (g.D.Disk.state v.device.disk) (g.D.Disk.clock v.device.disk) (g.D.Disk.since v.device.disk)) (sym c.self.view_is) core)
+
+pub returns-after-step-clause-core : goal.returns-after-step-clause-core
+returns-after-step-clause-core g c = λ t0 adopted core.
+    c.step.ensures.core t0 adopted
+    (subst (λ (v : VolumeView g.row.D.Denot). HasCore t0 adopted v.space.view v.device.books (g.D.Disk.state v.device.disk) (g.D.Disk.clock v.device.disk) (g.D.Disk.since v.device.disk)) (sym c.self.view_is) core)

@@ -51,7 +51,7 @@ fn has_long_blocks(sup: Super)
 }
 
 /// The bytes of a block.
-fn read_block<B: Blocks>(
+pub fn read_block<B: Blocks>(
     alloc: Global,
     under: &mut B,
     sup: Super,

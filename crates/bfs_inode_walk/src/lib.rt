@@ -9,6 +9,7 @@ mod runs;
 mod stream;
 mod visit;
 
+pub use block::read_block;
 pub use fault::VisitFault;
 pub use laws::{blocks_are_by_role, record_is_node};
 pub use visit::visit_inode;

@@ -27,6 +27,7 @@ fn claim_run(claims: &mut Claims, sup: Super, run: Run) -> Result<(), u64>
     requires blocks { claims.old.blocks ≡ natural sup.num_blocks }
     ensures claimed { (xs : List ℕ) → AreClaimed claims.old xs → OnOk result (AreClaimed claims.new (xs ++ run_blocks (sizes_of sup) run)) }
     ensures twice { (xs : List ℕ) → AreClaimed claims.old xs → IfErr result (λ block. Has xs block × Has (run_blocks (sizes_of sup) run) block) }
+    ensures more { OnOk result (claims.old.count ≤ claims.new.count) }
     ensures blocks { claims.new.blocks ≡ claims.old.blocks }
 {
     let first = start_of(sup, run);
@@ -40,6 +41,7 @@ pub(crate) fn claim_runs(claims: &mut Claims, sup: Super, runs: &[Run]) -> Resul
     requires blocks { claims.old.blocks ≡ natural sup.num_blocks }
     ensures claimed { (xs : List ℕ) → AreClaimed claims.old xs → OnOk result (AreClaimed claims.new (xs ++ blocks_of (sizes_of sup) runs.now)) }
     ensures twice { (xs : List ℕ) → AreClaimed claims.old xs → IfErr result (λ block. Has (blocks_of (sizes_of sup) runs.now) block × (2 ≤ times block (xs ++ blocks_of (sizes_of sup) runs.now))) }
+    ensures more { OnOk result (claims.old.count ≤ claims.new.count) }
     ensures blocks { claims.new.blocks ≡ claims.old.blocks }
 {
     for i in 0..runs.len() {

@@ -1,5 +1,5 @@
 // The stream of an inode: whether it keeps its format, and its blocks, which are claimed.
-ghost use Rattle.std.specs.Prelude.{◌≡◌, ◌<◌, ◌++◌, ℕ, List, All, Option, Some, OnOk, IfOk, IfErr};
+ghost use Rattle.std.specs.Prelude.{◌≡◌, ◌≤◌, ◌<◌, ◌++◌, ℕ, List, All, Option, Some, OnOk, IfOk, IfErr};
 ghost use Rattle.bfs_super.specs.Conditions.{IsValid, natural};
 ghost use Rattle.bfs_txn.specs.Faults.{Counts, AreLater};
 ghost use Rattle.bfs_stream.specs.Sizes.{sizes_of, IsInVolume};
@@ -81,6 +81,7 @@ fn claim_both(
     ensures taken { (xs : List ℕ) → AreClaimed claims.old xs → IfErr result (IsTaken xs (blocks_of (sizes_of sup) arrays.now ++ blocks_of (sizes_of sup) runs.now)) }
     ensures wrong { (v : Volume) → IfErr result (IsTrueOf v) }
     ensures cause { (old new : Counts) → IfErr result (IsVisitCause old new) }
+    ensures more { OnOk result (claims.old.count ≤ claims.new.count) }
     ensures blocks { claims.new.blocks ≡ claims.old.blocks }
 {
     match claim_runs(claims, sup, arrays) {
@@ -110,6 +111,7 @@ pub(crate) fn take_stream<B: Blocks>(
     ensures claimed { (m : ℕ → Option (List ℕ)) (xs : List ℕ) → B.told under.old ≡ Some m → AreClaimed claims.old xs → OnOk result (AreClaimed claims.new (xs ++ (arrays_at (sizes_of sup.now) (contents m) id ++ places_at (sizes_of sup.now) (contents m) id))) }
     ensures wrong { (m : ℕ → Option (List ℕ)) → B.told under.old ≡ Some m → IsStreamed (volume_of sup.now (contents m)) id → IfErr result (IsTrueOf (volume_of sup.now (contents m))) }
     ensures taken { (m : ℕ → Option (List ℕ)) (xs : List ℕ) → B.told under.old ≡ Some m → AreClaimed claims.old xs → IfErr result (IsTaken xs (arrays_at (sizes_of sup.now) (contents m) id ++ places_at (sizes_of sup.now) (contents m) id)) }
+    ensures more { OnOk result (claims.old.count ≤ claims.new.count) }
     ensures blocks { claims.new.blocks ≡ claims.old.blocks }
     ensures told { B.told under.new ≡ B.told under.old }
     ensures changed { B.changed under.new ≡ B.changed under.old }

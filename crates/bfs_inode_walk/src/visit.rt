@@ -29,6 +29,7 @@ fn claim_own(claims: &mut Claims, id: u64) -> Result<(), VisitFault>
     ensures taken { (xs rest : List ℕ) → AreClaimed claims.old xs → IfErr result (IsTaken xs (id ∷ rest)) }
     ensures wrong { (v : Volume) → IfErr result (IsTrueOf v) }
     ensures cause { (old new : Counts) → IfErr result (IsVisitCause old new) }
+    ensures more { OnOk result (claims.old.count < claims.new.count) }
     ensures blocks { claims.new.blocks ≡ claims.old.blocks }
 {
     match claims.claim(id, 1) {
@@ -39,7 +40,8 @@ fn claim_own(claims: &mut Claims, id: u64) -> Result<(), VisitFault>
 
 /// Goes over the inode at a block, which has this place, and claims its block, the array blocks and the blocks of its stream. Answers
 /// the bytes of its block exactly where it is right for its place and none of these blocks was claimed before; else what is wrong with
-/// it, or the first of its blocks that is taken. Beside its block it takes the memory of a block and of the stream's runs.
+/// it, or the first of its blocks that is taken. More is claimed behind it than before, whatever the blocks tell. Beside its block it
+/// takes the memory of a block and of the stream's runs.
 pub fn visit_inode<B: Blocks>(
     alloc: Global,
     under: &mut B,
@@ -61,6 +63,7 @@ pub fn visit_inode<B: Blocks>(
     ensures claimed { (m : ℕ → Option (List ℕ)) (xs : List ℕ) → B.told under.old ≡ Some m → AreClaimed claims.old xs → OnOk result (AreClaimed claims.new (xs ++ role_blocks (volume_of sup.now (contents m)) role id)) }
     ensures wrong { (m : ℕ → Option (List ℕ)) (way : Way) → B.told under.old ≡ Some m → role_of way ≡ Some role → Arrives (volume_of sup.now (contents m)) way id → IfErr result (IsTrueOf (volume_of sup.now (contents m))) }
     ensures taken { (m : ℕ → Option (List ℕ)) (xs : List ℕ) → B.told under.old ≡ Some m → AreClaimed claims.old xs → IfErr result (IsTaken xs (role_blocks (volume_of sup.now (contents m)) role id)) }
+    ensures more { OnOk result (claims.old.count < claims.new.count) }
     ensures blocks { claims.new.blocks ≡ claims.old.blocks }
     ensures told { B.told under.new ≡ B.told under.old }
     ensures changed { B.changed under.new ≡ B.changed under.old }

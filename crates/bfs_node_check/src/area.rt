@@ -9,7 +9,7 @@ use bfs_smalldata::list_end;
 
 /// Does an item stand here?
 #[tactic(auto, using(crate::proofs::Walked::unsigned_there))]
-pub(crate) fn goes_on(area: &[u8], at: usize) -> bool
+pub fn goes_on(area: &[u8], at: usize) -> bool
     requires { at ≤ length area.now }
     ensures { IsTrue result ↔ GoesOn (drop at area.now) }
 {
@@ -18,7 +18,7 @@ pub(crate) fn goes_on(area: &[u8], at: usize) -> bool
 
 /// How long the name of the item here is.
 #[tactic(auto, using(crate::proofs::Walked::unsigned_there))]
-pub(crate) fn name_size_at(area: &[u8], at: usize) -> usize
+pub fn name_size_at(area: &[u8], at: usize) -> usize
     requires { at + 8 ≤ length area.now }
     ensures value { result ≡ name_size (drop at area.now) }
     ensures few { result < 65536 }
@@ -28,7 +28,7 @@ pub(crate) fn name_size_at(area: &[u8], at: usize) -> usize
 
 /// How much of the area the item here takes.
 #[tactic(auto, using(crate::proofs::Walked::unsigned_there))]
-pub(crate) fn size_at(area: &[u8], at: usize) -> usize
+pub fn size_at(area: &[u8], at: usize) -> usize
     requires { at + 8 ≤ length area.now }
     ensures { result ≡ size_in (drop at area.now) }
 {

@@ -12,6 +12,7 @@ mod parent;
 mod role;
 mod target;
 
+pub use area::{goes_on, name_size_at, size_at};
 pub use fault::NodeFault;
 pub use inode::{InodeWrong, check_inode};
 pub use mode::kind_of;

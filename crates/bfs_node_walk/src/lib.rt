@@ -10,7 +10,7 @@ mod row;
 
 pub use listing::check_listing;
 pub use names::read_names;
-pub use node::{VisitedNode, visit_child, visit_root};
+pub use node::{VisitedNode, name_fault, visit_child, visit_root};
 pub use row::check_rows;
 
 #[cfg(test)]

@@ -146,8 +146,8 @@ fn rows_of<B: Blocks>(
     rows_in(alloc, under, sup, id, parent, bytes)
 }
 
-/// Why a node's name isn't right.
-fn name_fault(fault: NodeFault) -> VisitFault
+/// What is wrong with a node, as the fault of a visit.
+pub fn name_fault(fault: NodeFault) -> VisitFault
     ensures wrong { (v : Volume) → IsNodeFault v fault → IsTrueOf v result }
     ensures other { (xs own : List ℕ) → IsTaken xs own result }
     ensures cause { (old new : Counts) → IsVisitCause old new result }
@@ -239,6 +239,7 @@ pub fn visit_root<B: Blocks>(
     ensures claimed { (m : ℕ → Option (List ℕ)) (xs : List ℕ) → B.told under.old ≡ Some m → AreClaimed claims.old xs → OnOk result (AreClaimed claims.new (xs ++ role_blocks (volume_of sup.now (contents m)) roles.Root id)) }
     ensures wrong { (m : ℕ → Option (List ℕ)) → B.told under.old ≡ Some m → IfErr result (IsTrueOf (volume_of sup.now (contents m))) }
     ensures taken { (m : ℕ → Option (List ℕ)) (xs : List ℕ) → B.told under.old ≡ Some m → AreClaimed claims.old xs → IfErr result (IsTaken xs (role_blocks (volume_of sup.now (contents m)) roles.Root id)) }
+    ensures more { OnOk result (claims.old.count < claims.new.count) }
     ensures blocks { claims.new.blocks ≡ claims.old.blocks }
     ensures told { B.told under.new ≡ B.told under.old }
     ensures changed { B.changed under.new ≡ B.changed under.old }
@@ -281,6 +282,7 @@ pub fn visit_child<B: Blocks>(
     ensures claimed { (m : ℕ → Option (List ℕ)) (xs : List ℕ) → B.told under.old ≡ Some m → AreClaimed claims.old xs → OnOk result (AreClaimed claims.new (xs ++ role_blocks (volume_of sup.now (contents m)) roles.Child id)) }
     ensures wrong { (m : ℕ → Option (List ℕ)) → B.told under.old ≡ Some m → Arrives (volume_of sup.now (contents m)) (to_child parent row.now) id → IfErr result (IsTrueOf (volume_of sup.now (contents m))) }
     ensures taken { (m : ℕ → Option (List ℕ)) (xs : List ℕ) → B.told under.old ≡ Some m → AreClaimed claims.old xs → IfErr result (IsTaken xs (role_blocks (volume_of sup.now (contents m)) roles.Child id)) }
+    ensures more { OnOk result (claims.old.count < claims.new.count) }
     ensures blocks { claims.new.blocks ≡ claims.old.blocks }
     ensures told { B.told under.new ≡ B.told under.old }
     ensures changed { B.changed under.new ≡ B.changed under.old }

@@ -6,7 +6,7 @@ use Rattle.bfs_inode_walk.proofs.Claiming.{claimed_none, claimed_next, claimed_a
 use Rattle.bfs_inode_walk.proofs.runs.claim_runs.Goals as goal
 
 pub loop-i-init : goal.loop-i-init
-loop-i-init c = record { claimed = λ xs a. claimed_none (sizes_of c.args.sup) c.args.runs.now c.args.claims.now xs a; blocks = refl }
+loop-i-init c = record { claimed = λ xs a. claimed_none (sizes_of c.args.sup) c.args.runs.now c.args.claims.now xs a; more = omega arith; blocks = refl }
 
 pub returns-in-Err-clause-twice : goal.returns-in-Err-clause-twice
 returns-in-Err-clause-twice c xs a =
@@ -22,6 +22,7 @@ loop-i-preserved c =
     let none : Run = record { group = pos 0; start = 0; len = 0 } in
     let inside : c.loop-i.i < length c.args.runs.now = c.loop-i-test.true in record {
       claimed = λ xs a. claimed_next s c.args.runs.now c.loop-i.i none inside c.claim_run.new.claims xs (c.in-Ok.ensures.claimed (xs ++ blocks_of s (take c.loop-i.i c.args.runs.now)) (c.loop-i.invariant.claimed xs a));
+      more = let now = c.in-Ok.ensures.more in let before = c.loop-i.invariant.more in omega (arith, now, before);
       blocks = c.in-Ok.ensures.blocks ∙ c.loop-i.invariant.blocks;
     }
 

@@ -1,0 +1,16 @@
+// Goes over the attributes of a node of a volume that may hold anything: the address of its attribute directory, the inode of that with its
+// rows, and the inodes that these name. Whether their names differ is bfs_attrs_walk's.
+#![tactic(auto)]
+
+mod address;
+mod attribute;
+mod directory;
+mod stored;
+
+pub use address::directory_of;
+pub use attribute::visit_rows;
+pub use directory::visit_directory;
+pub use stored::visit_stored;
+
+#[cfg(test)]
+mod tests;

@@ -1,0 +1,15 @@
+// Goes over the attributes of all nodes of a volume that may hold anything: the names of a node's items and of the rows of its attribute
+// directory, that directory with the inodes that it names, and so on for each node that was gone over.
+#![tactic(auto)]
+
+mod items;
+mod names;
+mod node;
+mod pass;
+
+pub use names::check_names;
+pub use node::visit_attributes;
+pub use pass::visit_all;
+
+#[cfg(test)]
+mod tests;

@@ -1,0 +1,135 @@
+// The attributes of all nodes.
+ghost use Rattle.std.specs.Prelude.{◌≡◌, ◌<◌, ◌++◌, ℕ, List, Option, Some, OnOk, IfErr};
+ghost use Rattle.bfs_super.specs.Conditions.{IsValid, natural, block_of_run};
+ghost use Rattle.bfs_txn.specs.Faults.{AreLater};
+ghost use Rattle.bfs_stream.specs.Sizes.{sizes_of};
+ghost use Rattle.bfs_stream.specs.Told.{contents};
+ghost use Rattle.bfs_stream_check.specs.Known.{IsAllTold};
+ghost use Rattle.bfs_sound.specs.Attributes.{attribute_directory};
+ghost use Rattle.bfs_sound.specs.Whole.{volume_of};
+ghost use Rattle.bfs_finding.specs.Ways.{IsReached};
+ghost use Rattle.bfs_claims.specs.Claims.{AreClaimed};
+ghost use Rattle.bfs_inode_walk.specs.Visited.{IsTrueOf, IsVisitCause};
+ghost use Rattle.bfs_node_walk.specs.Listed.{NamesBlock};
+ghost use Rattle.bfs_nodes_walk.specs.Leads.{AreInside};
+ghost use Rattle.bfs_nodes_walk.specs.Walks.{HasAttributes, IsWalked};
+ghost use Rattle.bfs_attrs_walk.specs.Passes.{id_of, attribute_blocks, blocks_of_leads, AreReached, HaveThose, IsTakenIn, IsTakenOf, IsWhole, IsTakenTwice};
+
+use crate::node::visit_attributes;
+use bfs_claims::Claims;
+use bfs_inode_walk::VisitFault;
+use bfs_nodes_walk::NodeLead;
+use bfs_super::Super;
+use bfs_txn::Blocks;
+use std::alloc::Global;
+
+/// The number of a row's inode.
+fn number_of(value: i64) -> u64
+    ensures { result ≡ natural value }
+{
+    if value < 0 { 0 } else { value as u64 }
+}
+
+/// Goes over the attributes of the node that a row names.
+fn visit_lead<B: Blocks>(
+    alloc: Global,
+    under: &mut B,
+    sup: &Super,
+    lead: &NodeLead,
+    claims: &mut Claims,
+) -> Result<(), VisitFault>
+    requires valid { IsValid sup.now }
+    requires lead { NamesBlock (natural sup.now.num_blocks) (lead.now.row.name, lead.now.row.value) }
+    requires size { B.size under.old ≡ sup.now.block_size }
+    requires all { (m : ℕ → Option (List ℕ)) → B.told under.old ≡ Some m → IsAllTold (sizes_of sup.now) m }
+    requires blocks { claims.old.blocks ≡ natural sup.now.num_blocks }
+    ensures right { (m : ℕ → Option (List ℕ)) → B.told under.old ≡ Some m → OnOk result (HasAttributes (volume_of sup.now (contents m)) (id_of lead.now)) }
+    ensures claimed { (m : ℕ → Option (List ℕ)) (xs : List ℕ) → B.told under.old ≡ Some m → AreClaimed claims.old xs → OnOk result (AreClaimed claims.new (xs ++ attribute_blocks (volume_of sup.now (contents m)) (id_of lead.now))) }
+    ensures wrong { (m : ℕ → Option (List ℕ)) → B.told under.old ≡ Some m → IsReached (volume_of sup.now (contents m)) (id_of lead.now) → IfErr result (IsTrueOf (volume_of sup.now (contents m))) }
+    ensures taken { (m : ℕ → Option (List ℕ)) (xs : List ℕ) → B.told under.old ≡ Some m → AreClaimed claims.old xs → IfErr result (IsTakenIn (volume_of sup.now (contents m)) xs (attribute_directory (volume_of sup.now (contents m)) (id_of lead.now))) }
+    ensures blocks { claims.new.blocks ≡ claims.old.blocks }
+    ensures told { B.told under.new ≡ B.told under.old }
+    ensures changed { B.changed under.new ≡ B.changed under.old }
+    ensures pairs { B.pairs under.new ≡ B.pairs under.old }
+    ensures size { B.size under.new ≡ B.size under.old }
+    ensures frame { B.frame under.new ≡ B.frame under.old }
+    ensures later { AreLater (B.counts under.old) (B.counts under.new) }
+    ensures cause { IfErr result (IsVisitCause (B.counts under.old) (B.counts under.new)) }
+{
+    let id = number_of(lead.row.value);
+    visit_attributes(alloc, under, sup, id, claims)
+}
+
+/// Goes over the attributes of the nodes that rows name, one after the other.
+fn visit_leads<B: Blocks>(
+    alloc: Global,
+    under: &mut B,
+    sup: &Super,
+    leads: &[NodeLead],
+    claims: &mut Claims,
+) -> Result<(), VisitFault>
+    requires valid { IsValid sup.now }
+    requires inside { AreInside (natural sup.now.num_blocks) leads.now }
+    requires size { B.size under.old ≡ sup.now.block_size }
+    requires all { (m : ℕ → Option (List ℕ)) → B.told under.old ≡ Some m → IsAllTold (sizes_of sup.now) m }
+    requires blocks { claims.old.blocks ≡ natural sup.now.num_blocks }
+    ensures right { (m : ℕ → Option (List ℕ)) → B.told under.old ≡ Some m → OnOk result (HaveThose (volume_of sup.now (contents m)) leads.now) }
+    ensures claimed { (m : ℕ → Option (List ℕ)) (xs : List ℕ) → B.told under.old ≡ Some m → AreClaimed claims.old xs → OnOk result (AreClaimed claims.new (xs ++ blocks_of_leads (volume_of sup.now (contents m)) leads.now)) }
+    ensures wrong { (m : ℕ → Option (List ℕ)) → B.told under.old ≡ Some m → AreReached (volume_of sup.now (contents m)) leads.now → IfErr result (IsTrueOf (volume_of sup.now (contents m))) }
+    ensures taken { (m : ℕ → Option (List ℕ)) (xs : List ℕ) → B.told under.old ≡ Some m → AreClaimed claims.old xs → IfErr result (IsTakenOf (volume_of sup.now (contents m)) xs leads.now) }
+    ensures blocks { claims.new.blocks ≡ claims.old.blocks }
+    ensures told { B.told under.new ≡ B.told under.old }
+    ensures changed { B.changed under.new ≡ B.changed under.old }
+    ensures pairs { B.pairs under.new ≡ B.pairs under.old }
+    ensures size { B.size under.new ≡ B.size under.old }
+    ensures frame { B.frame under.new ≡ B.frame under.old }
+    ensures later { AreLater (B.counts under.old) (B.counts under.new) }
+    ensures cause { IfErr result (IsVisitCause (B.counts under.old) (B.counts under.new)) }
+{
+    for i in 0..leads.len() {
+        match visit_lead(alloc, under, sup, &leads[i], claims) {
+            Ok(()) => {}
+            Err(fault) => return Err(fault),
+        }
+    }
+    Ok(())
+}
+
+/// Goes over the attributes of all nodes: of the root at this block, and of those that rows name which were followed. Their blocks are
+/// claimed. It takes the memory of one node with the rows of its attribute directory.
+pub fn visit_all<B: Blocks>(
+    alloc: Global,
+    under: &mut B,
+    sup: &Super,
+    root: u64,
+    leads: &[NodeLead],
+    claims: &mut Claims,
+) -> Result<(), VisitFault>
+    requires valid { IsValid sup.now }
+    requires root { root ≡ block_of_run sup.now sup.now.root_dir }
+    requires root_inside { root < natural sup.now.num_blocks }
+    requires inside { AreInside (natural sup.now.num_blocks) leads.now }
+    requires size { B.size under.old ≡ sup.now.block_size }
+    requires all { (m : ℕ → Option (List ℕ)) → B.told under.old ≡ Some m → IsAllTold (sizes_of sup.now) m }
+    requires blocks { claims.old.blocks ≡ natural sup.now.num_blocks }
+    ensures whole { (m : ℕ → Option (List ℕ)) (xs : List ℕ) → B.told under.old ≡ Some m → IsWalked (volume_of sup.now (contents m)) xs claims.old leads.now → OnOk result (IsWhole (volume_of sup.now (contents m)) xs claims.new leads.now) }
+    ensures wrong { (m : ℕ → Option (List ℕ)) (xs : List ℕ) → B.told under.old ≡ Some m → IsWalked (volume_of sup.now (contents m)) xs claims.old leads.now → IfErr result (IsTrueOf (volume_of sup.now (contents m))) }
+    ensures taken { (m : ℕ → Option (List ℕ)) (xs : List ℕ) → B.told under.old ≡ Some m → IsWalked (volume_of sup.now (contents m)) xs claims.old leads.now → IfErr result (IsTakenTwice (volume_of sup.now (contents m)) xs) }
+    ensures blocks { claims.new.blocks ≡ claims.old.blocks }
+    ensures told { B.told under.new ≡ B.told under.old }
+    ensures changed { B.changed under.new ≡ B.changed under.old }
+    ensures pairs { B.pairs under.new ≡ B.pairs under.old }
+    ensures size { B.size under.new ≡ B.size under.old }
+    ensures frame { B.frame under.new ≡ B.frame under.old }
+    ensures later { AreLater (B.counts under.old) (B.counts under.new) }
+    ensures cause { IfErr result (IsVisitCause (B.counts under.old) (B.counts under.new)) }
+{
+    match visit_attributes(alloc, under, sup, root, claims) {
+        Ok(()) => {}
+        Err(fault) => return Err(fault),
+    }
+    match visit_leads(alloc, under, sup, leads, claims) {
+        Ok(()) => Ok(()),
+        Err(fault) => Err(fault),
+    }
+}

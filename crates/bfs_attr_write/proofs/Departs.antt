@@ -1,5 +1,5 @@
 -- A row of an attribute directory that is taken, as a step of a call.
-use Rattle.std.proofs.Common.{◌≡◌, inl, inr, ◌<◌, ℕ, pos, List, Bool, Option, Some, None, refl, sym, subst}
+use Rattle.std.proofs.Common.{◌≡◌, inl, inr, ◌<◌, ℕ, pos, List, Bool, Option, Some, None, refl, sym, ap, subst}
 use Rattle.std.specs.Prelude.{Result, Ok, Err, OnOk, IfErr, IfSome, IsSome}
 use Rattle.std.specs.FinMap.{get, remove}
 use Rattle.bfs_base.specs.declared.kind.KeyKind.TheVariants.{Text}
@@ -15,6 +15,8 @@ use Rattle.bfs_txn.specs.Faults.{Counts}
 use Rattle.bfs_txn.specs.declared.fault.BlockFault.TheVariants as block
 use Rattle.bfs_stream.specs.declared.fault.GrowFault.{GrowFault}
 use Rattle.bfs_stream.specs.declared.fault.GrowFault.TheVariants as grow
+use Rattle.bfs_stream.specs.Places.{whole_at}
+use Rattle.bfs_stream.specs.Told.{contents}
 use Rattle.bfs_stream_pages.specs.Held.{stream_of}
 use Rattle.bfs_txn.specs.Told.{StaysChanged}
 use Rattle.bfs_tree.specs.Trees.{Attribute}
@@ -22,7 +24,7 @@ use Rattle.bfs_maps.specs.Mapped.{HasHeld, rows_of}
 use Rattle.bfs_maps.specs.Refused.{IsNumberPage, IsTakeFault, IsTakingFault, IsUndone, HasTakeCause}
 use Rattle.bfs_make.specs.Given.{HasGivenBack}
 use Rattle.bfs_rows.specs.RowTrees.{AreRowsNow, HasTreeWith}
-use Rattle.bfs_sound.specs.Volumes.{Volume}
+use Rattle.bfs_sound.specs.Volumes.{Volume, sizes}
 use Rattle.bfs_sound.specs.Inodes.{content, id_of}
 use Rattle.bfs_values.specs.Rows.{rows_in}
 use Rattle.bfs_sound.specs.Attributes.{attributes_of, attribute_at, attribute_inodes}
@@ -31,8 +33,9 @@ use Rattle.bfs_attr.specs.Bearers.{Bearer, bearer_of, volume_at, origin, entries
 use Rattle.bfs_attr.specs.Laws.{HasNone, HasNoRow}
 use Rattle.bfs_attr.specs.Refused.{IsNoPage}
 use Rattle.bfs_attr.proofs.Tops.{directory_stands, few_blocks, value_is}
-use Rattle.bfs_attr_write.specs.Removal.{CanTake, HasRowTaken, IsNotTakenOut, IsTakenOutFault}
-use Rattle.bfs_attr_write.proofs.Brings.{gone_exchange}
+use Rattle.bfs_attr_write.specs.Removal.{CanTake, HasRowTaken, IsNotTakenOut, IsTakenOutFault, KeepsClear}
+use Rattle.bfs_attr_write.proofs.Brings.{gone_exchange, moved_exchange, rest_given}
+use Rattle.bfs_attr_write.proofs.Clear.{exchange_clear, given_clear, clear_twice, clear_told}
 use Rattle.bfs_attr_write.proofs.Leaving.{low, stream_taken, row_taken, was_there}
 use Rattle.bfs_attr_write.proofs.Picked.{number_named, none_behind}
 
@@ -79,6 +82,13 @@ module _ (s : Super) (valid : IsValid s) (inode : ℕ) (v : Room) (m : ℕ → O
       left later since new rest stays gone =
           row_taken bearer v m can.holds d can.there name can.proper id there mid now.map now.moved now.held later gone.map
           (gone_exchange (origin bearer.geometry id) mid later now.map since half new gone rest) now.bytes since gone.is old half new now.written gone.written now.fresh stays
+
+      -- and nothing that was given back is marked
+      pub left_clear : mid ≡ record v { tally = mid.tally } → (later : Room) (since : Option (ℕ → Option (List ℕ))) (new : ℕ → Bool) → HasGivenBack (origin bearer.geometry id) mid later now.map since half new → IfSome since (KeepsClear v later m)
+      left_clear same later since new gone =
+          clear_told v later m gone.map since gone.is (clear_twice v mid later m now.map gone.map (rest_given v mid same)
+          (exchange_clear v mid m now.map (whole_at (sizes bearer.geometry) (contents m) d) (whole_at (sizes bearer.geometry) (contents now.map) d) (moved_exchange (origin bearer.geometry d) v mid m now.map now.moved) (ap (λ (r : Room). r.given) same))
+          (given_clear (origin bearer.geometry id) mid later now.map since half new gone))
 
 undone_out : (v : Volume) (id : ℕ) (name : List ℕ) (fault : TreeFault GrowFault) → IsUndone fault → IsNotTakenOut v id name fault
 undone_out v id name Exists h = h

@@ -15,3 +15,4 @@ pub mod Addressed
 pub mod MakesDirectory
 pub mod DropsDirectory
 pub mod Follows
+pub mod Clear

@@ -1,7 +1,7 @@
 -- A row that is taken out of an attribute directory, with the inode that it names.
-use Rattle.std.specs.Prelude.{◌≡◌, ◌⊎◌, ℕ, true, List, Bool, Option, Some, IfSome}
+use Rattle.std.specs.Prelude.{◌≡◌, ◌<◌, ◌⊎◌, ℕ, true, List, Bool, Option, Some, IfSome}
 use Rattle.bfs_base.specs.declared.kind.KeyKind.TheVariants.{Text}
-use Rattle.bfs_bitmap.specs.Runs.{Room}
+use Rattle.bfs_bitmap.specs.Runs.{Room, per_block, is_reserved, marked}
 use Rattle.bfs_node.specs.declared.fault.TreeFault.{TreeFault}
 use Rattle.bfs_node.specs.declared.fault.TreeFault.TheVariants.{Exists, Absent, Damaged, Pages, NoMemory}
 use Rattle.bfs_super.specs.Geometry.{geometry_of}
@@ -46,3 +46,8 @@ IsTakenOutFault s d name v m told Absent = Unit {0}
 IsTakenOutFault s d name v m told (Damaged page sort) = IfSome told (λ map. ¬ IsNumberPage Text (stream_of (origin (geometry_of s) d) map) page sort)
 IsTakenOutFault s d name v m told (Pages fault) = IsUndamaged fault ⊎ ((inode : ℕ) → CanTake (bearer_of inode s) v m d name → ⊥)
 IsTakenOutFault s d name v m told NoMemory = Unit {0}
+
+-- What was given back and isn't free yet stays so; and where none of it was marked, none is.
+pub record KeepsClear (v now : Room) (m map : ℕ → Option (List ℕ)) : Type 0 where
+  pub holds : (k : ℕ) → is_reserved v.given k ≡ true → is_reserved now.given k ≡ true
+  pub clear : ((k : ℕ) → k < v.blocks → is_reserved v.given k ≡ true → ¬ (marked (per_block v) m k ≡ 1)) → (k : ℕ) → k < v.blocks → is_reserved now.given k ≡ true → ¬ (marked (per_block v) map k ≡ 1)

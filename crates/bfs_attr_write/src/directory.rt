@@ -33,7 +33,7 @@ fn set_address(block: &mut [u8], address: Run)
 }
 
 /// Writes the address of the attribute directory of an inode, or the zero run, into its block.
-fn put_address<E: Edits>(
+pub fn put_address<E: Edits>(
     site: Site,
     edits: &mut E,
     inode: u64,
@@ -74,7 +74,7 @@ fn directory_inode(parent: Run, stamp: i64) -> InodeForm
 }
 
 /// The zero run, which is the address of no attribute directory.
-fn no_run() -> Run
+pub fn no_run() -> Run
     ensures { result ≡ zero_run }
 {
     Run {

@@ -9,9 +9,9 @@ mod laws;
 mod removing;
 
 pub use adding::put_attribute_row;
-pub use directory::{drop_attribute_directory, make_attribute_directory};
+pub use directory::{drop_attribute_directory, make_attribute_directory, no_run, put_address};
 pub use laws::{
     attributes_are_stored, changes_follow, directories_stay_held, entries_part, exchanges_follow,
     rows_leave,
 };
-pub use removing::take_attribute_row;
+pub use removing::{give_named, take_attribute_row};

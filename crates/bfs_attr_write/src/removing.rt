@@ -1,5 +1,5 @@
 // The row of an attribute that is taken, with the inode that it names.
-ghost use Rattle.std.specs.Prelude.{◌≡◌, ◌<◌, ℕ, List, Option, Some, OnOk, IfErr, IsSome};
+ghost use Rattle.std.specs.Prelude.{◌≡◌, ◌<◌, ℕ, List, Option, Some, OnOk, IfErr, IfSome, IsSome};
 ghost use Rattle.std.specs.FinMap.{get, remove};
 ghost use Rattle.bfs_super.specs.Conditions.{IsValid, natural};
 ghost use Rattle.bfs_super.specs.Geometry.{geometry_of};
@@ -8,13 +8,14 @@ ghost use Rattle.bfs_txn.specs.Faults.{AreLater};
 ghost use Rattle.bfs_txn.specs.Told.{StaysChanged};
 ghost use Rattle.bfs_stream.specs.Grown.{IsOfVolume};
 ghost use Rattle.bfs_stream.specs.Sizes.{sizes_of};
+ghost use Rattle.bfs_stream.specs.Standing.{standing};
 ghost use Rattle.bfs_maps.specs.Mapped.{HasHeld};
 ghost use Rattle.bfs_maps.specs.Refused.{IsUndone, HasTakeCause};
 ghost use Rattle.bfs_make.specs.Given.{HasGivenBack};
 ghost use Rattle.bfs_make.specs.Sites.{stream_in};
 ghost use Rattle.bfs_attr.specs.Bearers.{bearer_of, volume_at, origin, attributes_at};
 ghost use Rattle.bfs_attr.specs.Refused.{IsNoPage};
-ghost use Rattle.bfs_attr_write.specs.Removal.{CanTake, HasRowTaken, IsNotTakenOut, IsTakenOutFault};
+ghost use Rattle.bfs_attr_write.specs.Removal.{CanTake, HasRowTaken, IsNotTakenOut, IsTakenOutFault, KeepsClear};
 
 use bfs_bitmap::Bitmap;
 use bfs_make::{Site, blocks_in, give_inode};
@@ -26,7 +27,7 @@ use bfs_stream_pages::MapFault;
 use bfs_txn::{BlockFault, Edits};
 
 /// Gives back the inode that a row of an attribute directory names. The directory is damaged where that is no block of the volume.
-fn give_named<E: Edits>(
+pub fn give_named<E: Edits>(
     site: Site,
     bitmap: &mut Bitmap,
     edits: &mut E,
@@ -41,6 +42,7 @@ fn give_named<E: Edits>(
     ensures pages { IfErr result IsNoPage }
     ensures rest { bitmap.new ≡ record bitmap.old { given = bitmap.new.given; tally = bitmap.new.tally } }
     ensures kept { as_kept bitmap.new ≡ as_kept bitmap.old }
+    ensures standing { standing bitmap.new ≡ standing bitmap.old }
     ensures stays { StaysChanged (E.changed edits.old) (E.changed edits.new) }
     ensures size { E.size edits.new ≡ E.size edits.old }
     ensures frame { E.frame edits.new ≡ E.frame edits.old }
@@ -73,10 +75,12 @@ pub fn take_attribute_row<E: Edits>(
     requires stream { (m : ℕ → Option (List ℕ)) → E.told edits.old ≡ Some m → HasHeld (origin (geometry_of site.sup) directory) bitmap.old m }
     ensures taken { (inode : ℕ) (m : ℕ → Option (List ℕ)) → E.told edits.old ≡ Some m → CanTake (bearer_of inode site.sup) bitmap.old m directory name.now → OnOk result (HasRowTaken (bearer_of inode site.sup) bitmap.old bitmap.new m (remove (attributes_at (volume_at (geometry_of site.sup) m) inode) name.now) (E.told edits.new) (E.changed edits.old) (E.changed edits.new)) }
     ensures there { (inode : ℕ) (m : ℕ → Option (List ℕ)) → E.told edits.old ≡ Some m → CanTake (bearer_of inode site.sup) bitmap.old m directory name.now → OnOk result (IsSome (get (attributes_at (volume_at (geometry_of site.sup) m) inode) name.now)) }
+    ensures clear { (inode : ℕ) (m : ℕ → Option (List ℕ)) → E.told edits.old ≡ Some m → CanTake (bearer_of inode site.sup) bitmap.old m directory name.now → OnOk result (IfSome (E.told edits.new) (KeepsClear bitmap.old bitmap.new m)) }
     ensures faults { (inode : ℕ) (m : ℕ → Option (List ℕ)) → E.told edits.old ≡ Some m → CanTake (bearer_of inode site.sup) bitmap.old m directory name.now → IfErr result (IsNotTakenOut (volume_at (geometry_of site.sup) m) inode name.now) }
     ensures blamed { (m : ℕ → Option (List ℕ)) → E.told edits.old ≡ Some m → IfErr result (IsTakenOutFault site.sup directory name.now bitmap.old m (E.told edits.new)) }
     ensures rest { bitmap.new ≡ record bitmap.old { given = bitmap.new.given; tally = bitmap.new.tally } }
     ensures kept { as_kept bitmap.new ≡ as_kept bitmap.old }
+    ensures standing { standing bitmap.new ≡ standing bitmap.old }
     ensures stays { StaysChanged (E.changed edits.old) (E.changed edits.new) }
     ensures size { E.size edits.new ≡ E.size edits.old }
     ensures frame { E.frame edits.new ≡ E.frame edits.old }

@@ -1,5 +1,4 @@
 pub mod Faulting
-pub mod Stepping
 pub mod Listing
 pub mod Refusing
 pub mod Newborn

@@ -33,7 +33,7 @@ use Rattle.bfs_look.proofs.Children.{child_is}
 use Rattle.bfs_look.proofs.Known.{rows_numbers}
 use Rattle.bfs_look.proofs.Listed.{proper_child, good_is_proper}
 use Rattle.bfs_calls.specs.Made.{HasFirstRows, IsCreated, IsBorn, IsFor, IsNamed, HasEntered, ListsNode, IsMadeIn, with_new, with_touched}
-use Rattle.bfs_calls.proofs.Stepping.{stepped_twice}
+use Rattle.bfs_moves.proofs.Stepping.{stepped_twice}
 
 -- the rows of lists in which only a new directory's have come
 pub same_rows : (lists : Lists) (id dir : ℕ) (kind : Kind) → (kind ≡ Dir → ⊥) → HasFirstRows lists lists id dir kind

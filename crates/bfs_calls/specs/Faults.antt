@@ -20,3 +20,11 @@ put_fault directory tree.Absent = tree.Absent
 put_fault directory (tree.Damaged page sort) = tree.Damaged page sort
 put_fault directory (tree.Pages fault) = tree.Pages fault
 put_fault directory tree.NoMemory = tree.NoMemory
+
+-- of a row or an attribute that a look-up had found: that it is missing says that its holder (a directory, an inode) is damaged
+abbrev pub take_fault : ℕ → TreeFault GrowFault → TreeFault GrowFault
+take_fault holder tree.Exists = tree.Exists
+take_fault holder tree.Absent = tree.Pages (grow.Block (Damaged holder))
+take_fault holder (tree.Damaged page sort) = tree.Damaged page sort
+take_fault holder (tree.Pages fault) = tree.Pages fault
+take_fault holder tree.NoMemory = tree.NoMemory

@@ -3,7 +3,7 @@ ghost use Rattle.std.specs.Prelude.{◌≡◌};
 ghost use Rattle.bfs_node.specs.declared.fault.TreeFault.TheVariants as tree;
 ghost use Rattle.bfs_stream.specs.declared.fault.GrowFault.TheVariants as grow;
 ghost use Rattle.bfs_txn.specs.declared.fault.BlockFault.TheVariants as blocks;
-ghost use Rattle.bfs_calls.specs.Faults.{of_run, put_fault};
+ghost use Rattle.bfs_calls.specs.Faults.{of_run, put_fault, take_fault};
 
 use bfs_bitmap::RunFault;
 use bfs_node::TreeFault;
@@ -19,7 +19,7 @@ pub fn blocked(fault: BlockFault) -> MapFault
 }
 
 /// A block of which the bytes aren't what stands there.
-pub(crate) fn damaged(block: u64) -> MapFault
+pub fn damaged(block: u64) -> MapFault
     ensures { result ≡ tree.Pages (grow.Block (blocks.Damaged block)) }
 {
     blocked(BlockFault::Damaged { block })
@@ -35,12 +35,22 @@ pub(crate) fn no_run(fault: RunFault) -> MapFault
     }
 }
 
-/// A row wasn't put where a look-up had found none: if it is there now, the directory's bytes have changed.
-pub(crate) fn not_put(fault: MapFault, directory: u64) -> MapFault
+/// A row wasn't put where none was known: if it is there now, the bytes of its holder (a directory, an inode) have changed.
+pub fn not_put(fault: MapFault, directory: u64) -> MapFault
     ensures { result ≡ put_fault directory fault }
 {
     match fault {
         TreeFault::Exists => damaged(directory),
+        other => other,
+    }
+}
+
+/// A row wasn't taken that a look-up had found: if it is missing now, the bytes of its holder (a directory, an inode) have changed.
+pub fn not_taken(fault: MapFault, holder: u64) -> MapFault
+    ensures { result ≡ take_fault holder fault }
+{
+    match fault {
+        TreeFault::Absent => damaged(holder),
         other => other,
     }
 }

@@ -13,7 +13,7 @@ mod setting;
 
 pub use allowance::{bitmap_blocks, make_allowance};
 pub use entering::{size_key, stamp_key};
-pub use fault::blocked;
+pub use fault::{blocked, damaged, not_put, not_taken};
 pub use indices::{BuiltIn, built_in_indices};
 pub use making::{make, make_node};
 pub use refusal::make_refusal;

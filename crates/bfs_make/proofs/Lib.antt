@@ -10,3 +10,4 @@ pub mod Emptying
 pub mod Stripping
 pub mod Gone
 pub mod Pieces
+pub mod Telling

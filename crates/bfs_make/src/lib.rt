@@ -15,5 +15,5 @@ pub use giving::{give_block, give_inode, run_of};
 pub use making::{InodeForm, NewInode, make_inode, new_inode, run_start, take_block};
 pub use reading::{read_block, stream_bytes};
 pub use site::{Site, blocks_in, has_long_blocks, has_short_blocks};
-pub use storing::{store, write_stream};
+pub use storing::{blocks_for, store, write_stream};
 pub use tree::{empty_tree, tree_header};

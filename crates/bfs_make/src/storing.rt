@@ -28,7 +28,7 @@ use bfs_stream_pages::Backing;
 use bfs_txn::{BlockFault, Edits};
 
 /// The number of blocks of a size that hold so many bytes.
-fn blocks_for(size: u32, len: u64) -> u64
+pub fn blocks_for(size: u32, len: u64) -> u64
     requires size { 1024 ≤ size }
     requires short { size ≤ 8192 }
     requires len { len < 2 ^ 63 }

@@ -18,3 +18,4 @@ pub mod Empty
 pub mod Newborn
 pub mod Filed
 pub mod Keys
+pub mod Stepping

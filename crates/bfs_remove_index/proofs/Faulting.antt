@@ -10,7 +10,7 @@ use Rattle.bfs_stream.specs.declared.fault.GrowFault.{GrowFault}
 use Rattle.bfs_txn.specs.Faults.{Counts}
 use Rattle.bfs_maps.specs.Refused.{IsUndone, IsTakeFault, HasTakeCause}
 use Rattle.bfs_calls.specs.Done.{HasAnswerCause}
-use Rattle.bfs_remove_index.specs.Faults.{take_fault}
+use Rattle.bfs_calls.specs.Faults.{take_fault}
 
 -- of a row that is there
 pub take_undone : (rows : List Row) (name : Key) (directory : ℕ) (f : TreeFault GrowFault) → (assoc Text rows name ≡ None → ⊥) → IsTakeFault Text rows name f → IsUndone (take_fault directory f)

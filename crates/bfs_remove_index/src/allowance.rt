@@ -13,9 +13,8 @@ ghost use Rattle.bfs_look.specs.Ready.{IsReady, HasReady};
 ghost use Rattle.bfs_calls.specs.Done.{HasAnswerCause};
 ghost use Rattle.bfs_calls.specs.Allowances.{left_alone, left_owners, allowance};
 
-use crate::fault::blocked;
 use bfs_bitmap::Bitmap;
-use bfs_calls::bitmap_blocks;
+use bfs_calls::{bitmap_blocks, blocked};
 use bfs_leave::stream_blocks_of;
 use bfs_make::Site;
 use bfs_query::index_at;

@@ -19,8 +19,8 @@ ghost use Rattle.bfs_shift.specs.Work.{IsAtWork};
 ghost use Rattle.bfs_leave.specs.Leaving.{IsClear, IsLeft};
 ghost use Rattle.bfs_calls.specs.Done.{HasAnswerCause};
 
-use crate::fault::blocked;
 use bfs_bitmap::Bitmap;
+use bfs_calls::blocked;
 use bfs_make::{Site, give_inode};
 use bfs_stream_pages::MapFault;
 use bfs_txn::Edits;

@@ -3,7 +3,6 @@
 #![tactic(auto)]
 
 mod allowance;
-mod fault;
 mod giving;
 mod names;
 mod refusal;

@@ -19,8 +19,8 @@ ghost use Rattle.bfs_look.specs.Ready.{IsReady, HasReady};
 ghost use Rattle.bfs_calls.specs.Done.{HasAnswerCause};
 ghost use Rattle.bfs_remove_index.specs.Removed.{IsOwnIndex, HasIndexTaken};
 
-use crate::fault::not_taken;
 use bfs_bitmap::Bitmap;
+use bfs_calls::not_taken;
 use bfs_maps::TreeAt;
 use bfs_moves::check_inode;
 use bfs_node::KeyKind;

@@ -15,10 +15,10 @@ ghost use Rattle.bfs_look.specs.Ready.{IsReady, HasReady};
 ghost use Rattle.bfs_calls.specs.Done.{HasAnswerCause};
 ghost use Rattle.bfs_remove_index.specs.Removed.{IsOwnIndex, IsIndexRemoved};
 
-use crate::fault::damaged;
 use crate::giving::give_loose;
 use crate::names::take_index;
 use bfs_bitmap::Bitmap;
+use bfs_calls::damaged;
 use bfs_make::{Site, blocks_in};
 use bfs_stream_pages::MapFault;
 use bfs_super::Super;

@@ -22,6 +22,7 @@ use Rattle.bfs_calls.specs.Allowances.{left_alone, allowance}
 use Rattle.bfs_calls.specs.Made.{AreBuiltIn}
 use Rattle.bfs_calls.specs.declared.indices.BuiltIn.{BuiltIn}
 use Rattle.bfs_set_size.proofs.Owned.{file_size}
+use Rattle.bfs_set_size.proofs.Resized.{largest_fills}
 use Rattle.bfs_set_size.specs.Allowed.{IsSizeAllowance, IsWithinNeed}
 use Rattle.bfs_set_size.specs.declared.allowance.SizeAllowance.{SizeAllowance}
 
@@ -32,8 +33,8 @@ few_by bytes blocks (inr (inr (inl e))) less = let l : 4096 * blocks < 107374182
 few_by bytes blocks (inr (inr (inr e))) less = let l : 8192 * blocks < 1073741824 + 8192 = subst (λ (k : ℕ). k * blocks < 1073741824 + k) e less in omega (arith, l)
 
 -- the blocks of a file of the largest size
-pub few_blocks : (s : Super) (blocks : ℕ) → IsValid s → s.block_size * blocks < 1073741824 + s.block_size → blocks ≤ 1048576
-few_blocks s blocks valid less = few_by s.block_size blocks (valid_sizes s valid).block_size less
+pub few_blocks : (s : Super) (size blocks : ℕ) → IsValid s → size ≤ 1073741824 → blocks ≡ ceil size s.block_size → blocks ≤ 1048576
+few_blocks s size blocks valid few is = few_by s.block_size blocks (valid_sizes s valid).block_size (largest_fills s size blocks valid few is)
 
 -- two where there is one
 two_ones : (o : Option ℕ) → cond (is_some o) 2 0 ≡ ones o + ones o

@@ -1,5 +1,5 @@
 -- A file's size and its stream were changed, one after the other.
-use Rattle.std.proofs.Common.{◌≡◌, ◌≤◌, ◌<◌, ◌+◌, ◌*◌, ◌∙◌, ℕ, max, ℤ, List, length, subst, arith, Bool, true, Option}
+use Rattle.std.proofs.Common.{◌≡◌, ◌≤◌, ◌<◌, ◌+◌, ◌*◌, ◌∙◌, ℕ, max, ℤ, List, length, sym, subst, arith, Bool, true, Option}
 use Rattle.std.proofs.Math.Nat.{mul-le-mul_left}
 use Rattle.bfs_super.specs.Conditions.{IsValid, ceil, natural}
 use Rattle.bfs_super.specs.Geometry.{geometry_of}
@@ -15,6 +15,7 @@ use Rattle.bfs_sound.specs.Volumes.{sizes}
 use Rattle.bfs_shift.specs.Lists.{Lists}
 use Rattle.bfs_shift.specs.Shifts.{volume_in}
 use Rattle.bfs_shift.specs.Work.{IsAtWork}
+use Rattle.bfs_shift.proofs.Basics.{some_bytes}
 use Rattle.bfs_shift.proofs.Made.{put_here}
 use Rattle.bfs_set_size.specs.Resizing.{IsResizing}
 use Rattle.bfs_set_size.specs.Sized.{with_size, HasBlocksFor, HasResized}
@@ -52,6 +53,15 @@ smaller_fits s v m tree lists loose id n size valid work is file less =
 -- and so has one for which there are blocks
 pub enough_fits : (size bytes blocks have : ℕ) → size ≤ bytes * blocks → blocks ≤ have → size ≤ bytes * have
 enough_fits size bytes blocks have few enough = let more = mul-le-mul_left bytes enough in omega (arith, few, more)
+
+ceil_less : (bytes n : ℕ) → 0 < bytes → bytes * ceil n bytes < n + bytes
+ceil_less bytes n some = grind (arith, some)
+
+-- the blocks for a size, however large, are hardly more than it fills
+pub largest_fills : (s : Super) (size blocks : ℕ) → IsValid s → size ≤ 1073741824 → blocks ≡ ceil size s.block_size → s.block_size * blocks < 1073741824 + s.block_size
+largest_fills s size blocks valid few is =
+    let less = ceil_less s.block_size size (some_bytes s valid) in
+    subst (λ (k : ℕ). s.block_size * k < 1073741824 + s.block_size) (sym is) (omega (arith, less, few))
 
 -- the blocks of a file that was cut, and of one that has grown
 pub shrunk_blocks : (s : Sizes) (old size before since blocks : ℕ) → size < old → blocks ≡ ceil size s.block_size → since < blocks + array_length s → HasBlocksFor s old size before since

@@ -14,12 +14,11 @@ ghost use Rattle.bfs_calls.specs.Done.{HasAnswerCause};
 ghost use Rattle.bfs_set_size.specs.Relisted.{AreBefore};
 ghost use Rattle.bfs_set_size.specs.Allowed.{IsSizeAllowance, IsWithinNeed};
 
-use crate::growing::blocks_holding;
 use crate::setting::{Before, before_at};
 use bfs_bitmap::Bitmap;
 use bfs_calls::{BuiltIn, bitmap_blocks, blocked};
 use bfs_leave::stream_blocks_of;
-use bfs_make::{Site, has_long_blocks, has_short_blocks};
+use bfs_make::{Site, blocks_for, has_long_blocks, has_short_blocks};
 use bfs_stream_pages::MapFault;
 use bfs_super::Super;
 use bfs_txn::Edits;
@@ -109,7 +108,7 @@ fn bitmap_changes(gained: u64, left: u64, most: u64) -> u64
     (gained + left).min(most)
 }
 
-/// The same from what was read: of the file before, and how many blocks its stream has.
+/// How many blocks the call may change and take, from what was read: of the file before, and how many blocks its stream has.
 fn counted(sup: &Super, before: Before, there: u64, size: u64) -> SizeAllowance
     requires valid { IsValid sup.now }
     requires few { size ≤ 1073741824 }
@@ -118,7 +117,7 @@ fn counted(sup: &Super, before: Before, there: u64, size: u64) -> SizeAllowance
 {
     has_long_blocks(*sup);
     has_short_blocks(*sup);
-    let needed = blocks_holding(sup.block_size, size);
+    let needed = blocks_for(sup.block_size, size);
     let array = u64::from(array_length(sup));
     let file = gained(there, needed, array);
     let arrays = arrays_for(file, array);

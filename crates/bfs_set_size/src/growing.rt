@@ -1,6 +1,6 @@
 // A file's stream grows.
 ghost use Rattle.std.specs.Prelude.{◌≡◌, ◌≤◌, ◌<◌, ◌+◌, ◌-◌, ◌*◌, ◌^◌, ℕ, List, [], length, slice_get, Option, Some, true, OnOk, IfOk, IfErr, MatchResult};
-ghost use Rattle.bfs_super.specs.Conditions.{IsValid, ceil, natural};
+ghost use Rattle.bfs_super.specs.Conditions.{IsValid, natural};
 ghost use Rattle.bfs_super.specs.Geometry.{geometry_of};
 ghost use Rattle.bfs_bitmap.specs.Runs.{Room};
 ghost use Rattle.bfs_txn.specs.Faults.{AreLater, Counts};
@@ -27,18 +27,6 @@ use bfs_stream_pages::MapFault;
 use bfs_super::Super;
 use bfs_txn::{BlockFault, Edits};
 use std::alloc::Global;
-
-/// The number of blocks of a size that hold so many bytes.
-pub(crate) fn blocks_holding(block_size: u32, len: u64) -> u64
-    requires size { 1024 ≤ block_size }
-    requires short { block_size ≤ 8192 }
-    requires len { len ≤ 1073741824 }
-    ensures count { result ≡ ceil len block_size }
-    ensures enough { len ≤ block_size * result }
-    ensures short { block_size * result < 1073741824 + block_size }
-{
-    (len + (u64::from(block_size) - 1)) / u64::from(block_size)
-}
 
 /// How many blocks of so many a stream lacks, by what was found in the place of the last of them.
 fn lacked(blocks: u64, found: Result<u64, StreamFault>) -> Result<u64, BlockFault>

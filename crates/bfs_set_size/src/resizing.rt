@@ -15,11 +15,11 @@ ghost use Rattle.bfs_calls.specs.Done.{IsUnanswered, HasAnswerCause};
 ghost use Rattle.bfs_set_size.specs.Sized.{HasResized};
 
 use crate::cutting::cut_file;
-use crate::growing::{blocks_holding, grow_file};
+use crate::growing::grow_file;
 use crate::sizes::put_file_size;
 use bfs_bitmap::Bitmap;
 use bfs_calls::blocked;
-use bfs_make::{has_long_blocks, has_short_blocks};
+use bfs_make::{blocks_for, has_long_blocks, has_short_blocks};
 use bfs_stream_pages::MapFault;
 use bfs_super::Super;
 use bfs_txn::Edits;
@@ -52,7 +52,7 @@ fn shrink<E: Edits>(
 {
     has_long_blocks(*sup);
     has_short_blocks(*sup);
-    let blocks = blocks_holding(sup.block_size, size);
+    let blocks = blocks_for(sup.block_size, size);
     match put_file_size(alloc, sup, edits, id, size, stamp) {
         Ok(()) => {}
         Err(fault) => return Err(blocked(fault)),
@@ -90,7 +90,7 @@ fn enlarge<E: Edits>(
 {
     has_long_blocks(*sup);
     has_short_blocks(*sup);
-    let blocks = blocks_holding(sup.block_size, size);
+    let blocks = blocks_for(sup.block_size, size);
     match grow_file(alloc, sup, bitmap, edits, id, blocks) {
         Ok(()) => {}
         Err(fault) => return Err(fault),

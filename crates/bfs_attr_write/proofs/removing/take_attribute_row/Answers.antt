@@ -6,7 +6,8 @@ use Rattle.bfs_super.specs.Geometry.{geometry_of}
 use Rattle.bfs_attr.specs.Bearers.{volume_at, attributes_at}
 use Rattle.bfs_maps.proofs.Over.{on_ok}
 use Rattle.bfs_attr_write.proofs.Brings.{rest_given}
-use Rattle.bfs_attr_write.proofs.Departs.{tree_there, not_taken, named_low, found_there, named_held, left, undone_kept, blames, row_page, give_blamed, always}
+use Rattle.bfs_attr_write.proofs.Clear.{tally_standing}
+use Rattle.bfs_attr_write.proofs.Departs.{tree_there, not_taken, named_low, found_there, named_held, left, left_clear, undone_kept, blames, row_page, give_blamed, always}
 use Rattle.bfs_attr_write.proofs.removing.take_attribute_row.Goals as goal
 
 pub returns-in-Err-clause-faults : goal.returns-in-Err-clause-faults
@@ -95,3 +96,27 @@ returns-clause-rest g c = c.give_named.ensures.rest ∙ ap (λ (x : Room). recor
 
 pub returns-clause-kept : goal.returns-clause-kept
 returns-clause-kept g c = c.give_named.ensures.kept ∙ ap as_kept c.take_row.ensures.rest
+
+pub returns-in-Err-clause-standing : goal.returns-in-Err-clause-standing
+returns-in-Err-clause-standing g c = tally_standing c.args.bitmap.now c.take_row.new.bitmap c.take_row.ensures.rest
+
+pub returns-clause-standing : goal.returns-clause-standing
+returns-clause-standing g c = c.give_named.ensures.standing ∙ tally_standing c.args.bitmap.now c.take_row.new.bitmap c.take_row.ensures.rest
+
+pub returns-clause-clear : goal.returns-clause-clear
+returns-clause-clear g c inode m told can =
+    let s = c.args.site.sup in
+    let valid = c.requires.valid in
+    let v = c.args.bitmap.now in
+    let d = c.args.directory in
+    let name = c.args.name.now in
+    let id = c.in-Ok.id in
+    let mid = c.take_row.new.bitmap in
+    let told1 = g.E.Blocks.told c.take_row.new.edits in
+    let old = g.E.Blocks.changed c.args.edits.now in
+    let half = g.E.Blocks.changed c.take_row.new.edits in
+    let tree = tree_there s valid inode v m d name can in
+    let there = c.in-Ok.ensures.number m told tree in
+    let now = c.in-Ok.ensures.taken m told tree in
+    on_ok _ _ c.give_named.result (c.give_named.ensures.given now.map now.is (named_held s valid inode v m d name can id there mid told1 old half now))
+    (left_clear s valid inode v m d name can id there mid told1 old half now c.take_row.ensures.rest c.give_named.new.bitmap (g.E.Blocks.told c.give_named.new.edits) (g.E.Blocks.changed c.give_named.new.edits))

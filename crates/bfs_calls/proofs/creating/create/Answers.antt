@@ -7,7 +7,7 @@ use Rattle.bfs_tree.specs.Names.{target_of}
 use Rattle.bfs_tree.specs.Trees.{new_node}
 use Rattle.bfs_calls.specs.Made.{IsFilled, with_new}
 use Rattle.bfs_calls.proofs.Newborn.{not_root}
-use Rattle.bfs_calls.proofs.Stepping.{stepped_twice}
+use Rattle.bfs_moves.proofs.Stepping.{stepped_twice}
 use Rattle.bfs_calls.proofs.creating.create.Goals as goal
 
 pub returns-in-Ok-fill-clause-created : goal.returns-in-Ok-fill-clause-created

@@ -11,7 +11,7 @@ use Rattle.bfs_calls.specs.Done.{IsUnanswered}
 use Rattle.bfs_calls.specs.Made.{with_new, with_touched}
 use Rattle.bfs_calls.proofs.Faulting.{put_unanswered}
 use Rattle.bfs_calls.proofs.Newborn.{still_there, still_numbers, still_free}
-use Rattle.bfs_calls.proofs.Stepping.{stepped_twice}
+use Rattle.bfs_moves.proofs.Stepping.{stepped_twice}
 use Rattle.bfs_calls.proofs.entering.enter_name.Goals as goal
 
 pub put_name-requires-clause-directory : goal.put_name-requires-clause-directory

@@ -5,7 +5,8 @@ use Rattle.bfs_bytes.specs.Fields.{unsigned_bytes, signed64_bytes}
 use Rattle.bfs_super.specs.Geometry.{geometry_of}
 use Rattle.bfs_shift.specs.Work.{IsAtWork}
 use Rattle.bfs_calls.proofs.Faulting.{cause_earlier}
-use Rattle.bfs_calls.proofs.Stepping.{told_back, one_map, stepped_twice}
+use Rattle.bfs_make.proofs.Telling.{told_back, one_map}
+use Rattle.bfs_moves.proofs.Stepping.{stepped_twice}
 use Rattle.bfs_set_size.proofs.Rekeyed.{left_in, pairs_in, by_size, by_time, size_relists, time_relists, rekeyed}
 use Rattle.bfs_set_size.proofs.relisting.list_anew.Goals as goal
 

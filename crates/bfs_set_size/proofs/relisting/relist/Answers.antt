@@ -6,7 +6,8 @@ use Rattle.bfs_shift.specs.Lists.{with_pairs}
 use Rattle.bfs_shift.specs.Work.{IsAtWork}
 use Rattle.bfs_calls.proofs.Faulting.{list_unanswered, read_cause, pair_cause, cause_earlier}
 use Rattle.bfs_calls.proofs.Listing.{index_at}
-use Rattle.bfs_calls.proofs.Stepping.{told_back, one_map, stepped_twice}
+use Rattle.bfs_make.proofs.Telling.{told_back, one_map}
+use Rattle.bfs_moves.proofs.Stepping.{stepped_twice}
 use Rattle.bfs_set_size.proofs.Faulted.{unlist_unanswered}
 use Rattle.bfs_set_size.proofs.relisting.relist.Goals as goal
 

@@ -31,9 +31,9 @@ returns-in-Ok-cut_file-clause-resized g c m tree lists loose n told work clear i
     subst (λ (z : ℤ). HasSizeWritten (geometry_of s) v m tree lists loose id size z false told_mid old mid) time (c.in-Ok.ensures.sized v m tree lists loose n false told work clear is file few) in
     let one = written.step in
     let after = with_size tree id size c.args.stamp in
-    let cut = c.in-Ok-cut_file.ensures.cut one.map after lists loose (record n { size = size; modified = c.args.stamp; changed = c.args.stamp }) one.is one.work one.resizes.clear (sized_there tree id n size c.args.stamp is) file c.blocks_holding-blocks.ensures.enough in
+    let cut = c.in-Ok-cut_file.ensures.cut one.map after lists loose (record n { size = size; modified = c.args.stamp; changed = c.args.stamp }) one.is one.work one.resizes.clear (sized_there tree id n size c.args.stamp is) file c.blocks_for-blocks.ensures.enough in
     has_resized (geometry_of s) v v now m tree after lists loose id n.size size c.args.stamp false told_mid told_now old mid new one cut.step
-    (shrunk_blocks (sizes (geometry_of s)) n.size size (length (stream_blocks (volume_in (geometry_of s) m) id)) (length (stream_blocks (volume_in (geometry_of s) cut.step.map) id)) c.blocks_holding-blocks.result less c.blocks_holding-blocks.ensures.count cut.most)
+    (shrunk_blocks (sizes (geometry_of s)) n.size size (length (stream_blocks (volume_in (geometry_of s) m) id)) (length (stream_blocks (volume_in (geometry_of s) cut.step.map) id)) c.blocks_for-blocks.result less c.blocks_for-blocks.ensures.count cut.most)
 
 pub returns-in-Err-clause-unanswered : goal.returns-in-Err-clause-unanswered
 returns-in-Err-clause-unanswered g c m tree lists loose n told work clear is file less =
@@ -53,7 +53,7 @@ returns-in-Err-cut_file-clause-unanswered g c m tree lists loose n told work cle
     let written : HasSizeWritten (geometry_of s) v m tree lists loose id size c.args.stamp false told_mid old mid =
     subst (λ (z : ℤ). HasSizeWritten (geometry_of s) v m tree lists loose id size z false told_mid old mid) time (c.in-Ok.ensures.sized v m tree lists loose n false told work clear is file few) in
     let one = written.step in
-    c.in-Err-cut_file.ensures.unanswered one.map (with_size tree id size c.args.stamp) lists loose (record n { size = size; modified = c.args.stamp; changed = c.args.stamp }) one.is one.work (sized_there tree id n size c.args.stamp is) file c.blocks_holding-blocks.ensures.enough
+    c.in-Err-cut_file.ensures.unanswered one.map (with_size tree id size c.args.stamp) lists loose (record n { size = size; modified = c.args.stamp; changed = c.args.stamp }) one.is one.work (sized_there tree id n size c.args.stamp is) file c.blocks_for-blocks.ensures.enough
 
 pub returns-in-Err-clause-cause : goal.returns-in-Err-clause-cause
 returns-in-Err-clause-cause g c =

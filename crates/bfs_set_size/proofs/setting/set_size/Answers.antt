@@ -8,7 +8,7 @@ use Rattle.bfs_shift.specs.Work.{IsAtWork}
 use Rattle.bfs_look.specs.Ready.{IsReady}
 use Rattle.bfs_look.proofs.Known.{few_blocks}
 use Rattle.bfs_calls.proofs.Faulting.{undone_unanswered, cause_earlier}
-use Rattle.bfs_calls.proofs.Stepping.{told_back, one_map}
+use Rattle.bfs_make.proofs.Telling.{told_back, one_map}
 use Rattle.bfs_set_size.specs.Relisted.{HasListedAnew, resized_node}
 use Rattle.bfs_set_size.specs.Sized.{with_size, HasResized}
 use Rattle.bfs_set_size.proofs.Refusing.{may_be, file_there}

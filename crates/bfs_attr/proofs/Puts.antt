@@ -20,7 +20,7 @@ use Rattle.bfs_attr.specs.Bearers.{Bearer, volume_at, entries_with, attributes_a
 use Rattle.bfs_attr.specs.Changed.{attribute_blocks, Holds, AttributesNow, HasPut, HasTaken, IsPutInSmall, IsTakenFromSmall}
 use Rattle.bfs_attr.specs.Laws.{HasNone, HasNoRow}
 use Rattle.bfs_attr.specs.SmallData.{HasAttribute, HasSmall, attribute_in}
-use Rattle.bfs_attr.specs.Written.{IsPutInto, IsTakenFrom, items_left}
+use Rattle.bfs_attr.specs.Written.{IsPutInto, IsTakenFrom, items_left, items_put}
 use Rattle.bfs_attr.proofs.Apart.{distinct_put, distinct_taken, apart_put, apart_taken, none_behind, put_named}
 use Rattle.bfs_attr.proofs.Changes.{other_item, puts, takes}
 use Rattle.bfs_attr.proofs.Finds.{small_there}
@@ -125,6 +125,15 @@ module _ (b : Bearer) (v : Room) (m : ℕ → Option (List ℕ)) (holds : Holds 
   take_keeps name (Ok false) h = blocks_unwritten h.1
   take_keeps name (Err e) h = tt
 
+  pub put_brings : (item : Item) (r : Result Bool (TreeFault GrowFault)) → MatchResult r (IsPutInto m b.id item told) IsUndone
+      → IfOk r (λ fitted. IfSome told (λ map. items_of (drop 232 (contents map b.id)) ≡ items_put item (items_of (drop 232 (contents m b.id))) fitted))
+  put_brings item (Ok true) h =
+      subst (λ (o : Option (ℕ → Option (List ℕ))). IfSome o (λ map. items_of (drop 232 (contents map b.id)) ≡ option_map (with_item item) (items_of (drop 232 (contents m b.id))))) (sym h.1.is)
+      (ap (λ (o : Option (List ℕ)). items_of (drop 232 (unwrap_or o []))) (block_here m b.id h.1.block) ∙ h.1.items)
+  put_brings item (Ok false) h =
+      subst (λ (o : Option (ℕ → Option (List ℕ))). IfSome o (λ map. items_of (drop 232 (contents map b.id)) ≡ items_of (drop 232 (contents m b.id)))) (sym h.1) refl
+  put_brings item (Err e) h = tt
+
   pub take_leaves : (name : List ℕ) (r : Result Bool (TreeFault GrowFault)) → MatchResult r (IsTakenFrom m b.id name told) IsUndone
       → IfOk r (λ taken. IfSome told (λ map. items_of (drop 232 (contents map b.id)) ≡ items_left name (items_of (drop 232 (contents m b.id))) taken))
   take_leaves name (Ok true) h =
@@ -133,6 +142,13 @@ module _ (b : Bearer) (v : Room) (m : ℕ → Option (List ℕ)) (holds : Holds 
   take_leaves name (Ok false) h =
       subst (λ (o : Option (ℕ → Option (List ℕ))). IfSome o (λ map. items_of (drop 232 (contents map b.id)) ≡ items_of (drop 232 (contents m b.id)))) (sym h.1) refl
   take_leaves name (Err e) h = tt
+
+-- what was taken out of small data was an attribute there
+pub taken_small : (m : ℕ → Option (List ℕ)) (id : ℕ) (name : List ℕ) (told : Option (ℕ → Option (List ℕ))) (r : Result Bool (TreeFault GrowFault)) → MatchResult r (IsTakenFrom m id name told) IsUndone
+    → IfOk r (λ taken. taken ≡ true → HasSmall (drop 232 (contents m id)) name)
+taken_small m id name told (Ok true) h = λ e. h.0
+taken_small m id name told (Ok false) h = λ e. absurd (let bad : false ≡ true = e in cc)
+taken_small m id name told (Err e) h = tt
 
 -- small data that holds is a list of items
 pub area_there : (b : Bearer) (v : Room) (m : ℕ → Option (List ℕ)) → Holds b v m → IsSome (items_of (drop 232 (contents m b.id)))

@@ -19,6 +19,11 @@ abbrev pub IsPutInto : (ℕ → Option (List ℕ)) → ℕ → Item → Option (
 IsPutInto m id new told true = IsFitting (drop 232 (contents m id)) new.name (length new.bytes) × PutsItem m id new told
 IsPutInto m id new told false = (¬ IsFitting (drop 232 (contents m id)) new.name (length new.bytes)) × (told ≡ Some m)
 
+-- the items that there are where one was put in, or none was
+abbrev pub items_put : Item → Option (List Item) → Bool → Option (List Item)
+items_put new items true = option_map (with_item new) items
+items_put new items false = items
+
 -- the inode's block is another: the first item of a name was taken out of its small data, and the bytes before that stayed
 pub record TakesItem (m : ℕ → Option (List ℕ)) (id : ℕ) (name : List ℕ) (told : Option (ℕ → Option (List ℕ))) : Type 0 where
   pub block : List ℕ

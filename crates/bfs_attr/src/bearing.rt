@@ -14,7 +14,8 @@ ghost use Rattle.bfs_sound.specs.Attributes.{own_name};
 ghost use Rattle.bfs_attr.specs.Bearers.{bearer_of, volume_at};
 ghost use Rattle.bfs_attr.specs.Laws.{HasNoRow};
 ghost use Rattle.bfs_attr.specs.Changed.{attribute_blocks, Holds, HasOwnName, IsNamePut, IsPutInSmall, IsTakenFromSmall};
-ghost use Rattle.bfs_attr.specs.Written.{IsPutInto, IsTakenFrom, items_left};
+ghost use Rattle.bfs_attr.specs.SmallData.{HasSmall};
+ghost use Rattle.bfs_attr.specs.Written.{IsPutInto, IsTakenFrom, items_left, items_put};
 
 use crate::area::{put_small, take_small};
 use crate::inode::{blocked, damaged};
@@ -118,6 +119,7 @@ pub fn put_in_small<E: Edits>(
     requires short { length name.now ≤ 255 }
     requires other { bytes_eq name.now own_name ≡ false }
     ensures put { (v : Room) (m : ℕ → Option (List ℕ)) → E.told edits.old ≡ Some m → Holds (bearer_of inode site.sup) v m → HasNoRow (volume_at (geometry_of site.sup) m) inode name.now → MatchResult result (IsPutInSmall (bearer_of inode site.sup) v m name.now (record { code = kind; bytes = bytes.now }) (E.told edits.new) (E.changed edits.old) (E.changed edits.new)) IsUndone }
+    ensures items { (v : Room) (m : ℕ → Option (List ℕ)) → E.told edits.old ≡ Some m → Holds (bearer_of inode site.sup) v m → IfOk result (λ fitted. IfSome (E.told edits.new) (λ map. items_of (drop 232 (contents map inode)) ≡ items_put (record { kind = kind; name = name.now; bytes = bytes.now }) (items_of (drop 232 (contents m inode))) fitted)) }
     ensures blocks { (v : Room) (m : ℕ → Option (List ℕ)) → E.told edits.old ≡ Some m → Holds (bearer_of inode site.sup) v m → IfOk result (λ b. IfSome (E.told edits.new) (λ map. attribute_blocks (geometry_of site.sup) map inode ≡ attribute_blocks (geometry_of site.sup) m inode)) }
     ensures changed { (k : ℕ) → E.changed edits.new k ≡ true → (E.changed edits.old k ≡ true) ⊎ (k ≡ inode) }
     ensures stays { StaysChanged (E.changed edits.old) (E.changed edits.new) }
@@ -141,6 +143,7 @@ pub fn take_from_small<E: Edits>(
     requires size { E.size edits.old ≡ site.sup.block_size }
     ensures taken { (v : Room) (m : ℕ → Option (List ℕ)) → E.told edits.old ≡ Some m → Holds (bearer_of inode site.sup) v m → MatchResult result (IsTakenFromSmall (bearer_of inode site.sup) v m name.now (E.told edits.new) (E.changed edits.old) (E.changed edits.new)) IsUndone }
     ensures items { (v : Room) (m : ℕ → Option (List ℕ)) → E.told edits.old ≡ Some m → Holds (bearer_of inode site.sup) v m → IfOk result (λ taken. IfSome (E.told edits.new) (λ map. items_of (drop 232 (contents map inode)) ≡ items_left name.now (items_of (drop 232 (contents m inode))) taken)) }
+    ensures small { (v : Room) (m : ℕ → Option (List ℕ)) → E.told edits.old ≡ Some m → Holds (bearer_of inode site.sup) v m → IfOk result (λ taken. taken ≡ true → HasSmall (drop 232 (contents m inode)) name.now) }
     ensures blocks { (v : Room) (m : ℕ → Option (List ℕ)) → E.told edits.old ≡ Some m → Holds (bearer_of inode site.sup) v m → IfOk result (λ b. IfSome (E.told edits.new) (λ map. attribute_blocks (geometry_of site.sup) map inode ≡ attribute_blocks (geometry_of site.sup) m inode)) }
     ensures changed { (k : ℕ) → E.changed edits.new k ≡ true → (E.changed edits.old k ≡ true) ⊎ (k ≡ inode) }
     ensures stays { StaysChanged (E.changed edits.old) (E.changed edits.new) }

@@ -21,7 +21,7 @@ use Rattle.bfs_attr_write.specs.Adding.{CanAdd, HasRowPut}
 use Rattle.bfs_attr_write.specs.Directories.{HasDirectoryMade, IsNotMade, HasMakeCause}
 use Rattle.bfs_attr_write.proofs.Brings.{rest_given}
 use Rattle.bfs_attr_write.proofs.Follows.{follows}
-use Rattle.bfs_attrs.proofs.Stood.{one_map}
+use Rattle.bfs_make.proofs.Telling.{one_map}
 use Rattle.bfs_attrs.specs.Stored.{CanBegin, HasBegun, IsNotAdded, IsNotBegun, HasAddCause}
 
 module _ (b : Bearer) (v mid : Room) (m : ℕ → Option (List ℕ)) (name : List ℕ) (can : CanBegin b v m name) (d : ℕ) (stamp : ℤ) (told : Option (ℕ → Option (List ℕ))) (old half : ℕ → Bool) (made : HasDirectoryMade b v mid m d stamp told old half) where

@@ -29,7 +29,8 @@ use Rattle.bfs_attrs.specs.Removed.{FitAlike, IsNotRemoved, IsUntouched}
 use Rattle.bfs_attrs.specs.Replaced.{HasCleared}
 use Rattle.bfs_attrs.proofs.Alike.{same_fit}
 use Rattle.bfs_attrs.proofs.Older.{wrote_older}
-use Rattle.bfs_attrs.proofs.Stood.{none_finds, one_map}
+use Rattle.bfs_make.proofs.Telling.{one_map}
+use Rattle.bfs_attrs.proofs.Stood.{none_finds}
 
 same_key : (name : List ℕ) → eq_by_cmp text_cmp name name ≡ true
 same_key name = same_test name name ∙ (bytes_eq-Decides name name).1 refl

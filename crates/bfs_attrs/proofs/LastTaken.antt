@@ -1,7 +1,7 @@
 -- The one attribute of an attribute directory, whose inode was given back, and then the directory, which the inode that bears the
 -- attributes names no more.
 use Rattle.std.proofs.Common.{◌≡◌, ◌⊎◌, inl, inr, ◌≤◌, ◌<◌, ◌+◌, ◌∙◌, ℕ, pos, suc, List, [], ◌∷◌, ◌++◌, length, Bool, true, false, cond, Option, Some, None, refl, sym, ap, subst, arith, map, drop}
-use Rattle.std.specs.Prelude.{IsSome, unwrap_or}
+use Rattle.std.specs.Prelude.{IfSome, IsSome, unwrap_or}
 use Rattle.std.specs.FinMap.{from_entries, remove}
 use Rattle.std.specs.List.{filter, flat_map}
 use Rattle.std.proofs.lemmas.List.{append-nil}
@@ -39,6 +39,8 @@ use Rattle.bfs_attr_write.specs.Directories.{HasAddress}
 use Rattle.bfs_attr_write.specs.Exchanged.{Exchanged}
 use Rattle.bfs_attr_write.proofs.Exchanges.{exchanged_beside, exchanged_twice}
 use Rattle.bfs_attr_write.proofs.Brings.{gone_exchange}
+use Rattle.bfs_attr_write.specs.Removal.{KeepsClear}
+use Rattle.bfs_attr_write.proofs.Clear.{exchange_clear, given_clear, clear_twice, clear_told}
 use Rattle.bfs_attr_write.proofs.Beside.{come_used, still_outside, bits_used, block_same, whole_beside, held_beside}
 use Rattle.bfs_attr_write.proofs.Addressed.{block_exchange, now_exchanged, kept_of, wrote_then}
 use Rattle.bfs_attr_write.proofs.Entries.{filter_joined}
@@ -276,6 +278,14 @@ module _ (b : Bearer) (v : Room) (m : ℕ → Option (List ℕ)) (d : ℕ) (name
           bits = bits_used v mid2 m map' (attribute_blocks b.geometry m b.id) (attribute_blocks b.geometry map' b.id) exchanged holds.bits;
           fits = exchanged.fits;
         }
+
+        -- nothing that was given back is marked
+        pub last_clear : IfSome told3 (KeepsClear v mid2 m)
+        last_clear =
+            clear_told v mid2 m map' told3 put.is
+            (clear_twice v mid2 mid2 m m2 map' (rest2 ∙ ap (λ (x : Room). record x { given = mid2.given; tally = mid2.tally }) rest1)
+            (clear_twice v mid mid2 m m1 m2 rest1 (given_clear (origin b.geometry id) v mid m told1 old half gone1) (given_clear (origin b.geometry d) mid mid2 m1 told2 half third gone2))
+            (exchange_clear mid2 mid2 m2 map' (b.id ∷ []) (b.id ∷ []) second refl))
 
         module _ (new : ℕ → Bool) (set : (k : ℕ) → new k ≡ true → (third k ≡ true) ⊎ (k ≡ b.id)) where
           these : List ℕ

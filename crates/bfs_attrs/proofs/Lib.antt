@@ -12,3 +12,5 @@ pub mod Clears
 pub mod Replaces
 pub mod Moves
 pub mod Longest
+pub mod Loses
+pub mod Gains

@@ -27,7 +27,7 @@ use Rattle.bfs_attrs.specs.Put.{IsUnknown, IsNotPutNew}
 use Rattle.bfs_attrs.specs.Replaced.{HasAllBlocks}
 use Rattle.bfs_attrs.specs.Stored.{HasBegun}
 use Rattle.bfs_attrs.proofs.Clears.{key_is, get_removed, insert_removed}
-use Rattle.bfs_attrs.proofs.Stood.{one_map}
+use Rattle.bfs_make.proofs.Telling.{one_map}
 
 -- what was taken out and is put back leaves the map as it was
 insert_back : (a : Attributes) (name : List ℕ) (x : Attribute) → get a name ≡ Some x → insert (remove a name) name x ≡ a

@@ -26,7 +26,7 @@ use Rattle.bfs_attrs.specs.Replaced.{HasAllBlocks, HasCleared, IsNotPut}
 use Rattle.bfs_attrs.specs.Stored.{HasAddCause}
 use Rattle.bfs_attrs.proofs.Clears.{get_removed, insert_removed}
 use Rattle.bfs_attrs.proofs.Fresh.{block_cause}
-use Rattle.bfs_attrs.proofs.Stood.{one_map}
+use Rattle.bfs_make.proofs.Telling.{one_map}
 
 pub on_both : {T F : Type 0} (P Q R : Type 0) (r : Result T F) → OnOk r P → OnOk r Q → (P → Q → R) → OnOk r R
 on_both P Q R (Ok x) p q f = f p q

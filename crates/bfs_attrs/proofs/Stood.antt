@@ -1,6 +1,6 @@
 -- What is told and held where an attribute is taken, and the faults of the steps.
-use Rattle.std.proofs.Common.{◌≡◌, inl, ◌∙◌, ℕ, ℤ, List, [], ◌∷◌, Bool, true, false, cond, Option, Some, None, refl, sym, ap, subst, arith}
-use Rattle.std.specs.Prelude.{Result, Ok, Err, IfErr, IfSome, IsSome, is_some}
+use Rattle.std.proofs.Common.{◌≡◌, inl, ◌∙◌, ℕ, ℤ, List, [], ◌∷◌, Bool, cond, Option, Some, None, refl, sym, ap, subst, arith}
+use Rattle.std.specs.Prelude.{Result, Ok, Err, IfErr, IfSome, IsSome}
 use Rattle.std.specs.FinMap.{find, get}
 use Rattle.bfs_base.specs.Keys.{text_cmp}
 use Rattle.bfs_base.specs.declared.kind.KeyKind.TheVariants.{Text}
@@ -8,7 +8,6 @@ use Rattle.bfs_bitmap.specs.Runs.{Room}
 use Rattle.bfs_node.specs.declared.fault.TreeFault.{TreeFault}
 use Rattle.bfs_node.specs.declared.fault.TreeFault.TheVariants.{Exists, Absent, Damaged, Pages, NoMemory}
 use Rattle.bfs_txn.specs.Faults.{Counts, AreLater}
-use Rattle.bfs_txn.specs.Told.{TellsOver}
 use Rattle.bfs_stream.specs.Sizes.{Origin}
 use Rattle.bfs_stream.specs.declared.fault.GrowFault.{GrowFault}
 use Rattle.bfs_stream.proofs.Stops.{cause_wider}
@@ -33,15 +32,6 @@ use Rattle.bfs_attr.proofs.Tops.{directory_stands}
 use Rattle.bfs_attr_write.specs.Removal.{CanTake, IsNotTakenOut}
 use Rattle.bfs_attrs.specs.Removed.{IsBeyond, IsNotRemoved}
 use Rattle.bfs_attrs.proofs.Others.{found_proper, beyond_small}
-
--- what is told after calls was told before them
-pub told_back : (t0 t1 b0 b1 : Option (ℕ → Option (List ℕ))) → TellsOver t0 b0 → TellsOver t1 b1 → b1 ≡ b0 → (m : ℕ → Option (List ℕ)) → t1 ≡ Some m → (m0 : ℕ → Option (List ℕ)) × (t0 ≡ Some m0)
-told_back (Some m0) t1 b0 b1 one two same m is = (m0, refl)
-told_back None t1 b0 b1 one two same m is = let bad : false ≡ true = one ∙ sym (ap is_some same) ∙ sym two ∙ ap is_some is in absurd cc
-
--- and is one map
-pub one_map : (t : Option (ℕ → Option (List ℕ))) (a b : ℕ → Option (List ℕ)) → t ≡ Some a → t ≡ Some b → a ≡ b
-one_map t a b one two = let both : Some a ≡ Some b = sym one ∙ two in cc
 
 -- the causes of a call that reads are those of one that takes
 pub read_taken : (old new : Counts) (fault : TreeFault GrowFault) → HasReadCause old new fault → HasTakeCause old new fault

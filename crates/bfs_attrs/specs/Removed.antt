@@ -1,15 +1,18 @@
 -- An attribute that is taken, wherever it stands, and why none was.
 use Rattle.std.specs.Prelude.{◌≡◌, ◌⊎◌, ◌↔◌, ℕ, List, Bool, true, Option, None, Some}
 use Rattle.std.specs.FinMap.{get}
+use Rattle.std.specs.Option.{option_map}
 use Rattle.bfs_bitmap.specs.Runs.{Room}
 use Rattle.bfs_node.specs.declared.fault.TreeFault.{TreeFault}
 use Rattle.bfs_node.specs.declared.fault.TreeFault.TheVariants.{Exists, Absent, Damaged, Pages, NoMemory}
 use Rattle.bfs_stream.specs.declared.fault.GrowFault.{GrowFault}
 use Rattle.bfs_stream_pages.specs.Steps.{IsUndamaged}
-use Rattle.bfs_smalldata.specs.Edits.{IsFitting}
+use Rattle.bfs_smalldata.specs.Items.{items_of}
+use Rattle.bfs_smalldata.specs.Edits.{IsFitting, without}
 use Rattle.bfs_sound.specs.Volumes.{Volume}
 use Rattle.bfs_sound.specs.Attributes.{attribute_directory}
 use Rattle.bfs_attr.specs.Bearers.{Bearer, volume_at, attributes_at}
+use Rattle.bfs_attr.specs.SmallData.{HasSmall}
 use Rattle.bfs_attr.specs.Changed.{Holds, IsInSmallData}
 
 -- None was taken: none has this name; or a block could not be had, and none is damaged; or there is no memory.
@@ -37,3 +40,7 @@ IsUntouched b v now m told old new NoMemory = Unit {0}
 -- an attribute of this name fits into one area of small data just where it fits into the other
 abbrev pub FitAlike : List ℕ → List ℕ → List ℕ → Type 0
 FitAlike name old new = (n : ℕ) → IsFitting new name n ↔ IsFitting old name n
+
+-- The small data has the items that it had, or those without the attribute of the name, which was there.
+abbrev pub LosesItem : List ℕ → List ℕ → List ℕ → Type 0
+LosesItem name old new = (items_of new ≡ items_of old) ⊎ (HasSmall old name × (items_of new ≡ option_map (without name) (items_of old)))

@@ -5,14 +5,15 @@ use Rattle.bfs_base.specs.Lists.{Has}
 use Rattle.bfs_bitmap.specs.Runs.{Room}
 use Rattle.bfs_node.specs.declared.fault.TreeFault.{TreeFault}
 use Rattle.bfs_node.specs.declared.fault.TreeFault.TheVariants.{Exists, Absent, Damaged, Pages, NoMemory}
+use Rattle.bfs_smalldata.specs.Items.{Item}
 use Rattle.bfs_stream.specs.Told.{contents}
 use Rattle.bfs_stream.specs.declared.fault.GrowFault.{GrowFault}
 use Rattle.bfs_stream_pages.specs.Steps.{IsUndamaged}
 use Rattle.bfs_tree.specs.Trees.{Attribute}
 use Rattle.bfs_attr.specs.Bearers.{Bearer, volume_at, attributes_at}
 use Rattle.bfs_attr.specs.Changed.{attribute_blocks, AttributesNow}
-use Rattle.bfs_attrs.specs.Put.{IsNotPutNew}
-use Rattle.bfs_attrs.specs.Removed.{FitAlike}
+use Rattle.bfs_attrs.specs.Put.{IsNotPutNew, GainsItem}
+use Rattle.bfs_attrs.specs.Removed.{FitAlike, LosesItem}
 
 -- none of the blocks of the attributes has gone
 abbrev pub HasAllBlocks : Bearer → (ℕ → Option (List ℕ)) → Option (ℕ → Option (List ℕ)) → Type 0
@@ -40,3 +41,7 @@ IsNotPut b v m name attribute blocks Absent = ⊥
 IsNotPut b v m name attribute blocks (Damaged page sort) = ⊥
 IsNotPut b v m name attribute blocks (Pages fault) = IsUndamaged fault ⊎ HasNotCome b v m name attribute blocks fault
 IsNotPut b v m name attribute blocks NoMemory = Unit {0}
+
+-- The small data has the items that it had, without the attribute of the item's name if it was there, and then with this item, or not.
+abbrev pub ExchangesItem : Item → List ℕ → List ℕ → Type 0
+ExchangesItem item old new = (between : List ℕ) × LosesItem item.name old between × GainsItem item between new

@@ -1,54 +1,29 @@
 // The last attribute of an attribute directory, which is taken with the directory.
-ghost use Rattle.std.specs.Prelude.{◌≡◌, ◌≤◌, ◌<◌, ◌⊎◌, ℕ, true, List, length, Option, Some, OnOk, IfErr, IsSome};
+ghost use Rattle.std.specs.Prelude.{◌≡◌, ◌<◌, ◌⊎◌, ℕ, true, List, Option, Some, OnOk, IfErr, IfSome, IsSome};
 ghost use Rattle.std.specs.FinMap.{remove};
 ghost use Rattle.bfs_bitmap.specs.Runs.{as_kept};
-ghost use Rattle.bfs_inode.specs.Inode.{inode_at};
 ghost use Rattle.bfs_super.specs.Conditions.{IsValid, natural};
 ghost use Rattle.bfs_super.specs.Geometry.{geometry_of};
 ghost use Rattle.bfs_txn.specs.Faults.{AreLater, IsCauseOf};
 ghost use Rattle.bfs_txn.specs.Told.{StaysChanged};
 ghost use Rattle.bfs_stream.specs.Grown.{IsOfVolume};
 ghost use Rattle.bfs_stream.specs.Sizes.{sizes_of};
-ghost use Rattle.bfs_maps.specs.Mapped.{HasHeld};
-ghost use Rattle.bfs_maps.specs.Refused.{IsUndone, HasTakeCause};
-ghost use Rattle.bfs_make.specs.Given.{HasGivenBack};
+ghost use Rattle.bfs_stream.specs.Standing.{standing};
+ghost use Rattle.bfs_maps.specs.Refused.{HasTakeCause};
 ghost use Rattle.bfs_make.specs.Made.{zero_run};
-ghost use Rattle.bfs_make.specs.Sites.{stream_in};
 ghost use Rattle.bfs_attr.specs.Bearers.{bearer_of, volume_at, attributes_at};
 ghost use Rattle.bfs_attr_write.specs.Directories.{HasAddress};
-ghost use Rattle.bfs_attr_write.specs.Removal.{IsNotTakenOut};
+ghost use Rattle.bfs_attr_write.specs.Removal.{IsNotTakenOut, KeepsClear};
 ghost use Rattle.bfs_attrs.specs.Last.{IsAlone, HasLastTaken};
 
+use bfs_attr_write::{give_named, no_run, put_address};
 use bfs_bitmap::Bitmap;
-use bfs_bytes::Run;
-use bfs_inode::InodeMut;
-use bfs_make::{Site, blocks_in, give_inode, read_block};
+use bfs_make::{Site, give_inode};
 use bfs_maps::{TreeAt, number_at};
 use bfs_node::{KeyKind, TreeFault};
 use bfs_stream::GrowFault;
 use bfs_stream_pages::MapFault;
 use bfs_txn::{BlockFault, Edits};
-
-/// The zero run, which is the address of no attribute directory.
-fn no_run() -> Run
-    ensures { result ≡ zero_run }
-{
-    Run {
-        group: 0,
-        start: 0,
-        len: 0,
-    }
-}
-
-/// Writes the address of an attribute directory into the inode in a block.
-fn set_address(block: &mut [u8], address: Run)
-    requires { 1024 ≤ length block.old }
-    ensures length { length block.new ≡ length block.old }
-    ensures inode { inode_at block.new ≡ record (inode_at block.old) { attributes = address } }
-{
-    let mut inode = InodeMut::over(block);
-    inode.set_attributes(address);
-}
 
 /// Writes the zero run into the block of an inode, as the address of its attribute directory.
 fn clear_address<E: Edits>(site: Site, edits: &mut E, inode: u64) -> Result<(), BlockFault>
@@ -62,46 +37,7 @@ fn clear_address<E: Edits>(site: Site, edits: &mut E, inode: u64) -> Result<(), 
     ensures later { AreLater (E.counts edits.old) (E.counts edits.new) }
     ensures cause { IfErr result (IsCauseOf (E.counts edits.old) (E.counts edits.new)) }
 {
-    let mut block = match read_block(site, edits, inode) {
-        Ok(block) => block,
-        Err(fault) => return Err(fault),
-    };
-    set_address(&mut block, no_run());
-    match edits.set(inode, &block) {
-        Ok(()) => Ok(()),
-        Err(_) => Err(BlockFault::NoMemory),
-    }
-}
-
-/// Gives back the inode that a row of an attribute directory names. The directory is damaged where that is no block of the volume.
-fn give_named<E: Edits>(
-    site: Site,
-    bitmap: &mut Bitmap,
-    edits: &mut E,
-    directory: u64,
-    id: u64,
-) -> Result<(), MapFault>
-    requires valid { IsValid site.sup }
-    requires size { E.size edits.old ≡ site.sup.block_size }
-    requires volume { IsOfVolume (sizes_of site.sup) bitmap.old }
-    ensures given { (m : ℕ → Option (List ℕ)) → E.told edits.old ≡ Some m → HasHeld (stream_in site id) bitmap.old m → OnOk result (HasGivenBack (stream_in site id) bitmap.old bitmap.new m (E.told edits.new) (E.changed edits.old) (E.changed edits.new)) }
-    ensures sound { (m : ℕ → Option (List ℕ)) → E.told edits.old ≡ Some m → HasHeld (stream_in site id) bitmap.old m → id < natural site.sup.num_blocks → IfErr result IsUndone }
-    ensures rest { bitmap.new ≡ record bitmap.old { given = bitmap.new.given; tally = bitmap.new.tally } }
-    ensures kept { as_kept bitmap.new ≡ as_kept bitmap.old }
-    ensures stays { StaysChanged (E.changed edits.old) (E.changed edits.new) }
-    ensures size { E.size edits.new ≡ E.size edits.old }
-    ensures frame { E.frame edits.new ≡ E.frame edits.old }
-    ensures later { AreLater (E.counts edits.old) (E.counts edits.new) }
-    ensures cause { IfErr result (HasTakeCause (E.counts edits.old) (E.counts edits.new)) }
-{
-    if id < blocks_in(site.sup) {
-        match give_inode(site, bitmap, edits, id) {
-            Ok(()) => Ok(()),
-            Err(fault) => Err(TreeFault::Pages(GrowFault::Block(fault))),
-        }
-    } else {
-        Err(TreeFault::Pages(GrowFault::Block(BlockFault::Damaged { block: directory })))
-    }
+    put_address(site, edits, inode, no_run())
 }
 
 /// Takes the one attribute of an attribute directory, with the directory. After a fault the call is to be dropped.
@@ -119,9 +55,11 @@ pub(crate) fn take_last<E: Edits>(
     requires volume { IsOfVolume (sizes_of site.sup) bitmap.old }
     requires alone { (m : ℕ → Option (List ℕ)) → E.told edits.old ≡ Some m → IsAlone (bearer_of inode site.sup) bitmap.old m directory name.now }
     ensures taken { (m : ℕ → Option (List ℕ)) → E.told edits.old ≡ Some m → OnOk result (HasLastTaken (bearer_of inode site.sup) bitmap.old bitmap.new m (remove (attributes_at (volume_at (geometry_of site.sup) m) inode) name.now) (E.told edits.new) (E.changed edits.old) (E.changed edits.new)) }
+    ensures clear { (m : ℕ → Option (List ℕ)) → E.told edits.old ≡ Some m → OnOk result (IfSome (E.told edits.new) (KeepsClear bitmap.old bitmap.new m)) }
     ensures faults { (m : ℕ → Option (List ℕ)) → E.told edits.old ≡ Some m → IfErr result (IsNotTakenOut (volume_at (geometry_of site.sup) m) inode name.now) }
     ensures rest { bitmap.new ≡ record bitmap.old { given = bitmap.new.given; tally = bitmap.new.tally } }
     ensures kept { as_kept bitmap.new ≡ as_kept bitmap.old }
+    ensures standing { standing bitmap.new ≡ standing bitmap.old }
     ensures stays { StaysChanged (E.changed edits.old) (E.changed edits.new) }
     ensures size { E.size edits.new ≡ E.size edits.old }
     ensures frame { E.frame edits.new ≡ E.frame edits.old }

@@ -1,5 +1,5 @@
 // An attribute that is new, put where it belongs.
-ghost use Rattle.std.specs.Prelude.{◌≡◌, ◌≤◌, ◌<◌, ℕ, List, max, length, true, false, Option, Some, OnOk, IfErr};
+ghost use Rattle.std.specs.Prelude.{◌≡◌, ◌≤◌, ◌<◌, ℕ, List, max, length, drop, true, false, Option, Some, OnOk, IfErr, IfSome};
 ghost use Rattle.std.specs.FinMap.{insert};
 ghost use Rattle.std.specs.Str.{bytes_eq};
 ghost use Rattle.bfs_super.specs.Conditions.{IsValid, ceil, natural};
@@ -8,11 +8,14 @@ ghost use Rattle.bfs_txn.specs.Faults.{AreLater};
 ghost use Rattle.bfs_txn.specs.Told.{StaysChanged};
 ghost use Rattle.bfs_stream.specs.Grown.{IsOfVolume};
 ghost use Rattle.bfs_stream.specs.Sizes.{sizes_of};
+ghost use Rattle.bfs_stream.specs.Standing.{standing};
+ghost use Rattle.bfs_stream.specs.Told.{contents};
 ghost use Rattle.bfs_sound.specs.Attributes.{own_name};
 ghost use Rattle.bfs_sound.specs.Inodes.{is_proper};
 ghost use Rattle.bfs_attr.specs.Bearers.{bearer_of, volume_at, attributes_at};
 ghost use Rattle.bfs_attr.specs.Changed.{HasPut};
-ghost use Rattle.bfs_attrs.specs.Put.{IsUnknown, IsNotPutNew};
+ghost use Rattle.bfs_attr_write.specs.Removal.{KeepsClear};
+ghost use Rattle.bfs_attrs.specs.Put.{IsUnknown, IsNotPutNew, GainsItem};
 ghost use Rattle.bfs_attrs.specs.Replaced.{HasAllBlocks};
 ghost use Rattle.bfs_attrs.specs.Stored.{HasAddCause, HasBegun};
 
@@ -85,8 +88,11 @@ pub fn put_new<E: Edits>(
     requires unknown { (m : ℕ → Option (List ℕ)) → E.told edits.old ≡ Some m → IsUnknown (bearer_of inode site.sup) bitmap.old m name.now }
     ensures put { (m : ℕ → Option (List ℕ)) → E.told edits.old ≡ Some m → OnOk result (HasPut (bearer_of inode site.sup) bitmap.old bitmap.new m name.now (record { code = kind; bytes = bytes.now }) (E.told edits.new) (E.changed edits.old) (E.changed edits.new)) }
     ensures keeps { (m : ℕ → Option (List ℕ)) → E.told edits.old ≡ Some m → OnOk result (HasAllBlocks (bearer_of inode site.sup) m (E.told edits.new)) }
+    ensures clear { (m : ℕ → Option (List ℕ)) → E.told edits.old ≡ Some m → OnOk result (IfSome (E.told edits.new) (KeepsClear bitmap.old bitmap.new m)) }
+    ensures items { (m : ℕ → Option (List ℕ)) → E.told edits.old ≡ Some m → OnOk result (IfSome (E.told edits.new) (λ map. GainsItem (record { kind = kind; name = name.now; bytes = bytes.now }) (drop 232 (contents m inode)) (drop 232 (contents map inode)))) }
     ensures faults { (m : ℕ → Option (List ℕ)) → E.told edits.old ≡ Some m → IfErr result (IsNotPutNew (bearer_of inode site.sup) bitmap.old m (record { code = kind; bytes = bytes.now }) (ceil (length bytes.now) site.sup.block_size)) }
     ensures rest { bitmap.new ≡ record bitmap.old { tally = bitmap.new.tally } }
+    ensures standing { standing bitmap.new ≡ standing bitmap.old }
     ensures stays { StaysChanged (E.changed edits.old) (E.changed edits.new) }
     ensures size { E.size edits.new ≡ E.size edits.old }
     ensures frame { E.frame edits.new ≡ E.frame edits.old }

@@ -1,5 +1,5 @@
 // An attribute that is put, whether or not there is one of its name.
-ghost use Rattle.std.specs.Prelude.{◌≡◌, ◌≢◌, ◌≤◌, ◌<◌, ℕ, List, max, length, true, false, Option, Some, OnOk, IfErr};
+ghost use Rattle.std.specs.Prelude.{◌≡◌, ◌≢◌, ◌≤◌, ◌<◌, ℕ, List, max, length, drop, true, false, Option, Some, OnOk, IfErr, IfSome};
 ghost use Rattle.std.specs.Str.{bytes_eq};
 ghost use Rattle.bfs_bitmap.specs.Runs.{as_kept};
 ghost use Rattle.bfs_super.specs.Conditions.{IsValid, ceil, natural};
@@ -7,12 +7,16 @@ ghost use Rattle.bfs_txn.specs.Faults.{AreLater};
 ghost use Rattle.bfs_txn.specs.Told.{StaysChanged};
 ghost use Rattle.bfs_stream.specs.Grown.{IsOfVolume};
 ghost use Rattle.bfs_stream.specs.Sizes.{sizes_of};
+ghost use Rattle.bfs_stream.specs.Standing.{standing};
+ghost use Rattle.bfs_stream.specs.Told.{contents};
 ghost use Rattle.bfs_maps.specs.Refused.{HasTakeCause, IsUndone};
 ghost use Rattle.bfs_sound.specs.Attributes.{own_name};
 ghost use Rattle.bfs_sound.specs.Inodes.{is_proper};
 ghost use Rattle.bfs_attr.specs.Bearers.{bearer_of};
 ghost use Rattle.bfs_attr.specs.Changed.{Holds, HasPut};
-ghost use Rattle.bfs_attrs.specs.Replaced.{HasCleared, IsNotPut};
+ghost use Rattle.bfs_attr_write.specs.Removal.{KeepsClear};
+ghost use Rattle.bfs_attrs.specs.Removed.{LosesItem};
+ghost use Rattle.bfs_attrs.specs.Replaced.{HasCleared, IsNotPut, ExchangesItem};
 ghost use Rattle.bfs_attrs.specs.Stored.{HasAddCause};
 
 use crate::putting::put_new;
@@ -50,9 +54,12 @@ fn clear<E: Edits>(
     requires volume { IsOfVolume (sizes_of site.sup) bitmap.old }
     requires holds { (m : ℕ → Option (List ℕ)) → E.told edits.old ≡ Some m → Holds (bearer_of inode site.sup) bitmap.old m }
     ensures cleared { (m : ℕ → Option (List ℕ)) → E.told edits.old ≡ Some m → OnOk result (HasCleared (bearer_of inode site.sup) bitmap.old bitmap.new m name.now (E.told edits.new) (E.changed edits.old) (E.changed edits.new)) }
+    ensures clear { (m : ℕ → Option (List ℕ)) → E.told edits.old ≡ Some m → OnOk result (IfSome (E.told edits.new) (KeepsClear bitmap.old bitmap.new m)) }
+    ensures items { (m : ℕ → Option (List ℕ)) → E.told edits.old ≡ Some m → OnOk result (IfSome (E.told edits.new) (λ map. LosesItem name.now (drop 232 (contents m inode)) (drop 232 (contents map inode)))) }
     ensures undone { (m : ℕ → Option (List ℕ)) → E.told edits.old ≡ Some m → IfErr result IsUndone }
     ensures rest { bitmap.new ≡ record bitmap.old { given = bitmap.new.given; tally = bitmap.new.tally } }
     ensures kept { as_kept bitmap.new ≡ as_kept bitmap.old }
+    ensures standing { standing bitmap.new ≡ standing bitmap.old }
     ensures stays { StaysChanged (E.changed edits.old) (E.changed edits.new) }
     ensures size { E.size edits.new ≡ E.size edits.old }
     ensures frame { E.frame edits.new ≡ E.frame edits.old }
@@ -88,9 +95,12 @@ pub fn put<E: Edits>(
     requires proper { is_proper name.now ≡ true }
     requires holds { (m : ℕ → Option (List ℕ)) → E.told edits.old ≡ Some m → Holds (bearer_of inode site.sup) bitmap.old m }
     ensures put { (m : ℕ → Option (List ℕ)) → E.told edits.old ≡ Some m → OnOk result (HasPut (bearer_of inode site.sup) bitmap.old bitmap.new m name.now (record { code = kind; bytes = bytes.now }) (E.told edits.new) (E.changed edits.old) (E.changed edits.new)) }
+    ensures clear { (m : ℕ → Option (List ℕ)) → E.told edits.old ≡ Some m → OnOk result (IfSome (E.told edits.new) (KeepsClear bitmap.old bitmap.new m)) }
+    ensures items { (m : ℕ → Option (List ℕ)) → E.told edits.old ≡ Some m → OnOk result (IfSome (E.told edits.new) (λ map. ExchangesItem (record { kind = kind; name = name.now; bytes = bytes.now }) (drop 232 (contents m inode)) (drop 232 (contents map inode)))) }
     ensures faults { (m : ℕ → Option (List ℕ)) → E.told edits.old ≡ Some m → IfErr result (IsNotPut (bearer_of inode site.sup) bitmap.old m name.now (record { code = kind; bytes = bytes.now }) (ceil (length bytes.now) site.sup.block_size)) }
     ensures rest { bitmap.new ≡ record bitmap.old { given = bitmap.new.given; tally = bitmap.new.tally } }
     ensures kept { as_kept bitmap.new ≡ as_kept bitmap.old }
+    ensures standing { standing bitmap.new ≡ standing bitmap.old }
     ensures stays { StaysChanged (E.changed edits.old) (E.changed edits.new) }
     ensures size { E.size edits.new ≡ E.size edits.old }
     ensures frame { E.frame edits.new ≡ E.frame edits.old }

@@ -7,11 +7,13 @@ ghost use Rattle.bfs_txn.specs.Faults.{AreLater};
 ghost use Rattle.bfs_txn.specs.Told.{StaysChanged};
 ghost use Rattle.bfs_stream.specs.Grown.{IsOfVolume};
 ghost use Rattle.bfs_stream.specs.Sizes.{sizes_of};
+ghost use Rattle.bfs_stream.specs.Standing.{standing};
 ghost use Rattle.bfs_stream.specs.Told.{contents};
 ghost use Rattle.bfs_maps.specs.Refused.{HasTakeCause};
 ghost use Rattle.bfs_attr.specs.Bearers.{bearer_of, volume_at};
 ghost use Rattle.bfs_attr.specs.Changed.{Holds, HasTaken};
-ghost use Rattle.bfs_attrs.specs.Removed.{FitAlike, IsBeyond, IsNotRemoved, IsUntouched};
+ghost use Rattle.bfs_attr_write.specs.Removal.{KeepsClear};
+ghost use Rattle.bfs_attrs.specs.Removed.{FitAlike, IsBeyond, IsNotRemoved, IsUntouched, LosesItem};
 
 use crate::last::take_last;
 use crate::rows::names_one;
@@ -41,10 +43,12 @@ pub(crate) fn take_stored<E: Edits>(
     requires holds { (m : ℕ → Option (List ℕ)) → E.told edits.old ≡ Some m → IsBeyond (bearer_of inode site.sup) bitmap.old m directory name.now }
     ensures taken { (m : ℕ → Option (List ℕ)) → E.told edits.old ≡ Some m → OnOk result (HasTaken (bearer_of inode site.sup) bitmap.old bitmap.new m name.now (E.told edits.new) (E.changed edits.old) (E.changed edits.new)) }
     ensures small { (m : ℕ → Option (List ℕ)) → E.told edits.old ≡ Some m → OnOk result (IfSome (E.told edits.new) (λ map. drop 232 (contents map inode) ≡ drop 232 (contents m inode))) }
+    ensures clear { (m : ℕ → Option (List ℕ)) → E.told edits.old ≡ Some m → OnOk result (IfSome (E.told edits.new) (KeepsClear bitmap.old bitmap.new m)) }
     ensures faults { (m : ℕ → Option (List ℕ)) → E.told edits.old ≡ Some m → IfErr result (IsNotRemoved (volume_at (geometry_of site.sup) m) inode name.now) }
     ensures absent { (m : ℕ → Option (List ℕ)) → E.told edits.old ≡ Some m → IfErr result (IsUntouched (bearer_of inode site.sup) bitmap.old bitmap.new m (E.told edits.new) (E.changed edits.old) (E.changed edits.new)) }
     ensures rest { bitmap.new ≡ record bitmap.old { given = bitmap.new.given; tally = bitmap.new.tally } }
     ensures kept { as_kept bitmap.new ≡ as_kept bitmap.old }
+    ensures standing { standing bitmap.new ≡ standing bitmap.old }
     ensures stays { StaysChanged (E.changed edits.old) (E.changed edits.new) }
     ensures size { E.size edits.new ≡ E.size edits.old }
     ensures frame { E.frame edits.new ≡ E.frame edits.old }
@@ -85,10 +89,13 @@ pub fn take<E: Edits>(
     requires holds { (m : ℕ → Option (List ℕ)) → E.told edits.old ≡ Some m → Holds (bearer_of inode site.sup) bitmap.old m }
     ensures taken { (m : ℕ → Option (List ℕ)) → E.told edits.old ≡ Some m → OnOk result (HasTaken (bearer_of inode site.sup) bitmap.old bitmap.new m name.now (E.told edits.new) (E.changed edits.old) (E.changed edits.new)) }
     ensures alike { (m : ℕ → Option (List ℕ)) → E.told edits.old ≡ Some m → OnOk result (IfSome (E.told edits.new) (λ map. FitAlike name.now (drop 232 (contents m inode)) (drop 232 (contents map inode)))) }
+    ensures clear { (m : ℕ → Option (List ℕ)) → E.told edits.old ≡ Some m → OnOk result (IfSome (E.told edits.new) (KeepsClear bitmap.old bitmap.new m)) }
+    ensures items { (m : ℕ → Option (List ℕ)) → E.told edits.old ≡ Some m → OnOk result (IfSome (E.told edits.new) (λ map. LosesItem name.now (drop 232 (contents m inode)) (drop 232 (contents map inode)))) }
     ensures faults { (m : ℕ → Option (List ℕ)) → E.told edits.old ≡ Some m → IfErr result (IsNotRemoved (volume_at (geometry_of site.sup) m) inode name.now) }
     ensures absent { (m : ℕ → Option (List ℕ)) → E.told edits.old ≡ Some m → IfErr result (IsUntouched (bearer_of inode site.sup) bitmap.old bitmap.new m (E.told edits.new) (E.changed edits.old) (E.changed edits.new)) }
     ensures rest { bitmap.new ≡ record bitmap.old { given = bitmap.new.given; tally = bitmap.new.tally } }
     ensures kept { as_kept bitmap.new ≡ as_kept bitmap.old }
+    ensures standing { standing bitmap.new ≡ standing bitmap.old }
     ensures stays { StaysChanged (E.changed edits.old) (E.changed edits.new) }
     ensures size { E.size edits.new ≡ E.size edits.old }
     ensures frame { E.frame edits.new ≡ E.frame edits.old }

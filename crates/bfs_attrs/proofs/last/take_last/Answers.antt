@@ -14,7 +14,7 @@ use Rattle.bfs_attr.proofs.Tops.{cause_sound}
 use Rattle.bfs_attr_write.proofs.Departs.{tree_there, not_taken, undone_kept}
 use Rattle.std.specs.Prelude.{Err}
 use Rattle.bfs_attrs.specs.Last.{HasLastTaken}
-use Rattle.bfs_attrs.proofs.LastTaken.{first_held, first_low, still_held, bearer_told, last_gone}
+use Rattle.bfs_attrs.proofs.LastTaken.{first_held, first_low, still_held, bearer_told, last_clear, last_gone}
 use Rattle.bfs_attrs.proofs.Stood.{read_taken, take_earlier, can_read, number_there}
 use Rattle.bfs_attrs.proofs.last.take_last.Goals as goal
 
@@ -149,3 +149,38 @@ returns-in-Err-clear_address-clause-rest g c = c.give_inode.ensures.rest ∙ ap 
 
 pub returns-in-Err-clear_address-clause-kept : goal.returns-in-Err-clear_address-clause-kept
 returns-in-Err-clear_address-clause-kept g c = c.give_inode.ensures.kept ∙ c.give_named.ensures.kept
+
+pub returns-in-Ok-clear_address-clause-clear : goal.returns-in-Ok-clear_address-clause-clear
+returns-in-Ok-clear_address-clause-clear g c m told =
+    let s = c.args.site.sup in
+    let b = bearer_of c.args.inode s in
+    let v = c.args.bitmap.now in
+    let d = c.args.directory in
+    let name = c.args.name.now in
+    let id = c.in-Ok-Some.id in
+    let mid = c.give_named.new.bitmap in
+    let later = c.give_inode.new.bitmap in
+    let told1 = g.E.Blocks.told c.give_named.new.edits in
+    let told2 = g.E.Blocks.told c.give_inode.new.edits in
+    let told3 = g.E.Blocks.told c.clear_address.new.edits in
+    let old = g.E.Blocks.changed c.number_at.new.under in
+    let half = g.E.Blocks.changed c.give_named.new.edits in
+    let third = g.E.Blocks.changed c.give_inode.new.edits in
+    let alone = c.requires.alone m told in
+    let t = tree_there s c.requires.valid c.args.inode v m d name alone.can in
+    let there : assoc Text (rows_of Text (origin (geometry_of s) d) m) name ≡ Some (pos id) =
+    subst (λ (o : Option ℕ). IsNumberAt Text (rows_of Text (origin (geometry_of s) d) m) name o) c.in-Ok-Some.field-0-is (c.in-Ok-Some.ensures.found m told (number_there name (origin (geometry_of s) d) v m t)) in
+    let gone1 = c.in-Ok.ensures.given m (c.in-Ok-Some.ensures.told ∙ told) (first_held b v m d name alone id there) in
+    let held = still_held b v m d name alone id there mid told1 old half gone1 c.give_named.ensures.rest in
+    let gone2 = c.in-Ok-give_inode.ensures.given gone1.map gone1.is held.1.owns in
+    let put = c.in-Ok-clear_address.ensures.written gone2.map gone2.is (bearer_told b v m d name alone id there mid told1 old half gone1 c.give_named.ensures.rest later told2 third gone2 c.give_inode.ensures.rest) in
+    last_clear b v m d name alone id there mid told1 old half gone1 c.give_named.ensures.rest later told2 third gone2 c.give_inode.ensures.rest told3 put
+
+pub returns-in-Err-give_inode-clause-standing : goal.returns-in-Err-give_inode-clause-standing
+returns-in-Err-give_inode-clause-standing g c = c.give_inode.ensures.standing ∙ c.give_named.ensures.standing
+
+pub returns-in-Ok-clear_address-clause-standing : goal.returns-in-Ok-clear_address-clause-standing
+returns-in-Ok-clear_address-clause-standing g c = c.give_inode.ensures.standing ∙ c.give_named.ensures.standing
+
+pub returns-in-Err-clear_address-clause-standing : goal.returns-in-Err-clear_address-clause-standing
+returns-in-Err-clear_address-clause-standing g c = c.give_inode.ensures.standing ∙ c.give_named.ensures.standing

@@ -7,7 +7,7 @@ use Rattle.bfs_attrs.proofs.Begins.{add_wider_kept}
 use Rattle.bfs_attrs.proofs.Fresh.{read_added}
 use Rattle.bfs_attrs.proofs.Moves.{taken_within, left_within, all_twice, unknown_taken, has_moved, not_arrived_kept, undone_moved}
 use Rattle.bfs_attrs.proofs.Replaces.{on_both, all_same}
-use Rattle.bfs_attrs.proofs.Stood.{told_back, one_map}
+use Rattle.bfs_make.proofs.Telling.{told_back, one_map}
 use Rattle.bfs_attrs.proofs.moving.move_out.Goals as goal
 
 pub returns-in-Err-clause-faults : goal.returns-in-Err-clause-faults

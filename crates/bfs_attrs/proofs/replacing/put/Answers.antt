@@ -1,12 +1,16 @@
-use Rattle.std.proofs.Common.{◌∙◌, ℕ, List, Option, ap, subst, arith, length, max}
+use Rattle.std.proofs.Common.{◌∙◌, ℕ, List, Option, ap, subst, arith, length, drop, max}
 use Rattle.bfs_bitmap.specs.Runs.{Room, as_kept}
 use Rattle.bfs_super.specs.Conditions.{ceil}
+use Rattle.bfs_smalldata.specs.Items.{Item}
+use Rattle.bfs_stream.specs.Told.{contents}
+use Rattle.bfs_maps.proofs.Over.{on_ok}
 use Rattle.bfs_attr.specs.Bearers.{bearer_of}
 use Rattle.bfs_attr_write.proofs.Brings.{rest_given}
 use Rattle.bfs_attrs.specs.Put.{IsUnknown}
 use Rattle.bfs_attrs.proofs.Begins.{add_wider_kept}
+use Rattle.bfs_attrs.proofs.Gains.{clear_after, item_after}
 use Rattle.bfs_attrs.proofs.Replaces.{on_both, unknown_now, has_come, not_come_kept, undone_put, taken_added}
-use Rattle.bfs_attrs.proofs.Stood.{told_back, one_map}
+use Rattle.bfs_make.proofs.Telling.{told_back, one_map}
 use Rattle.bfs_attrs.proofs.replacing.put.Goals as goal
 
 pub returns-in-Err-clause-faults : goal.returns-in-Err-clause-faults
@@ -63,3 +67,19 @@ returns-clause-rest g c =
 
 pub returns-clause-kept : goal.returns-clause-kept
 returns-clause-kept g c = ap as_kept c.put_new.ensures.rest ∙ c.clear.ensures.kept
+
+pub returns-clause-clear : goal.returns-clause-clear
+returns-clause-clear g c m told =
+    let cleared = c.in-Ok.ensures.cleared m told in
+    on_ok _ _ c.put_new.result (c.put_new.ensures.clear cleared.now_are.map cleared.now_are.is)
+    (clear_after c.args.bitmap.now c.clear.new.bitmap c.put_new.new.bitmap m cleared.now_are.map (g.E.Blocks.told c.clear.new.edits) (g.E.Blocks.told c.put_new.new.edits) c.clear.ensures.rest cleared.now_are.is (c.in-Ok.ensures.clear m told))
+
+pub returns-clause-items : goal.returns-clause-items
+returns-clause-items g c m told =
+    let cleared = c.in-Ok.ensures.cleared m told in
+    let item : Item = record { kind = c.args.kind; name = c.args.name.now; bytes = c.args.bytes.now } in
+    on_ok _ _ c.put_new.result (c.put_new.ensures.items cleared.now_are.map cleared.now_are.is)
+    (item_after item (drop 232 (contents m c.args.inode)) cleared.now_are.map c.args.inode (g.E.Blocks.told c.clear.new.edits) (g.E.Blocks.told c.put_new.new.edits) cleared.now_are.is (c.in-Ok.ensures.items m told))
+
+pub returns-clause-standing : goal.returns-clause-standing
+returns-clause-standing g c = c.put_new.ensures.standing ∙ c.clear.ensures.standing

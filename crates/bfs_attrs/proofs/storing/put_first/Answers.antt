@@ -5,7 +5,7 @@ use Rattle.bfs_maps.proofs.Over.{on_ok}
 use Rattle.bfs_attr.specs.Bearers.{bearer_of}
 use Rattle.bfs_attr_write.specs.Adding.{CanAdd}
 use Rattle.bfs_attrs.proofs.Begins.{can_add, has_begun, unmade, not_followed, make_added, add_wider_kept}
-use Rattle.bfs_attrs.proofs.Stood.{told_back, one_map}
+use Rattle.bfs_make.proofs.Telling.{told_back, one_map}
 use Rattle.bfs_attrs.proofs.storing.put_first.Goals as goal
 
 pub returns-in-Err-clause-faults : goal.returns-in-Err-clause-faults

@@ -7,7 +7,7 @@ use Rattle.bfs_make.specs.Made.{HasBits}
 use Rattle.bfs_attr.specs.Bearers.{bearer_of, origin}
 use Rattle.bfs_attr_write.proofs.Steps.{directory_tree}
 use Rattle.bfs_attrs.proofs.Adds.{stored_there, row_not_added, put_cause_added}
-use Rattle.bfs_attrs.proofs.Stood.{told_back, one_map}
+use Rattle.bfs_make.proofs.Telling.{told_back, one_map}
 use Rattle.bfs_attrs.proofs.storing.put_stored.Goals as goal
 
 pub returns-in-Err-clause-faults : goal.returns-in-Err-clause-faults

@@ -12,8 +12,10 @@ use Rattle.bfs_stream.specs.Told.{contents}
 use Rattle.bfs_attr.specs.Written.{items_left}
 use Rattle.bfs_attrs.proofs.Alike.{same_fit_told, taken_fit}
 use Rattle.bfs_attrs.proofs.Clears.{undone_untouched, untouched_older}
+use Rattle.bfs_attrs.proofs.Loses.{taken_clear, loses_one, loses_none}
 use Rattle.bfs_attrs.proofs.Older.{taken_older}
-use Rattle.bfs_attrs.proofs.Stood.{told_back, one_map, read_taken, take_earlier, take_earlier_kept, undone_removed, none_beyond}
+use Rattle.bfs_make.proofs.Telling.{told_back, one_map}
+use Rattle.bfs_attrs.proofs.Stood.{read_taken, take_earlier, take_earlier_kept, undone_removed, none_beyond}
 use Rattle.bfs_attrs.proofs.taking.take.Goals as goal
 
 pub returns-in-Err-clause-faults : goal.returns-in-Err-clause-faults
@@ -186,3 +188,43 @@ returns-in-Err-directory_at-clause-absent g c m told =
     (c.in-Ok.ensures.taken v m told (c.requires.holds m told)) in
     let holds = c.requires.holds m told in
     undone_untouched b v v m (g.E.Blocks.told c.directory_at.new.under) (g.E.Blocks.changed c.args.edits.now) (g.E.Blocks.changed c.directory_at.new.under) c.in-Err-directory_at.fault (c.in-Err-directory_at.ensures.sound m none.1 holds.inode holds.stands)
+
+pub returns-then-taken-clause-clear : goal.returns-then-taken-clause-clear
+returns-then-taken-clause-clear g c m told =
+    let b = bearer_of c.args.inode c.args.site.sup in
+    let v = c.args.bitmap.now in
+    let name = c.args.name.now in
+    let t = g.E.Blocks.told c.take_from_small.new.edits in
+    let taken =
+    subst (λ (x : Bool). IsTakenFromSmall b v m name t (g.E.Blocks.changed c.args.edits.now) (g.E.Blocks.changed c.take_from_small.new.edits) x) c.if-taken.true
+    (c.in-Ok.ensures.taken v m told (c.requires.holds m told)) in
+    taken_clear b v m name t (g.E.Blocks.changed c.args.edits.now) (g.E.Blocks.changed c.take_from_small.new.edits) taken
+
+pub returns-in-Ok-Some-clause-clear : goal.returns-in-Ok-Some-clause-clear
+returns-in-Ok-Some-clause-clear g c m told =
+    let b = bearer_of c.args.inode c.args.site.sup in
+    let v = c.args.bitmap.now in
+    let none =
+    subst (λ (x : Bool). IsTakenFromSmall b v m c.args.name.now (g.E.Blocks.told c.take_from_small.new.edits) (g.E.Blocks.changed c.args.edits.now) (g.E.Blocks.changed c.take_from_small.new.edits) x) c.if-taken.false
+    (c.in-Ok.ensures.taken v m told (c.requires.holds m told)) in
+    c.take_stored.ensures.clear m (c.directory_at.ensures.told ∙ none.1)
+
+pub returns-then-taken-clause-items : goal.returns-then-taken-clause-items
+returns-then-taken-clause-items g c m told =
+    let v = c.args.bitmap.now in
+    let name = c.args.name.now in
+    let t = g.E.Blocks.told c.take_from_small.new.edits in
+    let holds = c.requires.holds m told in
+    let left =
+    subst (λ (x : Bool). IfSome t (λ map. items_of (drop 232 (contents map c.args.inode)) ≡ items_left name (items_of (drop 232 (contents m c.args.inode))) x)) c.if-taken.true (c.in-Ok.ensures.items v m told holds) in
+    loses_one name (drop 232 (contents m c.args.inode)) c.args.inode t (c.in-Ok.ensures.small v m told holds c.if-taken.true) left
+
+pub returns-in-Ok-Some-clause-items : goal.returns-in-Ok-Some-clause-items
+returns-in-Ok-Some-clause-items g c m told =
+    let b = bearer_of c.args.inode c.args.site.sup in
+    let v = c.args.bitmap.now in
+    let none =
+    subst (λ (x : Bool). IsTakenFromSmall b v m c.args.name.now (g.E.Blocks.told c.take_from_small.new.edits) (g.E.Blocks.changed c.args.edits.now) (g.E.Blocks.changed c.take_from_small.new.edits) x) c.if-taken.false
+    (c.in-Ok.ensures.taken v m told (c.requires.holds m told)) in
+    on_ok _ _ c.take_stored.result (c.take_stored.ensures.small m (c.directory_at.ensures.told ∙ none.1))
+    (loses_none c.args.name.now (drop 232 (contents m c.args.inode)) c.args.inode (g.E.Blocks.told c.take_stored.new.edits))

@@ -202,3 +202,16 @@ returns-else-last-clause-absent g c m told =
     let some = (c.in-Ok.ensures.found m told (directory_rows b v m d h.holds h.there)).0 c.if-not-there.false in
     out_untouched b v c.take_attribute_row.new.bitmap m (g.E.Blocks.told c.take_attribute_row.new.edits) (g.E.Blocks.changed c.args.edits.now) (g.E.Blocks.changed c.take_attribute_row.new.edits) d name h.there some c.take_attribute_row.result
     (c.take_attribute_row.ensures.faults c.args.inode m (c.names_one.ensures.told ∙ (c.has_attribute_row.ensures.told ∙ told)) (can_take b v m d name h some))
+
+pub returns-then-last-clause-clear : goal.returns-then-last-clause-clear
+returns-then-last-clause-clear g c m told = c.take_last.ensures.clear m (c.names_one.ensures.told ∙ (c.has_attribute_row.ensures.told ∙ told))
+
+pub returns-else-last-clause-clear : goal.returns-else-last-clause-clear
+returns-else-last-clause-clear g c m told =
+    let b = bearer_of c.args.inode c.args.site.sup in
+    let v = c.args.bitmap.now in
+    let d = c.args.directory in
+    let name = c.args.name.now in
+    let h = c.requires.holds m told in
+    let some = (c.in-Ok.ensures.found m told (directory_rows b v m d h.holds h.there)).0 c.if-not-there.false in
+    c.take_attribute_row.ensures.clear c.args.inode m (c.names_one.ensures.told ∙ (c.has_attribute_row.ensures.told ∙ told)) (can_take b v m d name h some)

@@ -10,7 +10,8 @@ use Rattle.bfs_shift.specs.Lists.{Lists}
 use Rattle.bfs_shift.specs.Work.{IsStepped}
 use Rattle.bfs_moves.proofs.Ends.{goes_on_same}
 use Rattle.bfs_unlist.specs.Reading.{IsPartly, IsRead, IsUnlisting, IsUnlistingAt, HasPartly}
-use Rattle.bfs_unlist.proofs.Stepping.{one_map, stepped_twice}
+use Rattle.bfs_make.proofs.Telling.{one_map}
+use Rattle.bfs_moves.proofs.Stepping.{stepped_twice}
 
 -- the steps so far, of which the indices with these rows alone may list the node still
 pub record IsFar (g : Geometry) (v now : Room) (m : ℕ → Option (List ℕ)) (tree : Tree) (lists : Lists) (id : ℕ) (info : Info) (rest : List InodeRow) (told : Option (ℕ → Option (List ℕ))) (old new : ℕ → Bool) : Type 0 where
@@ -50,7 +51,7 @@ module _ (g : Geometry) (v now : Room) (m : ℕ → Option (List ℕ)) (tree : T
       → HasPartly g now later far.step.map tree lists id rest told2 new since → IsFar g v later m tree lists id info rest told2 old since
   far_more later row rest told2 since far more = record {
     last = more.last;
-    step = stepped_twice g v now later m tree far.last more.last told told2 old new since far.step more.step;
+    step = stepped_twice g v now later m tree tree tree far.last more.last [] [] told told2 old new since far.step more.step;
     read = record {
       node = far.read.node;
       there = far.read.there;

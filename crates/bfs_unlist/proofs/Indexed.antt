@@ -38,7 +38,7 @@ use Rattle.bfs_query.specs.Indices.{IsIndexRowOf}
 use Rattle.bfs_query.proofs.Bearing.{bears, attributes_are, can_read}
 use Rattle.bfs_unlist.specs.Reading.{IsUnlisting}
 use Rattle.bfs_unlist.proofs.Partly.{partly_begins}
-use Rattle.bfs_unlist.proofs.Sought.{key_sought}
+use Rattle.bfs_node_key.proofs.Sought.{key_sought}
 
 module _ (s : Super) (v : Room) (m : ℕ → Option (List ℕ)) (tree : Tree) (lists now : Lists) (id : ℕ) (info : Info) (row : InodeRow) (rest : List InodeRow) (valid : IsValid s)
     (u : IsUnlisting (geometry_of s) v m tree lists now id info (row ∷ rest)) where

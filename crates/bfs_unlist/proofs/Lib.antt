@@ -1,6 +1,3 @@
-pub mod Stepping
-pub mod Sought
 pub mod Partly
 pub mod Indexed
 pub mod Far
-pub mod Cases

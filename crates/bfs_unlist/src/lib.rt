@@ -3,7 +3,6 @@
 // What the indices list then is `ListsWithout` in specs/Without.antt.
 #![tactic(auto)]
 
-mod key;
 mod reading;
 mod unlisting;
 

@@ -13,9 +13,9 @@ ghost use Rattle.bfs_attr.specs.declared.directory.InodeRow.{InodeRow};
 ghost use Rattle.bfs_shift.specs.Lists.{Lists};
 ghost use Rattle.bfs_unlist.specs.Reading.{IsListingOf, IsUnlisting};
 
-use crate::key::{is_sought, key_in};
 use bfs_attr::InodeRow;
 use bfs_make::Site;
+use bfs_node_key::{is_sought, key_in};
 use bfs_query::{IndexAt, damaged, index_of};
 use bfs_stream_pages::MapFault;
 use bfs_tree::{Bytes, Info};

@@ -9,7 +9,7 @@ use Rattle.bfs_stream.proofs.Arrays.{later_twice}
 use Rattle.bfs_stream.proofs.Writes.{later_none}
 use Rattle.bfs_attr.specs.declared.directory.InodeRow.{InodeRow}
 use Rattle.bfs_unlist.proofs.Far.{far_none, far_unlisting, far_split, far_at, far_more, far_ends, changed_again}
-use Rattle.bfs_unlist.proofs.Stepping.{told_back}
+use Rattle.bfs_make.proofs.Telling.{told_back}
 use Rattle.bfs_unlist.proofs.unlisting.unlist_from_all.Goals as goal
 
 pub loop-row-init : goal.loop-row-init

@@ -1,5 +1,7 @@
 // The key under which an index lists a node.
-ghost use Rattle.std.specs.Prelude.{◌≡◌, ◌≢◌, ℕ, List, Option, Some, None, true, false, if◌then◌else◌, IfOk, IfErr, MatchResult};
+ghost use Rattle.std.specs.Prelude.{◌≡◌, ◌≢◌, ℕ, List, Option, Some, None, true, false, if◌then◌else◌, IfSome, IfOk, IfErr, MatchResult};
+ghost use Rattle.std.specs.FinMap.{get};
+ghost use Rattle.std.specs.Option.{option_and_then};
 ghost use Rattle.bfs_super.specs.Conditions.{IsValid};
 ghost use Rattle.bfs_super.specs.Geometry.{geometry_of};
 ghost use Rattle.bfs_bytes.specs.Fields.{unsigned_bytes, signed64_bytes};
@@ -7,7 +9,7 @@ ghost use Rattle.bfs_node.specs.Search.{IsSought};
 ghost use Rattle.bfs_txn.specs.Faults.{AreLater, Counts};
 ghost use Rattle.bfs_tree.specs.Answers.{info_of};
 ghost use Rattle.bfs_tree.specs.Listings.{key_in, key_of_attribute};
-ghost use Rattle.bfs_tree.specs.Trees.{Node, is_file};
+ghost use Rattle.bfs_tree.specs.Trees.{Attributes, Node, is_file};
 ghost use Rattle.bfs_maps.specs.Refused.{IsUndone, HasReadCause};
 ghost use Rattle.bfs_attr.specs.Bearers.{volume_at, bearer_of, attributes_at, shown, HasAttributes, CanRead};
 
@@ -20,7 +22,7 @@ use bfs_txn::Blocks;
 use std::alloc::{AllocError, Global};
 
 /// Can these bytes be looked for in an index of a kind? Text may have any length.
-pub(crate) fn is_sought(kind: KeyKind, key: &[u8]) -> bool
+pub fn is_sought(kind: KeyKind, key: &[u8]) -> bool
     ensures sought { result ≡ true → IsSought kind key.now }
     ensures refused { result ≡ false → IsSought kind key.now → ⊥ }
 {
@@ -76,8 +78,43 @@ fn key_of(alloc: Global, kind: KeyKind, item: &AttrItem) -> Result<Option<Bytes>
     }
 }
 
+/// The key under which an index of a kind and of an attribute's name lists a node, or None where it doesn't list it. No index that is built
+/// in is spoken of.
+pub fn attribute_key<B: Blocks>(
+    site: Site,
+    under: &mut B,
+    id: u64,
+    name: &[u8],
+    kind: KeyKind,
+) -> Result<Option<Bytes>, MapFault>
+    requires valid { IsValid site.sup }
+    requires size { B.size under.old ≡ site.sup.block_size }
+    requires readable { (m : ℕ → Option (List ℕ)) → B.told under.old ≡ Some m → CanRead (bearer_of id site.sup) m }
+    ensures key { (m : ℕ → Option (List ℕ)) (attributes : Attributes) → B.told under.old ≡ Some m → HasAttributes (volume_at (geometry_of site.sup) m) id → attributes ≡ attributes_at (volume_at (geometry_of site.sup) m) id → MatchResult result (λ k. k ≡ option_and_then (key_of_attribute kind) (get attributes name.now)) IsUndone }
+    ensures sought { IfOk result (λ k. IfSome k (IsSought kind)) }
+    ensures told { B.told under.new ≡ B.told under.old }
+    ensures changed { B.changed under.new ≡ B.changed under.old }
+    ensures pairs { B.pairs under.new ≡ B.pairs under.old }
+    ensures size { B.size under.new ≡ B.size under.old }
+    ensures frame { B.frame under.new ≡ B.frame under.old }
+    ensures later { AreLater (B.counts under.old) (B.counts under.new) }
+    ensures cause { IfErr result (HasReadCause (B.counts under.old) (B.counts under.new)) }
+{
+    let found = match attribute_of(site, under, id, name) {
+        Ok(found) => found,
+        Err(fault) => return Err(fault),
+    };
+    let Some(item) = found else {
+        return Ok(None);
+    };
+    match key_of(site.alloc, kind, &item) {
+        Ok(key) => Ok(key),
+        Err(_) => Err(TreeFault::NoMemory),
+    }
+}
+
 /// The key under which an index of a name and kind lists a node with a record, which isn't the root.
-pub(crate) fn key_in<B: Blocks>(
+pub fn key_in<B: Blocks>(
     site: Site,
     under: &mut B,
     id: u64,
@@ -109,15 +146,8 @@ pub(crate) fn key_in<B: Blocks>(
     if index == BY_TIME {
         return file_key(site.alloc, info.kind, stamp_key(info));
     }
-    let found = match attribute_of(site, under, id, index) {
-        Ok(found) => found,
-        Err(fault) => return Err(fault),
-    };
-    let Some(item) = found else {
-        return Ok(None);
-    };
-    match key_of(site.alloc, kind, &item) {
+    match attribute_key(site, under, id, index, kind) {
         Ok(key) => Ok(key),
-        Err(_) => Err(TreeFault::NoMemory),
+        Err(fault) => Err(fault),
     }
 }

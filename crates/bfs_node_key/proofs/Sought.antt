@@ -1,6 +1,6 @@
 -- The key under which an index lists a node can be looked for there.
 use Rattle.std.proofs.Common.{◌≡◌, inl, inr, ℕ, List, refl, sym, ap, ◌∙◌, subst, arith, Bool, true, false, cond, Option, Some, None, length, codes}
-use Rattle.std.specs.Prelude.{◌==◌}
+use Rattle.std.specs.Prelude.{◌==◌, IfSome}
 use Rattle.std.specs.Option.{option_and_then}
 use Rattle.std.specs.Str.{bytes_eq}
 use Rattle.std.proofs.lemmas.Slice.Eq.{bytes_eq-Decides}
@@ -38,6 +38,11 @@ attribute_sought kind (Some a) key is = by_test (a.code == code_of kind) is
     by_test : (t : Bool) → cond t (key_of_bytes kind a.bytes) None ≡ Some key → IsSought kind key
     by_test true is = bytes_sought kind a.bytes key is
     by_test false is = absurd (let bad : None ≡ Some key = is in cc)
+
+-- a key that an attribute gives, if it gives one
+pub given_sought : (kind : KeyKind) (o : Option Attribute) (key : Option (List ℕ)) → key ≡ option_and_then (key_of_attribute kind) o → IfSome key (IsSought kind)
+given_sought kind o None is = tt
+given_sought kind o (Some key) is = attribute_sought kind o key (sym is)
 
 -- a key of eight bytes, of a file
 eight : (file : Bool) (bytes key : List ℕ) → length bytes ≡ 8 → cond file (Some bytes) None ≡ Some key → IsSought I64 key

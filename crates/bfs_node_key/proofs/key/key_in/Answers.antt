@@ -1,19 +1,13 @@
 use Rattle.std.proofs.Common.{◌≡◌, ◌∙◌, ℕ, List, true, false, cond, Option, Some, None, codes, sym, ap, subst}
 use Rattle.std.specs.Prelude.{MatchResult}
-use Rattle.std.specs.Option.{option_and_then, option_map}
 use Rattle.std.specs.Str.{bytes_eq}
-use Rattle.std.specs.FinMap.{get}
 use Rattle.bfs_bytes.specs.Fields.{unsigned_bytes, signed64_bytes}
-use Rattle.bfs_super.specs.Geometry.{geometry_of}
-use Rattle.bfs_tree.specs.Listings.{key_in, key_of_attribute}
-use Rattle.bfs_tree.specs.Trees.{Attribute, Attributes, is_file}
+use Rattle.bfs_tree.specs.Listings.{key_in}
+use Rattle.bfs_tree.specs.Trees.{is_file}
 use Rattle.bfs_tree.specs.declared.reply.Info.{Info}
 use Rattle.bfs_maps.specs.Refused.{IsUndone}
-use Rattle.bfs_attr.proofs.Tops.{value_is}
-use Rattle.bfs_attr.specs.Bearers.{entries_at, shown, volume_at}
-use Rattle.bfs_attr.specs.declared.rows.AttrItem.{AttrItem}
-use Rattle.bfs_unlist.proofs.Cases.{key_by_size, key_by_time, key_by_attribute}
-use Rattle.bfs_unlist.proofs.key.key_in.Goals as goal
+use Rattle.bfs_node_key.proofs.Cases.{key_by_size, key_by_time, key_by_attribute}
+use Rattle.bfs_node_key.proofs.key.key_in.Goals as goal
 
 pub returns-then-eq-2-clause-key : goal.returns-then-eq-2-clause-key
 returns-then-eq-2-clause-key g c m root n told has are same apart =
@@ -46,30 +40,13 @@ returns-then-eq-3-clause-key g c m root n told has are same apart =
 pub returns-then-eq-3-clause-cause : goal.returns-then-eq-3-clause-cause
 returns-then-eq-3-clause-cause g c = c.file_key-then-eq-3.ensures.cause (g.B.Blocks.counts c.args.under.now) (g.B.Blocks.counts c.args.under.now)
 
-pub returns-in-Err-attribute_of-clause-key : goal.returns-in-Err-attribute_of-clause-key
-returns-in-Err-attribute_of-clause-key g c m root n told has are same apart = c.in-Err-attribute_of.ensures.found m told has
-
-pub returns-in_default-clause-key : goal.returns-in_default-clause-key
-returns-in_default-clause-key g c m root n told has are same apart =
+pub returns-in-Ok-attribute_key-clause-key : goal.returns-in-Ok-attribute_key-clause-key
+returns-in-Ok-attribute_key-clause-key g c m root n told has are same apart =
     let index = c.args.index.now in
     let named : bytes_eq index (codes "name") ≡ false = sym c.eq.ensures ∙ c.if-eq.false in
     let sized : bytes_eq index (codes "size") ≡ false = sym c.eq-2.ensures ∙ c.if-eq-2.false in
     let timed : bytes_eq index (codes "last_modified") ≡ false = sym c.eq-3.ensures ∙ c.if-eq-3.false in
-    let at : option_map shown c.in-Ok-attribute_of.found ≡ get n.attributes index =
-    c.in-Ok-attribute_of.ensures.found m told has ∙ value_is (entries_at (volume_at (geometry_of c.args.site.sup) m) c.args.id) index ∙ ap (λ (a : Attributes). get a index) (sym are) in
-    ap (λ (o : Option AttrItem). option_and_then (key_of_attribute c.args.kind) (option_map shown o)) (sym c.in_default.is)
-    ∙ ap (λ (o : Option Attribute). option_and_then (key_of_attribute c.args.kind) o) at
-    ∙ sym (key_by_attribute root index c.args.kind c.args.id n named sized timed)
+    c.in-Ok-attribute_key.ensures.key m n.attributes told has are ∙ sym (key_by_attribute root index c.args.kind c.args.id n named sized timed)
 
-pub returns-in-Ok-key_of-clause-key : goal.returns-in-Ok-key_of-clause-key
-returns-in-Ok-key_of-clause-key g c m root n told has are same apart =
-    let index = c.args.index.now in
-    let named : bytes_eq index (codes "name") ≡ false = sym c.eq.ensures ∙ c.if-eq.false in
-    let sized : bytes_eq index (codes "size") ≡ false = sym c.eq-2.ensures ∙ c.if-eq-2.false in
-    let timed : bytes_eq index (codes "last_modified") ≡ false = sym c.eq-3.ensures ∙ c.if-eq-3.false in
-    let at : option_map shown c.in-Ok-attribute_of.found ≡ get n.attributes index =
-    c.in-Ok-attribute_of.ensures.found m told has ∙ value_is (entries_at (volume_at (geometry_of c.args.site.sup) m) c.args.id) index ∙ ap (λ (a : Attributes). get a index) (sym are) in
-    c.in-Ok-key_of.ensures
-    ∙ ap (λ (o : Option AttrItem). option_and_then (key_of_attribute c.args.kind) (option_map shown o)) (sym c.in-Some.is)
-    ∙ ap (λ (o : Option Attribute). option_and_then (key_of_attribute c.args.kind) o) at
-    ∙ sym (key_by_attribute root index c.args.kind c.args.id n named sized timed)
+pub returns-in-Err-attribute_key-clause-key : goal.returns-in-Err-attribute_key-clause-key
+returns-in-Err-attribute_key-clause-key g c m root n told has are same apart = c.in-Err-attribute_key.ensures.key m n.attributes told has are

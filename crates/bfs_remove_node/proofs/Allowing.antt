@@ -4,7 +4,6 @@ use Rattle.std.specs.Prelude.{is_some}
 use Rattle.std.specs.List.{flat_map}
 use Rattle.std.specs.FinMap.{entries}
 use Rattle.std.proofs.lemmas.List.{length-append}
-use Rattle.std.proofs.lemmas.List.Sums.{sum_by-cons}
 use Rattle.bfs_base.specs.declared.kind.KeyKind.{KeyKind}
 use Rattle.bfs_base.specs.declared.kind.KeyKind.TheVariants.{Text}
 use Rattle.bfs_super.specs.declared.geometry.Geometry.{Geometry}
@@ -20,10 +19,10 @@ use Rattle.bfs_tree.specs.declared.call.Call.TheVariants.{Remove}
 use Rattle.bfs_smalldata.proofs.Reading.{unsigned_taken}
 use Rattle.bfs_tree.specs.declared.call.Kind.{Kind}
 use Rattle.bfs_tree.specs.declared.call.Kind.TheVariants.{Dir}
-use Rattle.bfs_sound.specs.Inodes.{content, stream_blocks}
+use Rattle.bfs_sound.specs.Inodes.{content}
 use Rattle.bfs_sound.specs.Nodes.{HasContent}
-use Rattle.bfs_sound.specs.Need.{logged_need, logged_cost, levels_of, attribute_index_row, index_row, built_in_rows, rows_of_node, removing, streams_length, stream_length}
-use Rattle.bfs_sound.specs.Owners.{Owner, node_owners}
+use Rattle.bfs_sound.specs.Need.{logged_need, logged_cost, levels_of, attribute_index_row, index_row, built_in_rows, rows_of_node, removing, streams_length}
+use Rattle.bfs_sound.specs.Owners.{node_owners}
 use Rattle.bfs_sound.specs.Volumes.{Volume}
 use Rattle.bfs_shift.specs.Lists.{Lists}
 use Rattle.bfs_shift.specs.Shifts.{volume_in}
@@ -34,21 +33,8 @@ use Rattle.bfs_calls.specs.declared.indices.BuiltIn.{BuiltIn}
 use Rattle.bfs_calls.proofs.Allowed.{ones, AllLeast, least_joined, rows_least, least_index, least_built, built_count}
 use Rattle.bfs_remove_node.specs.Counted.{listed_among}
 use Rattle.bfs_remove_node.specs.Removed.{MayBeRemoved, IsChildAt}
+use Rattle.bfs_unmake.proofs.Streams.{alone_few}
 use Rattle.bfs_remove_node.proofs.Indexed.{index_there, rows_count}
-
--- the blocks of streams alone are no more than with their array blocks
-alone_few : (v : Volume) (os : List Owner) → left_alone v os ≤ streams_length v os
-alone_few v [] = omega arith
-alone_few v (o ∷ os) =
-    let one : left_alone v (o ∷ os) ≡ cond o.1 0 (length (stream_blocks v o.0)) + left_alone v os = sum_by-cons (λ (x : Owner). cond x.1 0 (length (stream_blocks v x.0))) o os in
-    let two : streams_length v (o ∷ os) ≡ cond o.1 0 (stream_length v o.0) + streams_length v os = sum_by-cons (λ (x : Owner). cond x.1 0 (stream_length v x.0)) o os in
-    let rest : left_alone v os ≤ streams_length v os = alone_few v os in
-    let here : cond o.1 0 (length (stream_blocks v o.0)) ≤ cond o.1 0 (stream_length v o.0) = by_kind o.1 in
-    omega (arith, one, two, rest, here)
-  where
-    by_kind : (b : Bool) → cond b 0 (length (stream_blocks v o.0)) ≤ cond b 0 (stream_length v o.0)
-    by_kind true = omega arith
-    by_kind false = omega arith
 
 none_before : (n : ℕ) → 0 + 0 + n ≡ n
 none_before n = omega arith

@@ -8,7 +8,7 @@ use Rattle.bfs_pages.specs.Maps.{assoc}
 use Rattle.bfs_pages.specs.Order.{Key}
 use Rattle.bfs_stream.specs.declared.fault.GrowFault.{GrowFault}
 use Rattle.bfs_maps.specs.Refused.{IsUndone, IsTakeFault}
-use Rattle.bfs_remove_node.specs.Faults.{take_fault}
+use Rattle.bfs_calls.specs.Faults.{take_fault}
 
 pub take_undone : (rows : List Row) (name : Key) (value : ℤ) (directory : ℕ) (f : TreeFault GrowFault) → assoc Text rows name ≡ Some value → IsTakeFault Text rows name f → IsUndone (take_fault directory f)
 take_undone rows name value directory tree.Exists there bad = bad

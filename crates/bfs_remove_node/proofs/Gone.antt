@@ -35,7 +35,7 @@ use Rattle.bfs_leave.proofs.Steps.{goes_on_gives, gives_back_twice}
 use Rattle.bfs_unlist.specs.Without.{HasUnlisted, HasNodeIn}
 use Rattle.bfs_unmake.specs.Whole.{HoldsNode}
 use Rattle.bfs_calls.specs.Made.{with_touched}
-use Rattle.bfs_calls.proofs.Stepping.{one_map}
+use Rattle.bfs_make.proofs.Telling.{one_map}
 use Rattle.bfs_moves.proofs.Ends.{goes_on_twice}
 use Rattle.bfs_remove_node.specs.Removed.{MayBeRemoved, IsChildAt, IsRemovedIn}
 use Rattle.bfs_remove_node.proofs.Refusing.{none_held}

@@ -1,17 +1,13 @@
 -- How many blocks the streams of a node have.
-use Rattle.std.proofs.Common.{◌≡◌, ◌≤◌, ◌<◌, ◌+◌, ℕ, List, [], ◌∷◌, ◌++◌, length, min, refl, sym, ap, ◌∙◌, arith, inl, inr, Bool, true, false, cond, Option}
+use Rattle.std.proofs.Common.{◌≡◌, ◌<◌, ◌+◌, ℕ, List, [], ◌∷◌, ◌++◌, length, sym, ap, ◌∙◌, arith, inl, inr, Bool, true, false, cond, Option}
 use Rattle.std.specs.Prelude.{IsSome}
-use Rattle.std.specs.List.{flat_map, AllByRecursion}
+use Rattle.std.specs.List.{flat_map}
 use Rattle.std.proofs.lemmas.List.Sums.{sum_by-cons}
 use Rattle.bfs_base.specs.Lists.{times, Has}
 use Rattle.bfs_super.specs.declared.geometry.Geometry.{Geometry}
-use Rattle.bfs_stream.specs.Places.{HasStream, fields, places_at, arrays_at}
+use Rattle.bfs_stream.specs.Places.{HasStream, arrays_at}
 use Rattle.bfs_stream.proofs.Doubles.{times-append}
-use Rattle.bfs_stream.specs.Scans.{ends_of, last_end}
-use Rattle.bfs_stream.specs.Sizes.{Sizes, HasSizes}
 use Rattle.bfs_stream.specs.Told.{contents}
-use Rattle.bfs_stream.proofs.Named.{direct_blocks, indirect_blocks, double_blocks}
-use Rattle.bfs_stream.proofs.Placed.{ends_are, last_is, length-places}
 use Rattle.bfs_tree.specs.Trees.{Node}
 use Rattle.bfs_sound.specs.Attributes.{attribute_directory, attribute_inodes}
 use Rattle.bfs_sound.specs.Inodes.{stream_blocks, frame_blocks}
@@ -21,27 +17,8 @@ use Rattle.bfs_shift.specs.Shifts.{volume_in}
 use Rattle.bfs_leave.specs.Given.{AreLoose}
 use Rattle.bfs_unmake.specs.Whole.{stream_inodes}
 use Rattle.bfs_calls.specs.Allowances.{left_alone}
-use Rattle.bfs_remove_node.specs.Counted.{HaveStreams, streams_among}
-
--- the last range of an inode says how many blocks its stream has
-pub length_is : (s : Sizes) (blocks : ℕ → List ℕ) (id : ℕ) → HasSizes s → HasStream s blocks id → last_end (ends_of s (fields s blocks id)) ≡ length (places_at s blocks id)
-length_is s blocks id sizes stands =
-    let ends = ends_of s (fields s blocks id) in
-    let are = ends_are s blocks id sizes stands in
-    last_is ends.direct ends.indirect ends.double (length (direct_blocks s blocks id)) (length (indirect_blocks s blocks id)) (length (double_blocks s blocks id)) are.direct are.indirect are.double are.order
-    ∙ sym (length-places s blocks id)
-
--- one stream more, where no more than so many are counted
-pub next_least : (a x rest most : ℕ) → min (min (a + min x most) most + rest) most ≡ min (a + (x + rest)) most
-next_least a x rest most = grind arith
-
-pub last_least : (a most : ℕ) → a ≤ most → a ≡ min (a + 0) most
-last_least a most le = grind (arith, le)
-
--- each element of a list that has this property
-all_from : {P : ℕ → Type 0} (ids : List ℕ) → ((id : ℕ) → In id ids → P id) → AllByRecursion P ids
-all_from [] each = tt
-all_from (id ∷ ids) each = (each id (inl refl), all_from ids (λ k i. each k (inr i)))
+use Rattle.bfs_unmake.specs.Counted.{HaveStreams, streams_among}
+use Rattle.bfs_unmake.proofs.Streams.{all_from, with_all}
 
 one_first : (k : ℕ) (l : List ℕ) → times k (k ∷ l) ≡ 1 + times k l
 one_first k l = grind arith
@@ -64,14 +41,6 @@ own_first v id (x ∷ ids) (inr later) =
 -- inodes that would be loose once their node has left have streams, and are told
 pub have_streams : (g : Geometry) (m : ℕ → Option (List ℕ)) (ids : List ℕ) → AreLoose g m ids → HaveStreams g m ids
 have_streams g m ids loose = all_from {P = λ id. IsSome (m id) × HasStream (sizes g) (contents m) id} ids (λ id i. (loose.told id (own_first (volume_in g m) id ids i), loose.streams id i))
-
--- the streams of owners that have them are those of their inodes
-with_all : (v : Volume) (ids : List ℕ) → left_alone v (with_streams ids) ≡ streams_among v ids
-with_all v [] = refl
-with_all v (id ∷ ids) =
-    let one : left_alone v (with_streams (id ∷ ids)) ≡ length (stream_blocks v id) + left_alone v (with_streams ids) = sum_by-cons (λ (o : Owner). cond o.1 0 (length (stream_blocks v o.0))) (id, false) (with_streams ids) in
-    let two : streams_among v (id ∷ ids) ≡ length (stream_blocks v id) + streams_among v ids = sum_by-cons (λ (k : ℕ). length (stream_blocks v k)) id ids in
-    one ∙ ap (λ (n : ℕ). length (stream_blocks v id) + n) (with_all v ids) ∙ sym two
 
 none_more : (n : ℕ) → 0 + n ≡ n
 none_more n = omega arith

@@ -1,4 +1,3 @@
 pub mod Counted
-pub mod Faults
 pub mod Refused
 pub mod Removed

@@ -11,8 +11,8 @@ ghost use Rattle.bfs_look.specs.Ready.{IsReady, HasReady};
 ghost use Rattle.bfs_remove_node.specs.Refused.{found_in, refused_by};
 ghost use Rattle.bfs_remove_node.specs.Removed.{MayBeRemoved, IsChildAt};
 
-use crate::fault::damaged;
 use bfs_bitmap::Bitmap;
+use bfs_calls::damaged;
 use bfs_look::lookup;
 use bfs_make::blocks_in;
 use bfs_stream_pages::MapFault;

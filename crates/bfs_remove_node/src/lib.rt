@@ -5,7 +5,6 @@
 mod allowance;
 mod child;
 mod conflict;
-mod fault;
 mod full;
 mod laws;
 mod listed;

@@ -17,8 +17,8 @@ ghost use Rattle.bfs_shift.specs.Work.{IsAtWork, IsStepped, HasDirectoryAt};
 ghost use Rattle.bfs_calls.specs.Done.{HasAnswerCause};
 ghost use Rattle.bfs_calls.specs.Made.{with_touched};
 
-use crate::fault::{blocked, not_taken};
 use bfs_bitmap::Bitmap;
+use bfs_calls::{blocked, not_taken};
 use bfs_leave::take_name;
 use bfs_moves::stamp_directory;
 use bfs_stream_pages::MapFault;

@@ -14,9 +14,9 @@ ghost use Rattle.bfs_calls.specs.Refusals.{is_own};
 
 use crate::child::{child_in, refusal_by};
 use crate::conflict::held_by;
-use crate::fault::damaged;
 use crate::full::is_full;
 use bfs_bitmap::Bitmap;
+use bfs_calls::damaged;
 use bfs_look::lookup;
 use bfs_make::blocks_in;
 use bfs_stream_pages::MapFault;

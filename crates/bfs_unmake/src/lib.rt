@@ -3,8 +3,10 @@
 // volume is `IsLeft` in the specs/Leaving.antt of bfs_leave.
 #![tactic(auto)]
 
+mod counting;
 mod giving;
 mod inodes;
 
+pub use counting::streams_length;
 pub use giving::give_node;
 pub use inodes::{stands_alone, stream_inodes};

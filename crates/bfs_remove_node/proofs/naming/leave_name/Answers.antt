@@ -8,7 +8,7 @@ use Rattle.bfs_maps.specs.Refused.{IsUndone}
 use Rattle.bfs_shift.specs.Lists.{with_rows}
 use Rattle.bfs_shift.specs.Work.{IsStepped}
 use Rattle.bfs_calls.specs.Made.{with_touched}
-use Rattle.bfs_calls.proofs.Stepping.{stepped_twice}
+use Rattle.bfs_moves.proofs.Stepping.{stepped_twice}
 use Rattle.bfs_remove_node.proofs.Faulty.{take_undone}
 use Rattle.bfs_remove_node.proofs.naming.leave_name.Goals as goal
 

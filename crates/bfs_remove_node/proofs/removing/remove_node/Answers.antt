@@ -12,7 +12,7 @@ use Rattle.bfs_unlist.specs.Without.{HasUnlisted, HasNodeIn}
 use Rattle.bfs_leave.proofs.Standing.{same_standing}
 use Rattle.bfs_calls.specs.Made.{with_touched}
 use Rattle.bfs_calls.proofs.Faulting.{read_cause, cause_earlier}
-use Rattle.bfs_calls.proofs.Stepping.{told_back}
+use Rattle.bfs_make.proofs.Telling.{told_back}
 use Rattle.bfs_remove_node.proofs.Gone.{node_in, node_there, node_apart, directory_at, numbers, row_still, gives, still, holds_at, removed_in}
 use Rattle.bfs_remove_node.proofs.removing.remove_node.Goals as goal
 

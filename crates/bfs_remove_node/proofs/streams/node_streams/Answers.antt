@@ -6,7 +6,7 @@ use Rattle.bfs_shift.proofs.AtWork.{inode_told}
 use Rattle.bfs_leave.proofs.Owned.{alone_is}
 use Rattle.bfs_unmake.specs.Whole.{stream_inodes}
 use Rattle.bfs_unmake.proofs.Gone.{node_bears, node_reads, node_loosened}
-use Rattle.bfs_remove_node.specs.Counted.{HaveStreams, streams_among}
+use Rattle.bfs_unmake.specs.Counted.{HaveStreams, streams_among}
 use Rattle.bfs_remove_node.proofs.Lengths.{have_streams, owners_among}
 use Rattle.bfs_remove_node.proofs.streams.node_streams.Goals as goal
 

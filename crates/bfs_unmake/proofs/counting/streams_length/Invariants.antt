@@ -2,8 +2,8 @@ use Rattle.std.proofs.Common.{◌≡◌, ◌≤◌, ◌+◌, ℕ, List, Option, 
 use Rattle.bfs_super.specs.Geometry.{geometry_of}
 use Rattle.bfs_txn.specs.Faults.{AreLater}
 use Rattle.bfs_shift.specs.Shifts.{volume_in}
-use Rattle.bfs_remove_node.specs.Counted.{HaveStreams, streams_among}
-use Rattle.bfs_remove_node.proofs.streams.streams_length.Given as goal
+use Rattle.bfs_unmake.specs.Counted.{HaveStreams, streams_among}
+use Rattle.bfs_unmake.proofs.counting.streams_length.Given as goal
 
 abbrev pub invariant-loop-id : goal.invariant-loop-id
 invariant-loop-id g l = record {

@@ -1,0 +1,15 @@
+pub mod Alike
+pub mod Exchange
+pub mod Inode
+pub mod Changed
+pub mod Stamps
+pub mod Refusing
+pub mod Keys
+pub mod Holding
+pub mod Names
+pub mod Lost
+pub mod Pairs
+pub mod Under
+pub mod Whole
+pub mod Leaves
+pub mod Allowing

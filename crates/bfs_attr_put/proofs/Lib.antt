@@ -1,0 +1,11 @@
+pub mod Keyed
+pub mod Refusing
+pub mod Faulting
+pub mod Naming
+pub mod Gained
+pub mod Relisted
+pub mod Whole
+pub mod Missing
+pub mod Good
+pub mod Dues
+pub mod Allowing

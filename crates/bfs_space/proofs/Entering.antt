@@ -30,7 +30,7 @@ use Rattle.bfs_space.proofs.Turned.{outside_for, outside_turn, outside_unsynced}
 use Rattle.bfs_core.proofs.Notes.{note_entered, note_set}
 use Rattle.bfs_core.specs.Spaces.{noted}
 use Rattle.bfs_device.specs.Phases.{none}
-use Rattle.bfs_sound.specs.Need.{logged_need}
+use Rattle.bfs_sound.specs.Need.{logged_need, need}
 use Rattle.bfs_shift.specs.Shifts.{volume_in}
 use Rattle.bfs_space.specs.Replies.{IsDoneWithin, IsOutside, IsReplied}
 use Rattle.bfs_space.specs.Answered.{IsWithin}
@@ -83,13 +83,16 @@ module _ (t0 : Mounted) (old : SpaceBooks) (m : ℕ → Option (List ℕ)) (face
         };
         caused = inl (record {
           own = done.own;
-          within = subst (λ (x : Room). IsWithin need old.room x m old.view.group books.view.group) (sym room) (subst (λ (v : SpaceView). IsWithin need old.room new m old.view.group v.group) (sym view) done.within);
+          within = subst (λ (x : Room). IsWithin logged taken old.room x m old.view.group books.view.group) (sym room) (subst (λ (v : SpaceView). IsWithin logged taken old.room new m old.view.group v.group) (sym view) done.within);
           unchanged = λ no. (ap (λ (v : SpaceView). v.group) view ∙ (done.unchanged no).0, ap (λ (x : Room). x.tally.used) room ∙ (done.unchanged no).1);
         });
       }
         where
-          need : ℕ
-          need = logged_need (volume_in (geometry_of old.view.sup) (over old.view.group m)) (after t0 old.view.history) call
+          logged : ℕ
+          logged = logged_need (volume_in (geometry_of old.view.sup) (over old.view.group m)) (after t0 old.view.history) call
+
+          taken : ℕ
+          taken = need (volume_in (geometry_of old.view.sup) (over old.view.group m)) (after t0 old.view.history) call
 
       pub entered_with : (history : List Entry) (promised : List ℕ) (stop : Option Stop) (left : ℕ) → history ≡ old.view.history ++ entry ∷ []
           → HasEntered t0 old (record { view = record old.view { used = new.tally.used; group = group; history = history; given = new.given }; room = new; promised = promised; stop = stop; left = left }) m session tag now call

@@ -20,6 +20,7 @@ use Rattle.bfs_sound.specs.Owners.{IsMetadata}
 use Rattle.bfs_shift.specs.Shifts.{volume_in}
 use Rattle.bfs_core.specs.Spaces.{IsFresh}
 use Rattle.bfs_core.proofs.Masks.{data_of, data_when}
+use Rattle.bfs_space.specs.declared.answers.Allowance.{Allowance}
 use Rattle.bfs_space.specs.declared.keep.Unkept.{Unkept}
 use Rattle.bfs_space.specs.declared.keep.Unkept.TheVariants.{Damaged, TooMany, Beyond}
 use Rattle.bfs_space.specs.declared.calling.CallFault.TheVariants as calling
@@ -156,14 +157,14 @@ no_stray sup v room m map tree after before now mark block sealed called stray =
     by_change (inr now_is) = stray.stray (data_when sup block now_is.0.0 0 now_is.0.1)
 
 -- so a call that is answered over a volume that is told is kept, but for want of room in the log or of what it is allowed
-pub kept_but : (sup : Super) (v room : Room) (m : ℕ → Option (List ℕ)) (tree : Tree) (holds : List Hold) (stamp : ℤ) (call : Call) (reply : Reply) (told : Option (ℕ → Option (List ℕ))) (before now : List (ℕ × List ℕ)) (mark allowed was : ℕ) (why : Unkept) → MayBeSealed (layout_of sup) sup.block_size before
+pub kept_but : (sup : Super) (v room : Room) (m : ℕ → Option (List ℕ)) (tree : Tree) (holds : List Hold) (stamp : ℤ) (call : Call) (reply : Reply) (told : Option (ℕ → Option (List ℕ))) (before now : List (ℕ × List ℕ)) (mark : ℕ) (allowed : Allowance) (was : ℕ) (why : Unkept) → MayBeSealed (layout_of sup) sup.block_size before
     → IsAnswered (geometry_of sup) v room m tree holds stamp call reply told (is_changed before) (is_changed now) → IsUnfit (layout_of sup) allowed was room.tally.used now mark why → IsCallFault (calling.Unkept why)
 kept_but sup v room m tree holds stamp call reply told before now mark allowed was (Damaged block) sealed answered unfit = no_stray sup v room m answered.map tree answered.after before now mark block sealed answered.called unfit
 kept_but sup v room m tree holds stamp call reply told before now mark allowed was (TooMany blocks) sealed answered unfit = tt
 kept_but sup v room m tree holds stamp call reply told before now mark allowed was Beyond sealed answered unfit = tt
 
 -- and in that case those of the open group and of the call are more than it takes
-pub crowding_of : (l : Layout) (allowed was used : ℕ) (now : List (ℕ × List ℕ)) (mark : ℕ) (why : Unkept) → IsUnfit l allowed was used now mark why → IsCrowding l allowed mark (calling.Unkept why)
+pub crowding_of : (l : Layout) (allowed : Allowance) (was used : ℕ) (now : List (ℕ × List ℕ)) (mark : ℕ) (why : Unkept) → IsUnfit l allowed was used now mark why → IsCrowding l allowed.logged mark (calling.Unkept why)
 crowding_of l allowed was used now mark (TooMany blocks) unfit = (subst (λ (n : ℕ). l.len ≤ n + ceil n 126) (sym unfit.1) unfit.0, unfit.2)
 crowding_of l allowed was used now mark (Damaged block) unfit = tt
 crowding_of l allowed was used now mark Beyond unfit = tt

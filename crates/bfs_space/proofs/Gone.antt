@@ -1,15 +1,17 @@
 -- What calls answer that take something out.
-use Rattle.std.proofs.Common.{◌≡◌, ℕ, ℤ, List, Bool, true, false, Option, Some, None, refl, sym, ◌∙◌}
+use Rattle.std.proofs.Common.{◌≡◌, ℕ, ℤ, List, [], ◌∷◌, Bool, true, false, Option, Some, None, refl, sym, ◌∙◌}
 use Rattle.std.specs.FinMap.{get, remove}
+use Rattle.std.specs.Prelude.{is_none, IsSome}
 use Rattle.bfs_base.specs.declared.kind.KeyKind.{KeyKind}
-use Rattle.bfs_tree.specs.declared.call.Call.TheVariants.{Remove, IndexRemove}
-use Rattle.bfs_tree.specs.declared.reply.Reply.TheVariants.{Done, NoIndex, BuiltIn}
+use Rattle.bfs_tree.specs.declared.call.Call.TheVariants.{Remove, AttrRemove, IndexRemove}
+use Rattle.bfs_tree.specs.declared.reply.Reply.TheVariants.{Done, NotFound, NoAttr, NoIndex, BuiltIn}
 use Rattle.bfs_tree.specs.declared.state.Hold.{Hold}
-use Rattle.bfs_tree.specs.Changes.{removed}
-use Rattle.bfs_tree.specs.Refusals.{is_built_in, own_refusal}
+use Rattle.bfs_tree.specs.Changes.{changed, removed}
+use Rattle.bfs_tree.specs.Refusals.{at_node, first, is_built_in, own_refusal}
 use Rattle.bfs_tree.specs.States.{State}
 use Rattle.bfs_tree.specs.Steps.{ByTree}
-use Rattle.bfs_tree.specs.Trees.{Tree, child}
+use Rattle.bfs_tree.specs.Trees.{Attribute, Node, Tree, child}
+use Rattle.bfs_attr_calls.specs.Removed.{HasAttributeAt}
 use Rattle.bfs_remove_index.specs.Removed.{IsOwnIndex}
 use Rattle.bfs_remove_index.proofs.Refusing.{no_such_index, is_there_so}
 use Rattle.bfs_space.specs.Answered.{AnswersIn}
@@ -34,3 +36,21 @@ own_index s name fine = by_kind (get s.tree.indices name) refl (is_built_in name
     by_kind None there built is = absurd (let bad : None ≡ Some NoIndex = sym fine ∙ no_such_index s name there in cc)
     by_kind (Some kind) there true is = absurd (let bad : None ≡ Some BuiltIn = sym fine ∙ is_there_so s name kind true there is in cc)
     by_kind (Some kind) there false is = record { kind = kind; there = there; other = is }
+
+-- of an attribute that is removed
+pub unattributed_answers : (tree after : Tree) (holds : List Hold) (id : ℕ) (name : List ℕ) (stamp : ℤ) → ((s : State) → s.tree ≡ tree → own_refusal (AttrRemove id name) s ≡ None)
+    → ((s : State) → s.tree ≡ tree → (changed 0 stamp (AttrRemove id name) Done s).tree ≡ after) → AnswersIn stamp (AttrRemove id name) Done tree holds after
+unattributed_answers tree after holds id name stamp fine follows = λ s same held.
+    (changed 0 stamp (AttrRemove id name) Done s, follows s same, λ session. ByTree.answered (fine s same) refl refl)
+
+-- a call that removes an attribute has no refusal of its own only where the node is there and has it
+pub own_attribute : (s : State) (id : ℕ) (name : List ℕ) → own_refusal (AttrRemove id name) s ≡ None → HasAttributeAt s.tree id name
+own_attribute s id name fine = by_node (get s.tree.nodes id) refl fine
+  where
+    by_node : (o : Option Node) → get s.tree.nodes id ≡ o → first (at_node o (λ node. (is_none (get node.attributes name), NoAttr) ∷ [])) ≡ None → HasAttributeAt s.tree id name
+    by_node None there e = absurd (let bad : Some NotFound ≡ None = e in cc)
+    by_node (Some n) there e = record { node = n; there = there; bears = by_attribute (get n.attributes name) e }
+      where
+        by_attribute : (a : Option Attribute) → first ((is_none a, NoAttr) ∷ []) ≡ None → IsSome a
+        by_attribute None e = absurd (let bad : Some NoAttr ≡ None = e in cc)
+        by_attribute (Some a) e = refl

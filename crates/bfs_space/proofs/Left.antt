@@ -7,7 +7,9 @@ use Rattle.bfs_bitmap.specs.declared.given.Given.{Given}
 use Rattle.bfs_bitmap.specs.Bits.{in_run}
 use Rattle.bfs_bitmap.specs.Runs.{Room, IsSettled, is_reserved}
 use Rattle.bfs_tree.specs.declared.call.Call.{Call}
+use Rattle.bfs_tree.specs.declared.call.Call.TheVariants.{SetSize}
 use Rattle.bfs_tree.specs.declared.reply.Reply.{Reply}
+use Rattle.bfs_tree.specs.declared.reply.Reply.TheVariants.{Done}
 use Rattle.bfs_tree.specs.declared.state.Hold.{Hold}
 use Rattle.bfs_tree.specs.Trees.{Tree}
 use Rattle.bfs_sound.specs.Owners.{IsMetadata}
@@ -19,6 +21,8 @@ use Rattle.bfs_leave.specs.Laws.{IsCallLeft, StaysSo}
 use Rattle.bfs_leave.specs.Leaving.{GivesBack, IsLeft}
 use Rattle.bfs_leave.proofs.Steps.{call_is_left}
 use Rattle.bfs_look.specs.Ready.{IsReady}
+use Rattle.bfs_set_size.specs.Sized.{IsSizedSo}
+use Rattle.bfs_set_size.proofs.Steps.{sized_is_left}
 use Rattle.bfs_core.specs.Spaces.{IsFresh}
 use Rattle.bfs_space.specs.Called.{IsCalled, StaysAs}
 use Rattle.bfs_space.specs.Answered.{AnswersIn, IsAnswered}
@@ -37,11 +41,8 @@ fresh_behind : (gs more : List Given) (k : ℕ) → IsFresh more k → IsFresh (
 fresh_behind [] more k fresh = fresh
 fresh_behind (g ∷ gs) more k fresh = inr (fresh_behind gs more k fresh)
 
-module _ (g : Geometry) (v now : Room) (m map : ℕ → Option (List ℕ)) (tree after : Tree) (before lists : Lists) (old new : ℕ → Bool) (ready : IsReady g v m tree before) (settled : IsSettled v)
-    (work : IsAtWork g now map after lists []) (agrees : Agrees after lists) (root : after.root ≡ tree.root) (gives : GivesBack g v now m map tree after old new) where
-  left : IsCallLeft g v now m map tree after old new
-  left = call_is_left g v now m map tree after before lists old new settled ready.reserved ready.work work gives
-
+module _ (g : Geometry) (v now : Room) (m map : ℕ → Option (List ℕ)) (tree after : Tree) (lists : Lists) (old new : ℕ → Bool)
+    (work : IsAtWork g now map after lists []) (agrees : Agrees after lists) (root : after.root ≡ tree.root) (left : IsCallLeft g v now m map tree after old new) where
   fresh : (k : ℕ) → is_reserved left.given k ≡ true → IsFresh now.given k
   fresh k is = subst (λ (gs : List Given). IsFresh gs k) (sym left.longer) (fresh_behind v.given left.given k (fresh_of left.given k left.unnumbered is))
 
@@ -54,8 +55,8 @@ module _ (g : Geometry) (v now : Room) (m map : ℕ → Option (List ℕ)) (tree
   by_change k (inr (apart, inl meta)) = inr (apart, inl meta)
   by_change k (inr (apart, inr is)) = inr (apart, inr (fresh k is))
 
-  pub left_is_called : IsCalled g v now m map tree after old new
-  left_is_called = record {
+  pub ended_is_called : IsCalled g v now m map tree after old new
+  ended_is_called = record {
     lists = lists;
     work = work;
     agrees = agrees;
@@ -69,6 +70,12 @@ module _ (g : Geometry) (v now : Room) (m map : ℕ → Option (List ℕ)) (tree
     set = left.set;
   }
 
+pub left_is_called : (g : Geometry) (v now : Room) (m map : ℕ → Option (List ℕ)) (tree after : Tree) (before lists : Lists) (old new : ℕ → Bool)
+    → IsReady g v m tree before → IsSettled v → IsAtWork g now map after lists [] → Agrees after lists → after.root ≡ tree.root → GivesBack g v now m map tree after old new
+    → IsCalled g v now m map tree after old new
+left_is_called g v now m map tree after before lists old new ready settled work agrees root gives =
+    ended_is_called g v now m map tree after lists old new work agrees root (call_is_left g v now m map tree after before lists old new settled ready.reserved ready.work work gives)
+
 -- its answer
 pub left_is_answered : (g : Geometry) (v now : Room) (m : ℕ → Option (List ℕ)) (tree after : Tree) (before lists : Lists) (holds : List Hold) (stamp : ℤ) (call : Call) (reply : Reply) (told : Option (ℕ → Option (List ℕ))) (old new : ℕ → Bool)
     → IsReady g v m tree before → IsSettled v → IsLeft g v now m tree after lists [] told old new → Agrees after lists → after.root ≡ tree.root → AnswersIn stamp call reply tree holds after
@@ -79,4 +86,15 @@ left_is_answered g v now m tree after before lists holds stamp call reply told o
   after = after;
   called = left_is_called g v now m left.map tree after before lists old new ready settled left.work agrees root left.gives;
   by_tree = answers;
+}
+
+-- the answer of a call that has given a file a size
+pub sized_is_answered : (g : Geometry) (v now : Room) (m : ℕ → Option (List ℕ)) (tree : Tree) (lists : Lists) (holds : List Hold) (stamp : ℤ) (id size : ℕ) (told : Option (ℕ → Option (List ℕ))) (old new : ℕ → Bool)
+    → IsReady g v m tree lists → IsSettled v → IsSizedSo g v now m tree holds stamp id size told old new → IsAnswered g v now m tree holds stamp (SetSize id size) Done told old new
+sized_is_answered g v now m tree lists holds stamp id size told old new ready settled sized = record {
+  map = sized.step.map;
+  is = sized.step.is;
+  after = sized.after;
+  called = ended_is_called g v now m sized.step.map tree sized.after sized.lists old new sized.step.work sized.agrees sized.root (sized_is_left g v now m tree lists holds stamp id size told old new settled ready sized);
+  by_tree = λ s same held. let a = sized.answers s same held in (a.0, a.1, a.3);
 }

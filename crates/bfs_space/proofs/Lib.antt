@@ -6,9 +6,11 @@ pub mod Groups
 pub mod Called
 pub mod Fits
 pub mod Within
+pub mod Alike
 pub mod Done
 pub mod Left
 pub mod Gone
+pub mod Put
 pub mod Turned
 pub mod Following
 pub mod Entering

@@ -25,8 +25,9 @@ use Rattle.bfs_tree.specs.States.{State}
 use Rattle.bfs_tree.specs.Steps.{Turn}
 use Rattle.bfs_tree.specs.Trees.{Tree}
 use Rattle.bfs_device.specs.declared.journal.Stop.{Stop}
-use Rattle.bfs_calls.specs.Done.{IsUnanswered, HasAnswerCause}
-use Rattle.bfs_sound.specs.Need.{logged_need}
+use Rattle.bfs_calls.specs.Done.{IsUnanswered}
+use Rattle.bfs_attr_put.specs.Written.{HasWriteCause}
+use Rattle.bfs_sound.specs.Need.{need}
 use Rattle.bfs_shift.specs.Shifts.{volume_in}
 use Rattle.bfs_space.specs.Replies.{HasFewRuns, array_run, takes_out, HasReplyCause, IsChange, IsNoReply, IsOutside, IsPutOff, IsReplied, IsThat, IsTooLong, reply_to, reply_to_block}
 use Rattle.bfs_space.specs.declared.replying.NoReply.{NoReply}
@@ -60,14 +61,14 @@ block_caused old new stop (block.Stopped durable faults) r is cause = let e : re
 block_caused old new stop (block.Damaged b) r is cause = let e : replies.Damaged b ≡ r = cc in subst (HasReplyCause old new stop) e tt
 block_caused old new stop block.NoMemory r is cause = absurd cc
 
-pub step_caused : (old new : Counts) (stop : Option Stop) (f : TreeFault GrowFault) (r : Reply) → reply_to f ≡ Some r → HasAnswerCause old new f → HasReplyCause old new stop r
-step_caused old new stop tree.Exists r is cause = absurd cause
-step_caused old new stop tree.Absent r is cause = absurd cause
-step_caused old new stop (tree.Damaged page sort) r is cause = absurd cc
-step_caused old new stop (tree.Pages (grow.NoRun wanted free)) r is cause = absurd cc
-step_caused old new stop (tree.Pages (grow.Full room)) r is cause = absurd cc
-step_caused old new stop (tree.Pages (grow.Block f)) r is cause = block_caused old new stop f r is cause
-step_caused old new stop tree.NoMemory r is cause = absurd cc
+pub step_caused : (blocks : ℕ) (old new : Counts) (stop : Option Stop) (f : TreeFault GrowFault) (r : Reply) → reply_to f ≡ Some r → HasWriteCause blocks old new f → HasReplyCause old new stop r
+step_caused blocks old new stop tree.Exists r is cause = absurd cause
+step_caused blocks old new stop tree.Absent r is cause = absurd cause
+step_caused blocks old new stop (tree.Damaged page sort) r is cause = absurd cc
+step_caused blocks old new stop (tree.Pages (grow.NoRun wanted free)) r is cause = absurd cc
+step_caused blocks old new stop (tree.Pages (grow.Full room)) r is cause = absurd cc
+step_caused blocks old new stop (tree.Pages (grow.Block f)) r is cause = block_caused old new stop f r is cause
+step_caused blocks old new stop tree.NoMemory r is cause = absurd cc
 
 -- what holds of the one reply that there may be
 pub that_ok : (o : Option Reply) (P : Reply → Type 0) (result : Result Reply NoReply) → IsThat o result → ((r : Reply) → o ≡ Some r → P r) → IfOk result P
@@ -87,7 +88,7 @@ outside_for g v m t holds P Q call (replies.Stopped durable faults) f w = tt
 outside_for g v m t holds P Q call _ f w = absurd w
 
 pub put_off_for : (g : Geometry) (v : Room) (m : ℕ → Option (List ℕ)) (begun : ℕ) (t : Tree) (holds : List Hold) (P Q : Type 0) (call : Call) → (Q → P) → IsPutOff g v m begun t holds P call → IsPutOff g v m begun t holds Q call
-put_off_for g v m begun t holds P Q call f w = record { change = w.change; busy = λ q. w.busy (f q); needed = w.needed; within = w.within; why = w.why }
+put_off_for g v m begun t holds P Q call f w = record { change = w.change; busy = λ q. w.busy (f q); needed = w.needed; why = w.why }
 
 -- a call that was turned away is a turn, which leaves the state as it was
 pub outside_turn : (g : Geometry) (v : Room) (m : ℕ → Option (List ℕ)) (Idle : Type 0) (session : ℕ) (stamp : ℤ) (call : Call) (r : Reply) (s : State) → IsOutside g v m s.tree s.holds Idle call r → Turn session stamp call r s s
@@ -105,10 +106,10 @@ pub longer : (g : Geometry) (n k : ℕ) → n ≤ k → IsTooLong g n → IsTooL
 longer g n k le long = let more : n + ceil n 126 ≤ k + ceil k 126 = grind (arith, le) in omega (arith, long, more)
 
 -- a call that found no run is put off where space is short
-pub put_off_of : (g : Geometry) (v : Room) (m : ℕ → Option (List ℕ)) (begun : ℕ) (t : Tree) (holds : List Hold) (Idle : Type 0) (call : Call) (needed : ℕ) (e : NoReply) → IsChange t holds call → ¬ Idle → takes_out call ≡ false → needed ≤ logged_need (volume_in g m) t call
+pub put_off_of : (g : Geometry) (v : Room) (m : ℕ → Option (List ℕ)) (begun : ℕ) (t : Tree) (holds : List Hold) (Idle : Type 0) (call : Call) (needed : ℕ) (e : NoReply) → IsChange t holds call → ¬ Idle → takes_out call ≡ false → needed ≤ need (volume_in g m) t call
     → (e ≡ Drain → HasFewRuns v m 1 needed ⊎ HasFewRuns v m (array_run v) needed) → IsNoReply g v m begun t holds Idle call e
 put_off_of g v m begun t holds Idle call needed NoMemory change busy takes within few = tt
-put_off_of g v m begun t holds Idle call needed Drain change busy takes within few = record { change = change; busy = busy; needed = needed; within = within; why = inr (takes, few refl) }
+put_off_of g v m begun t holds Idle call needed Drain change busy takes within few = record { change = change; busy = busy; needed = needed; why = inr (within, takes, few refl) }
 
 -- a reply that comes from outside, after nothing has changed
 pub away : (g : Geometry) (v new : Room) (m : ℕ → Option (List ℕ)) (before now : List (ℕ × List ℕ)) (t : Tree) (holds : List Hold) (Idle : Type 0) (stamp : ℤ) (call : Call) (r : Reply) → new ≡ v → now ≡ before → IsOutside g v (over before m) t holds Idle call r → IsReplied g v new m before now t holds Idle stamp call r

@@ -41,9 +41,9 @@ behind ps zero k other = has_newest ps k other
 behind [] (suc n) k other = absurd (other refl)
 behind (p ∷ ps) (suc n) k other = behind ps n k (λ e. other (ap (λ (o : Option (List ℕ)). or_else o (cond (k == p.0) (Some p.1) None)) e))
 
-module _ (v room : Room) (m : ℕ → Option (List ℕ)) (before now kept : List (ℕ × List ℕ)) (mark allowed : ℕ) (same : take mark now ≡ before) (reads : (k : ℕ) → newest kept k ≡ newest now k)
-    (few : length now ≤ mark + allowed) (rise : room.tally.used ≤ v.tally.used + allowed) where
-  pub within : IsWithin allowed v (room_kept room) m before kept
+module _ (v room : Room) (m : ℕ → Option (List ℕ)) (before now kept : List (ℕ × List ℕ)) (mark logged taken : ℕ) (same : take mark now ≡ before) (reads : (k : ℕ) → newest kept k ≡ newest now k)
+    (few : length now ≤ mark + logged) (rise : room.tally.used ≤ v.tally.used + taken) where
+  pub within : IsWithin logged taken v (room_kept room) m before kept
   within = record {
     changed = blocks_of (drop mark now);
     few = let a = blocks_many (drop mark now) in let b = length-drop mark now in omega (arith, few, a, b);
@@ -52,12 +52,12 @@ module _ (v room : Room) (m : ℕ → Option (List ℕ)) (before now kept : List
   }
 
 -- a call that changed nothing
-pub within_none : (v : Room) (m : ℕ → Option (List ℕ)) (before : List (ℕ × List ℕ)) (allowed : ℕ) → IsWithin allowed v (room_kept v) m before before
-within_none v m before allowed = record { changed = []; few = omega arith; are = λ k other. absurd (other refl); used = omega arith }
+pub within_none : (v : Room) (m : ℕ → Option (List ℕ)) (before : List (ℕ × List ℕ)) (logged taken : ℕ) → IsWithin logged taken v (room_kept v) m before before
+within_none v m before logged taken = record { changed = []; few = omega arith; are = λ k other. absurd (other refl); used = omega arith }
 
 -- fewer are no more than more
-pub within_more : (few more : ℕ) (v new : Room) (m : ℕ → Option (List ℕ)) (before now : List (ℕ × List ℕ)) → few ≤ more → IsWithin few v new m before now → IsWithin more v new m before now
-within_more few more v new m before now le w = record { changed = w.changed; few = (let a = w.few in omega (arith, a, le)); are = w.are; used = (let a = w.used in omega (arith, a, le)) }
+pub within_more : (few more takes most : ℕ) (v new : Room) (m : ℕ → Option (List ℕ)) (before now : List (ℕ × List ℕ)) → few ≤ more → takes ≤ most → IsWithin few takes v new m before now → IsWithin more most v new m before now
+within_more few more takes most v new m before now le lt w = record { changed = w.changed; few = (let a = w.few in omega (arith, a, le)); are = w.are; used = (let a = w.used in omega (arith, a, lt)) }
 
 -- ---- no block waits for a seal
 

@@ -1,5 +1,5 @@
 -- What a call's answer makes of a volume, and when its changes may be kept.
-use Rattle.std.specs.Prelude.{◌≡◌, ◌≢◌, ◌≤◌, ◌<◌, ◌+◌, ◌⊎◌, ℕ, ℤ, List, [], length, map, Bool, Option, Some}
+use Rattle.std.specs.Prelude.{◌≡◌, ◌≢◌, ◌≤◌, ◌<◌, ◌+◌, ◌⊎◌, ℕ, ℤ, List, [], length, map, max, Bool, Option, Some}
 use Rattle.bfs_base.specs.Lists.{Has}
 use Rattle.bfs_super.specs.declared.geometry.Geometry.{Geometry}
 use Rattle.bfs_super.specs.Conditions.{ceil}
@@ -8,17 +8,20 @@ use Rattle.bfs_bitmap.specs.Runs.{Room, Fits, IsSettled}
 use Rattle.bfs_txn.specs.Changed.{number_at, over}
 use Rattle.bfs_txn.specs.Faults.{Counts}
 use Rattle.bfs_tree.specs.declared.call.Call.{Call}
+use Rattle.bfs_tree.specs.declared.call.Call.TheVariants as calls
 use Rattle.bfs_tree.specs.declared.reply.Reply.{Reply}
 use Rattle.bfs_tree.specs.declared.state.Hold.{Hold}
 use Rattle.bfs_tree.specs.States.{State}
 use Rattle.bfs_tree.specs.Steps.{Writes}
 use Rattle.bfs_tree.specs.Trees.{Tree}
 use Rattle.bfs_device.specs.Layouts.{Layout, IsData, ring_count}
-use Rattle.bfs_calls.specs.Done.{IsDoneSo, IsUnanswered, HasAnswerCause}
+use Rattle.bfs_calls.specs.Done.{IsDoneSo, IsUnanswered}
+use Rattle.bfs_attr_put.specs.Written.{HasWriteCause}
 use Rattle.bfs_look.specs.Ready.{IsReady}
 use Rattle.bfs_leave.specs.Leaving.{IsLeft}
 use Rattle.bfs_shift.specs.Lists.{Lists, Agrees}
 use Rattle.bfs_space.specs.Called.{IsCalled, is_changed}
+use Rattle.bfs_space.specs.declared.answers.Allowance.{Allowance}
 use Rattle.bfs_space.specs.declared.calling.CallFault.{CallFault}
 use Rattle.bfs_space.specs.declared.calling.CallFault.TheVariants as calling
 use Rattle.bfs_space.specs.declared.keep.Unkept.{Unkept}
@@ -38,16 +41,22 @@ pub record IsAnswered (g : Geometry) (v now : Room) (m : ℕ → Option (List �
   pub by_tree : AnswersIn stamp call reply tree holds after
 
 -- Why a call isn't answered, or its changes may not be kept: over a volume that is told no block is changed that no group may have; but more
--- may be changed than the log has room for, or than the call is allowed
+-- may be changed than the log has room for, or more changed or taken than the call is allowed
 abbrev pub IsCallFault : CallFault → Type 0
 IsCallFault (calling.Map fault) = IsUnanswered fault
 IsCallFault (calling.Unkept (Damaged block)) = ⊥
 IsCallFault (calling.Unkept (TooMany blocks)) = Unit {0}
 IsCallFault (calling.Unkept Beyond) = Unit {0}
 
-abbrev pub HasCallCause : Counts → Counts → CallFault → Type 0
-HasCallCause old new (calling.Map fault) = HasAnswerCause old new fault
-HasCallCause old new (calling.Unkept why) = Unit {0}
+-- the blocks that a call asks for at once, at most, where blocks have so many bytes: those of an attribute, or those of a first attribute
+-- directory, and one in other calls
+abbrev pub asked : ℕ → Call → ℕ
+asked size (calls.AttrWrite id name kind bytes) = max 1 (max (ceil 2048 size) (ceil (length bytes) size))
+asked size _ = 1
+
+abbrev pub HasCallCause : ℕ → Counts → Counts → CallFault → Type 0
+HasCallCause blocks old new (calling.Map fault) = HasWriteCause blocks old new fault
+HasCallCause blocks old new (calling.Unkept why) = Unit {0}
 
 -- the blocks that a call changed, behind so many pairs of an open group, may go into a group: they are blocks of data, and all fit the log
 pub record AreFit (l : Layout) (pairs : List (ℕ × List ℕ)) (mark : ℕ) : Type 0 where
@@ -62,16 +71,16 @@ pub record IsStray (l : Layout) (pairs : List (ℕ × List ℕ)) (mark block : �
   pub is : number_at pairs place ≡ block
   pub stray : ¬ IsData l block
 
--- why they may not, where so many blocks were used and are, and so many may be changed
-abbrev pub IsUnfit : Layout → ℕ → ℕ → ℕ → List (ℕ × List ℕ) → ℕ → Unkept → Type 0
+-- why they may not, where so many blocks were used and are, and so many may be changed and taken
+abbrev pub IsUnfit : Layout → Allowance → ℕ → ℕ → List (ℕ × List ℕ) → ℕ → Unkept → Type 0
 IsUnfit l allowed was used pairs mark (Damaged block) = IsStray l pairs mark block
-IsUnfit l allowed was used pairs mark (TooMany blocks) = (l.len ≤ ring_count pairs) × (mark + blocks ≡ length pairs) × (blocks ≤ allowed)
-IsUnfit l allowed was used pairs mark Beyond = (mark + allowed < length pairs) ⊎ (was + allowed < used) ⊎ ((length pairs ≡ 0) × (used ≢ was))
+IsUnfit l allowed was used pairs mark (TooMany blocks) = (l.len ≤ ring_count pairs) × (mark + blocks ≡ length pairs) × (blocks ≤ allowed.logged)
+IsUnfit l allowed was used pairs mark Beyond = (mark + allowed.logged < length pairs) ⊎ (was + allowed.taken < used) ⊎ ((length pairs ≡ 0) × (used ≢ was))
 
--- the blocks that a call changed are more than the log takes, with so many of the open group, and no more than it is allowed
+-- the blocks that a call changed are more than the log takes, with so many of the open group, and no more than it is allowed to change
 abbrev pub IsCrowding : Layout → ℕ → ℕ → CallFault → Type 0
-IsCrowding l allowed begun (calling.Unkept (TooMany blocks)) = (l.len ≤ begun + blocks + ceil (begun + blocks) 126) × (blocks ≤ allowed)
-IsCrowding l allowed begun _ = Unit {0}
+IsCrowding l logged begun (calling.Unkept (TooMany blocks)) = (l.len ≤ begun + blocks + ceil (begun + blocks) 126) × (blocks ≤ logged)
+IsCrowding l logged begun _ = Unit {0}
 
 -- Where no block waits for a seal, none did before, and as many are used as then.
 abbrev pub StaysIdle : Room → Room → List (ℕ × List ℕ) → List (ℕ × List ℕ) → Type 0
@@ -91,12 +100,13 @@ pub record IsKept (g : Geometry) (v new : Room) (m : ℕ → Option (List ℕ)) 
   pub fits : Fits new (over now m)
   pub by_tree : AnswersIn stamp call reply tree holds after
 
--- At most so many blocks of what is told are other ones since a call was kept, and at most so many more are used.
-pub record IsWithin (allowed : ℕ) (v new : Room) (m : ℕ → Option (List ℕ)) (before now : List (ℕ × List ℕ)) : Type 0 where
+-- At most so many blocks of what is told are other ones since a call was kept, and at most so many more are used: the first are those that the
+-- log holds, and among the second are the data blocks that a file has gained, which aren't written.
+pub record IsWithin (logged taken : ℕ) (v new : Room) (m : ℕ → Option (List ℕ)) (before now : List (ℕ × List ℕ)) : Type 0 where
   pub changed : List ℕ
-  pub few : length changed ≤ allowed
+  pub few : length changed ≤ logged
   pub are : (k : ℕ) → over now m k ≢ over before m k → Has changed k
-  pub used : new.tally.used ≤ v.tally.used + allowed
+  pub used : new.tally.used ≤ v.tally.used + taken
 
 -- A call that gives nothing back and was answered is answered as a space asks it.
 abbrev pub DoneIsAnswered : Type 0

@@ -9,7 +9,7 @@ use Rattle.bfs_tree.specs.declared.reply.Reply.{Reply}
 use Rattle.bfs_tree.specs.Histories.{Mounted, after}
 use Rattle.bfs_tree.specs.Steps.{is_done}
 use Rattle.bfs_calls.specs.Refusals.{is_own}
-use Rattle.bfs_sound.specs.Need.{logged_need}
+use Rattle.bfs_sound.specs.Need.{logged_need, need}
 use Rattle.bfs_shift.specs.Shifts.{volume_in}
 use Rattle.bfs_core.specs.Spaces.{Entered, HasSet, IsSoundOver, SameSeals}
 use Rattle.bfs_space.specs.Answered.{IsWithin}
@@ -31,16 +31,17 @@ pub record HasFace (b : SpaceBooks) (m : ℕ → Option (List ℕ)) : Type 0 whe
   pub t0 : Mounted
   pub face : IsFaceOf t0 b m
 
--- A reply that the tree alone gives: at most so many blocks have changed, and none where it is a refusal.
-pub record IsByTree (need : ℕ) (old new : SpaceBooks) (m : ℕ → Option (List ℕ)) (reply : Reply) : Type 0 where
+-- A reply that the tree alone gives: at most so many blocks have changed and at most so many more are used, and none where it is a refusal.
+pub record IsByTree (logged taken : ℕ) (old new : SpaceBooks) (m : ℕ → Option (List ℕ)) (reply : Reply) : Type 0 where
   pub own : is_own reply ≡ true
-  pub within : IsWithin need old.room new.room m old.view.group new.view.group
+  pub within : IsWithin logged taken old.room new.room m old.view.group new.view.group
   pub unchanged : is_done reply ≡ false → (new.view.group ≡ old.view.group) × (new.room.tally.used ≡ old.room.tally.used)
 
--- The tree alone gives the reply, and at most as many blocks have changed as Need says; or the call was turned away from outside, and none has.
+-- The tree alone gives the reply, and at most as many blocks have changed as Need for the log says, and at most as many more are used as Need
+-- says; or the call was turned away from outside, and none has.
 abbrev pub IsCaused : Mounted → SpaceBooks → SpaceBooks → (ℕ → Option (List ℕ)) → Call → Reply → Type 0
 IsCaused t0 old new m call reply =
-    IsByTree (logged_need (volume_in (geometry_of old.view.sup) (over old.view.group m)) (after t0 old.view.history) call) old new m reply
+    IsByTree (logged_need (volume_in (geometry_of old.view.sup) (over old.view.group m)) (after t0 old.view.history) call) (need (volume_in (geometry_of old.view.sup) (over old.view.group m)) (after t0 old.view.history) call) old new m reply
     ⊎ ((new.view.group ≡ old.view.group) × (new.room ≡ old.room) × IsOutside (geometry_of old.view.sup) old.room (over old.view.group m) (after t0 old.view.history) (holds_after t0 old.view.history) (IsIdle old) call reply)
 
 -- A call was entered: its entry may follow the history, Face stays sound with the tree after it, and what it set is in the open group; the

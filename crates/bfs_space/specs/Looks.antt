@@ -1,5 +1,5 @@
 -- What a look at a call finds of a volume.
-use Rattle.std.specs.Prelude.{◌≡◌, ◌≤◌, ◌<◌, ℕ, List, Bool, Option, None, true, false}
+use Rattle.std.specs.Prelude.{◌≡◌, ◌≤◌, ◌<◌, ◌+◌, ℕ, List, Bool, Option, None, true, false}
 use Rattle.bfs_super.specs.declared.geometry.Geometry.{Geometry}
 use Rattle.bfs_super.specs.declared.sup.Super.{Super}
 use Rattle.bfs_tree.specs.declared.call.Call.{Call}
@@ -8,43 +8,51 @@ use Rattle.bfs_tree.specs.Refusals.{own_refusal}
 use Rattle.bfs_tree.specs.States.{State}
 use Rattle.bfs_tree.specs.Steps.{Reads, changes_tree}
 use Rattle.bfs_tree.specs.Trees.{Tree}
-use Rattle.bfs_sound.specs.Need.{logged_need}
+use Rattle.bfs_sound.specs.Need.{cost_of, logged_need, need}
 use Rattle.bfs_shift.specs.Shifts.{volume_in}
 use Rattle.bfs_calls.specs.Allowances.{allowance}
 use Rattle.bfs_calls.specs.Refusals.{is_own, MayBeMade}
+use Rattle.bfs_set_size.specs.Sized.{MayBeSized}
+use Rattle.bfs_attr_put.specs.Written.{MayBear}
 use Rattle.bfs_super.specs.Conditions.{natural}
 use Rattle.bfs_tree.specs.declared.call.Call.TheVariants as calls
+use Rattle.bfs_space.specs.declared.answers.Allowance.{Allowance}
 use Rattle.bfs_space.specs.declared.answers.Looked.{Looked}
 use Rattle.bfs_space.specs.declared.answers.Looked.TheVariants.{Answered, Allowed}
 
--- A call that changes the tree has no refusal of its own in any state that has this tree and these holds. It is allowed to change so many
--- blocks, which is at most Need.
-pub record IsAllowed (g : Geometry) (m : ℕ → Option (List ℕ)) (tree : Tree) (holds : List Hold) (call : Call) (n : ℕ) : Type 0 where
+-- A call that changes the tree has no refusal of its own in any state that has this tree and these holds. Of the blocks that the log holds it is
+-- allowed to change so many, at most Need for the log; and it may take as many, and the data blocks that a file gains, at most Need.
+pub record IsAllowed (g : Geometry) (m : ℕ → Option (List ℕ)) (tree : Tree) (holds : List Hold) (call : Call) (a : Allowance) : Type 0 where
   pub changes : changes_tree call ≡ true
   pub fine : (s : State) → s.tree ≡ tree → s.holds ≡ holds → own_refusal call s ≡ None
-  pub is : n ≡ allowance (volume_in g m) tree call
-  pub within : n ≤ logged_need (volume_in g m) tree call
+  pub logged_is : a.logged ≡ allowance (volume_in g m) tree call
+  pub taken_is : a.taken ≡ a.logged + (cost_of (volume_in g m) tree call).file
+  pub logged : a.logged ≤ logged_need (volume_in g m) tree call
+  pub taken : a.taken ≤ need (volume_in g m) tree call
 
 -- The tree alone answers the call so, in every state that has it and these holds, and nothing is to be changed; or it is allowed so many blocks.
 abbrev pub IsLooked : Geometry → (ℕ → Option (List ℕ)) → Tree → List Hold → Call → Looked → Type 0
 IsLooked g m tree holds call (Answered reply) = (s : State) → s.tree ≡ tree → s.holds ≡ holds → Reads call s reply
-IsLooked g m tree holds call (Allowed n) = IsAllowed g m tree holds call n
+IsLooked g m tree holds call (Allowed a) = IsAllowed g m tree holds call a
 
 -- a reply that a look finds is one that the tree alone gives
 abbrev pub FindsOwn : Looked → Type 0
 FindsOwn (Answered reply) = is_own reply ≡ true
-FindsOwn (Allowed n) = Unit {0}
+FindsOwn (Allowed a) = Unit {0}
 
 -- what is found of a call that may be done holds whatever the volume
 abbrev pub FindsMay : (Super → Call → Type 0) → Super → Call → Looked → Type 0
 FindsMay may sup call (Answered reply) = Unit {0}
-FindsMay may sup call (Allowed n) = may sup call
+FindsMay may sup call (Allowed a) = may sup call
 
 -- the calls that are built so far
 abbrev pub is_built : Call → Bool
 is_built (calls.Make dir name kind mode) = true
 is_built (calls.SetMode id mode uid gid) = true
+is_built (calls.SetSize id size) = true
 is_built (calls.Remove dir name) = true
+is_built (calls.AttrWrite id name kind bytes) = true
+is_built (calls.AttrRemove id name) = true
 is_built (calls.IndexRemove name) = true
 is_built (calls.Lookup dir name) = true
 is_built (calls.List dir) = true
@@ -57,10 +65,15 @@ is_built (calls.IndexFind name low high) = true
 is_built _ = false
 
 -- what is found of those that change a tree: a node that may be made, its directory a block of the volume, its name and target good; a node
--- whose mode is set, a block of the volume; the directory of a node that is removed, a block of the volume; and nothing of an index
+-- whose mode is set, a block of the volume; a file that gets a size, a block of the volume, and the size not too big; the directory of a node
+-- that is removed, a block of the volume; the node of an attribute that is written, a block of the volume, its name good and its bytes not too
+-- many; and nothing of an attribute or an index that is removed
 abbrev pub MayBeDone : Super → Call → Type 0
 MayBeDone sup (calls.Make dir name kind mode) = MayBeMade (natural sup.num_blocks) dir name kind
 MayBeDone sup (calls.SetMode id mode uid gid) = id < natural sup.num_blocks
+MayBeDone sup (calls.SetSize id size) = MayBeSized (natural sup.num_blocks) id size
 MayBeDone sup (calls.Remove dir name) = dir < natural sup.num_blocks
+MayBeDone sup (calls.AttrWrite id name kind bytes) = MayBear (natural sup.num_blocks) id name bytes
+MayBeDone sup (calls.AttrRemove id name) = Unit {0}
 MayBeDone sup (calls.IndexRemove name) = Unit {0}
 MayBeDone sup _ = ⊥

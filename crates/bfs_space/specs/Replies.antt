@@ -23,7 +23,7 @@ use Rattle.bfs_tree.specs.Steps.{changes_tree, is_done}
 use Rattle.bfs_tree.specs.Trees.{Tree}
 use Rattle.bfs_calls.specs.Refusals.{is_own}
 use Rattle.bfs_device.specs.declared.journal.Stop.{Stop}
-use Rattle.bfs_sound.specs.Need.{logged_need}
+use Rattle.bfs_sound.specs.Need.{logged_need, need}
 use Rattle.bfs_shift.specs.Shifts.{volume_in}
 use Rattle.bfs_space.specs.Answered.{IsKept, IsWithin}
 use Rattle.bfs_space.specs.declared.replying.NoReply.{NoReply}
@@ -60,10 +60,10 @@ pub record IsShort (g : Geometry) (v : Room) (m : ℕ → Option (List ℕ)) (tr
   pub idle : Idle
   pub takes : takes_out call ≡ false
   pub free_is : free ≡ v.blocks - v.tally.used
-  pub within : needed ≤ logged_need (volume_in g m) tree call
+  pub within : needed ≤ need (volume_in g m) tree call
   pub why : (free < needed) ⊎ HasFewRuns v m (array_run v) needed
 
--- Room in the log is wanting, with nothing held back: so many blocks, at most Need, are more than it takes.
+-- Room in the log is wanting, with nothing held back: so many blocks, at most Need for the log, are more than it takes.
 pub record IsCrowded (g : Geometry) (m : ℕ → Option (List ℕ)) (tree : Tree) (holds : List Hold) (Idle : Type 0) (call : Call) (blocks room : ℕ) : Type 0 where
   pub change : IsChange tree holds call
   pub idle : Idle
@@ -85,24 +85,31 @@ pub record IsTurnedAway (g : Geometry) (v new : Room) (m : ℕ → Option (List 
   pub group : now ≡ before
   pub why : IsOutside g v (over before m) tree holds Idle call reply
 
--- A call was answered by the tree and kept, and has changed at most as many blocks as Need says; one that was refused has changed none.
+-- A call was answered by the tree and kept: it has changed at most as many blocks as Need for the log says, and at most as many more are used
+-- as Need says; one that was refused has changed none.
 pub record IsDoneWithin (g : Geometry) (v new : Room) (m : ℕ → Option (List ℕ)) (before now : List (ℕ × List ℕ)) (tree : Tree) (holds : List Hold) (stamp : ℤ) (call : Call) (reply : Reply) : Type 0 where
   pub kept : IsKept g v new m before now tree holds stamp call reply
   pub own : is_own reply ≡ true
   pub unchanged : is_done reply ≡ false → (now ≡ before) × (new.tally.used ≡ v.tally.used)
-  pub within : IsWithin (logged_need (volume_in g (over before m)) tree call) v new m before now
+  pub within : IsWithin (logged_need (volume_in g (over before m)) tree call) (need (volume_in g (over before m)) tree call) v new m before now
 
 abbrev pub IsReplied : Geometry → Room → Room → (ℕ → Option (List ℕ)) → List (ℕ × List ℕ) → List (ℕ × List ℕ) → Tree → List Hold → Type 0 → ℤ → Call → Reply → Type 0
 IsReplied g v new m before now tree holds Idle stamp call reply = IsDoneWithin g v new m before now tree holds stamp call reply ⊎ IsTurnedAway g v new m before now tree holds Idle call reply
 
--- A call is put off while something is held back: with the blocks of the open group those that it needs, at most Need, are more than the log
--- takes; or of so many that it needs fewer blocks are free, or fewer runs of an array's length, where reserved ones count as used.
+-- so many blocks that a call needs, at most Need for the log, are with those of an open group more than the log takes
+abbrev pub WantsLog : Geometry → (ℕ → Option (List ℕ)) → ℕ → Tree → Call → ℕ → Type 0
+WantsLog g m begun tree call needed = (needed ≤ logged_need (volume_in g m) tree call) × IsTooLong g (begun + needed)
+
+-- of so many blocks that a call needs, at most Need, fewer are free, or fewer runs of an array's length, where reserved ones count as used
+abbrev pub WantsSpace : Geometry → Room → (ℕ → Option (List ℕ)) → Tree → Call → ℕ → Type 0
+WantsSpace g v m tree call needed = (needed ≤ need (volume_in g m) tree call) × (takes_out call ≡ false) × (HasFewRuns v m 1 needed ⊎ HasFewRuns v m (array_run v) needed)
+
+-- A call is put off while something is held back, for want of room in the log or of space.
 pub record IsPutOff (g : Geometry) (v : Room) (m : ℕ → Option (List ℕ)) (begun : ℕ) (tree : Tree) (holds : List Hold) (Idle : Type 0) (call : Call) : Type 0 where
   pub change : IsChange tree holds call
   pub busy : ¬ Idle
   pub needed : ℕ
-  pub within : needed ≤ logged_need (volume_in g m) tree call
-  pub why : IsTooLong g (begun + needed) ⊎ ((takes_out call ≡ false) × (HasFewRuns v m 1 needed ⊎ HasFewRuns v m (array_run v) needed))
+  pub why : WantsLog g m begun tree call needed ⊎ WantsSpace g v m tree call needed
 
 -- why a call has no reply
 abbrev pub IsNoReply : Geometry → Room → (ℕ → Option (List ℕ)) → ℕ → Tree → List Hold → Type 0 → Call → NoReply → Type 0

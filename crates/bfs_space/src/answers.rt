@@ -17,7 +17,8 @@ ghost use Rattle.bfs_shift.specs.Lists.{Lists};
 ghost use Rattle.bfs_look.specs.Ready.{IsReady, HasReady};
 ghost use Rattle.bfs_calls.specs.Done.{IsUnanswered, HasAnswerCause};
 ghost use Rattle.bfs_calls.specs.Refusals.{is_own};
-ghost use Rattle.bfs_space.specs.Answered.{IsAnswered};
+ghost use Rattle.bfs_attr_put.specs.Written.{HasWriteCause};
+ghost use Rattle.bfs_space.specs.Answered.{IsAnswered, asked};
 ghost use Rattle.bfs_space.specs.Holds.{keeps_holds};
 ghost use Rattle.bfs_space.specs.Looks.{IsLooked, FindsMay, FindsOwn};
 
@@ -28,11 +29,20 @@ use bfs_tree::{Call, Hold, Reply};
 use bfs_txn::Edits;
 use std::alloc::Global;
 
-/// What a look at a call has found: its reply, where it only reads or is refused; or how many blocks it may change, where it is to be done.
+/// How many blocks a call may change, and how many it may take.
+#[derive(Clone, Copy, Debug)]
+pub struct Allowance {
+    /// The blocks that the call may change and the log holds.
+    pub logged: u64,
+    /// How many more blocks may be used after the call: the data blocks that a file gains, which the log doesn't hold, are among them.
+    pub taken: u64,
+}
+
+/// What a look at a call has found: its reply, where it only reads or is refused; or how many blocks it may change and take, where it is to be done.
 #[derive(Debug, Drop)]
 pub enum Looked {
     Answered(Reply),
-    Allowed(u64),
+    Allowed(Allowance),
 }
 
 /// Something that answers calls by reading and changing the blocks of a volume.
@@ -94,7 +104,7 @@ pub trait Answers {
         requires fine { (m : ℕ → Option (List ℕ)) (tree : Tree) (lists : Lists) (s : State) → E.told edits.old ≡ Some m → IsReady (geometry_of sup.now) bitmap.old m tree lists → s.tree ≡ tree → s.holds ≡ holds.now → own_refusal call.now s ≡ None }
         ensures answered { (m : ℕ → Option (List ℕ)) (tree : Tree) (lists : Lists) → E.told edits.old ≡ Some m → IsReady (geometry_of sup.now) bitmap.old m tree lists → IfOk result (λ reply. IsAnswered (geometry_of sup.now) bitmap.old bitmap.new m tree holds.now stamp call.now reply (E.told edits.new) (E.changed edits.old) (E.changed edits.new)) }
         ensures unanswered { (m : ℕ → Option (List ℕ)) (tree : Tree) (lists : Lists) → E.told edits.old ≡ Some m → IsReady (geometry_of sup.now) bitmap.old m tree lists → IfErr result IsUnanswered }
-        ensures cause { IfErr result (HasAnswerCause (E.counts edits.old) (E.counts edits.new)) }
+        ensures cause { IfErr result (HasWriteCause (asked sup.now.block_size call.now) (E.counts edits.old) (E.counts edits.new)) }
         ensures own { IfOk result (λ reply. is_own reply ≡ true) }
         ensures done { IfOk result (λ reply. is_done reply ≡ true) }
         ensures undone { as_kept bitmap.new ≡ as_kept bitmap.old }

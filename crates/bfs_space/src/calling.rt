@@ -19,10 +19,10 @@ ghost use Rattle.bfs_space.specs.Books.{MayBeSealed};
 ghost use Rattle.bfs_space.specs.Called.{is_changed};
 ghost use Rattle.bfs_look.specs.Ready.{IsReady, HasReady};
 ghost use Rattle.bfs_calls.specs.Refusals.{is_own};
-ghost use Rattle.bfs_space.specs.Answered.{IsAnswered, IsKept, IsWithin, AreFit, IsCallFault, HasCallCause, IsCrowding, StaysIdle};
+ghost use Rattle.bfs_space.specs.Answered.{IsAnswered, IsKept, IsWithin, AreFit, IsCallFault, HasCallCause, asked, IsCrowding, StaysIdle};
 
 use crate::keep::may_be_kept;
-use crate::{Answers, Unkept};
+use crate::{Allowance, Answers, Unkept};
 use bfs_bitmap::Bitmap;
 use bfs_stream_pages::MapFault;
 use bfs_super::Super;
@@ -51,7 +51,7 @@ fn answer_over<A: Answers, B: Blocks>(
     holds: &[Hold],
     call: &Call,
     stamp: i64,
-    allowed: u64,
+    allowed: Allowance,
 ) -> Result<Reply, CallFault>
     requires valid { IsValid sup.now }
     requires size { B.size overlay.old.under.now ≡ sup.now.block_size }
@@ -67,14 +67,14 @@ fn answer_over<A: Answers, B: Blocks>(
     requires fine { (m : ℕ → Option (List ℕ)) (tree : Tree) (lists : Lists) (s : State) → B.told overlay.old.under.now ≡ Some m → IsReady (geometry_of sup.now) bitmap.old (over overlay.old.group.now m) tree lists → s.tree ≡ tree → s.holds ≡ holds.now → own_refusal call.now s ≡ None }
     ensures answered { (m : ℕ → Option (List ℕ)) (tree : Tree) (lists : Lists) → B.told overlay.old.under.now ≡ Some m → IsReady (geometry_of sup.now) bitmap.old (over overlay.old.group.now m) tree lists → IfOk result (λ reply. IsAnswered (geometry_of sup.now) bitmap.old bitmap.new (over overlay.old.group.now m) tree holds.now stamp call.now reply (option_map (over overlay.new.group.now) (B.told overlay.new.under.now)) (is_changed overlay.old.group.now) (is_changed overlay.new.group.now)) }
     ensures unanswered { (m : ℕ → Option (List ℕ)) (tree : Tree) (lists : Lists) → B.told overlay.old.under.now ≡ Some m → IsReady (geometry_of sup.now) bitmap.old (over overlay.old.group.now m) tree lists → IfErr result IsCallFault }
-    ensures cause { IfErr result (HasCallCause (B.counts overlay.old.under.now) (B.counts overlay.new.under.now)) }
+    ensures cause { IfErr result (HasCallCause (asked sup.now.block_size call.now) (B.counts overlay.old.under.now) (B.counts overlay.new.under.now)) }
     ensures own { IfOk result (λ reply. is_own reply ≡ true) }
     ensures done { IfOk result (λ reply. is_done reply ≡ true) }
-    ensures crowding { IfErr result (IsCrowding (layout_of sup.now) allowed mark) }
+    ensures crowding { IfErr result (IsCrowding (layout_of sup.now) allowed.logged mark) }
     ensures later { AreLater (B.counts overlay.old.under.now) (B.counts overlay.new.under.now) }
     ensures fit { OnOk result (AreFit (layout_of sup.now) overlay.new.group.now overlay.new.mark) }
-    ensures few { OnOk result (length overlay.new.group.now ≤ mark + allowed) }
-    ensures rise { OnOk result (bitmap.new.tally.used ≤ bitmap.old.tally.used + allowed) }
+    ensures few { OnOk result (length overlay.new.group.now ≤ mark + allowed.logged) }
+    ensures rise { OnOk result (bitmap.new.tally.used ≤ bitmap.old.tally.used + allowed.taken) }
     ensures idle { OnOk result (length overlay.new.group.now ≡ 0 → bitmap.new.tally.used ≡ bitmap.old.tally.used) }
     ensures undone { as_kept bitmap.new ≡ as_kept bitmap.old }
     ensures volume { IsOfVolume (sizes_of sup.now) bitmap.new }
@@ -96,7 +96,8 @@ fn answer_over<A: Answers, B: Blocks>(
     }
 }
 
-/// Answers a call that is to be done with these holds of sessions, and keeps what it changed where it may be kept: at most so many blocks.
+/// Answers a call that is to be done with these holds of sessions, and keeps what it changed where it may be kept: where it changed and took no more
+/// blocks than it is allowed.
 /// Else the open group and the bitmap are as they were.
 pub fn answer_call<A: Answers, B: Blocks>(
     alloc: Global,
@@ -108,7 +109,7 @@ pub fn answer_call<A: Answers, B: Blocks>(
     holds: &[Hold],
     call: &Call,
     stamp: i64,
-    allowed: u64,
+    allowed: Allowance,
 ) -> Result<Reply, CallFault>
     requires valid { IsValid sup.now }
     requires size { B.size under.old ≡ sup.now.block_size }
@@ -122,13 +123,13 @@ pub fn answer_call<A: Answers, B: Blocks>(
     requires fine { (m : ℕ → Option (List ℕ)) (tree : Tree) (lists : Lists) (s : State) → B.told under.old ≡ Some m → IsReady (geometry_of sup.now) bitmap.old (over group.old m) tree lists → s.tree ≡ tree → s.holds ≡ holds.now → own_refusal call.now s ≡ None }
     ensures kept { (m : ℕ → Option (List ℕ)) (tree : Tree) (lists : Lists) → B.told under.old ≡ Some m → IsReady (geometry_of sup.now) bitmap.old (over group.old m) tree lists → IfOk result (λ reply. IsKept (geometry_of sup.now) bitmap.old bitmap.new m group.old group.new tree holds.now stamp call.now reply) }
     ensures unanswered { (m : ℕ → Option (List ℕ)) (tree : Tree) (lists : Lists) → B.told under.old ≡ Some m → IsReady (geometry_of sup.now) bitmap.old (over group.old m) tree lists → IfErr result IsCallFault }
-    ensures cause { IfErr result (HasCallCause (B.counts under.old) (B.counts under.new)) }
+    ensures cause { IfErr result (HasCallCause (asked sup.now.block_size call.now) (B.counts under.old) (B.counts under.new)) }
     ensures own { IfOk result (λ reply. is_own reply ≡ true) }
     ensures done { IfOk result (λ reply. is_done reply ≡ true) }
-    ensures crowding { IfErr result (IsCrowding (layout_of sup.now) allowed (length group.old)) }
+    ensures crowding { IfErr result (IsCrowding (layout_of sup.now) allowed.logged (length group.old)) }
     ensures later { AreLater (B.counts under.old) (B.counts under.new) }
     ensures group { MayBeSealed (layout_of sup.now) sup.now.block_size group.new }
-    ensures within { (m : ℕ → Option (List ℕ)) → OnOk result (IsWithin allowed bitmap.old bitmap.new m group.old group.new) }
+    ensures within { (m : ℕ → Option (List ℕ)) → OnOk result (IsWithin allowed.logged allowed.taken bitmap.old bitmap.new m group.old group.new) }
     ensures idle { StaysIdle bitmap.old bitmap.new group.old group.new }
     ensures settled { IsSettled bitmap.new }
     ensures volume { IsOfVolume (sizes_of sup.now) bitmap.new }

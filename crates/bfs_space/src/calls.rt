@@ -1,4 +1,5 @@
-// The calls that are built so far: those that make a node, set a mode, remove a node and remove an index, and those that only read.
+// The calls that are built so far: those that make a node, set a mode, give a file a size, write an attribute, remove a node, an attribute and an
+// index, and those that only read.
 ghost use Rattle.std.specs.Prelude.{◌≡◌, ◌≤◌, ℕ, ℤ, List, Option, Some, true, IfOk, IfErr, MatchResult, length};
 ghost use Rattle.bfs_super.specs.Conditions.{IsValid, natural};
 ghost use Rattle.bfs_super.specs.Geometry.{geometry_of};
@@ -18,8 +19,12 @@ ghost use Rattle.bfs_calls.specs.Done.{IsUnanswered, HasAnswerCause};
 ghost use Rattle.bfs_calls.specs.Refusals.{is_own};
 ghost use Rattle.bfs_space.specs.Looks.{IsLooked, FindsMay, FindsOwn, MayBeDone};
 
-use crate::taking::{drop_index, look_remove, look_remove_index, remove};
-use crate::{Answers, Looked};
+use crate::sizing::{give_size, look_set_size};
+use crate::taking::{
+    drop_attr, drop_index, look_remove, look_remove_attr, look_remove_index, remove,
+};
+use crate::writing::{look_write_attr, put_attr};
+use crate::{Allowance, Answers, Looked};
 use bfs_bitmap::Bitmap;
 use bfs_calls::{make_allowance, make_node, make_refusal, set_mode, set_mode_refusal};
 use bfs_look::{list, lookup, read_link, stat};
@@ -31,7 +36,8 @@ use bfs_tree::{Call, Hold, MakeKind, Reply};
 use bfs_txn::Edits;
 use std::alloc::Global;
 
-/// Answers Make, SetMode, Remove, IndexRemove, and the calls that only read: Lookup, List, Stat, ReadLink, AttrRead, AttrList, IndexList and IndexFind.
+/// Answers Make, SetMode, SetSize, Remove, AttrWrite, AttrRemove, IndexRemove, and the calls that only read: Lookup, List, Stat, ReadLink, AttrRead,
+/// AttrList, IndexList and IndexFind.
 #[derive(Clone, Copy, Debug, Drop)]
 pub struct Calls {}
 
@@ -118,7 +124,10 @@ fn look_make<E: Edits>(
         None => {}
     }
     match make_allowance(alloc, sup, bitmap, edits, kind) {
-        Ok(allowed) => Ok(Looked::Allowed(allowed)),
+        Ok(allowed) => Ok(Looked::Allowed(Allowance {
+            logged: allowed,
+            taken: allowed,
+        })),
         Err(fault) => Err(fault),
     }
 }
@@ -151,7 +160,10 @@ fn look_set_mode<E: Edits>(
     };
     match refused {
         Some(reply) => found(reply),
-        None => Ok(Looked::Allowed(SETTING)),
+        None => Ok(Looked::Allowed(Allowance {
+            logged: SETTING,
+            taken: SETTING,
+        })),
     }
 }
 
@@ -182,8 +194,25 @@ impl Answers for Calls {
                 ..
             } => look_make(alloc, sup, bitmap, edits, *dir, name.as_slice(), kind),
             Call::SetMode { id, .. } => look_set_mode(alloc, sup, bitmap, edits, *id),
+            Call::SetSize { id, size } => {
+                look_set_size(alloc, sup, bitmap, edits, holds, *id, *size)
+            }
             Call::Remove { dir, name } => {
                 look_remove(alloc, sup, bitmap, edits, holds, *dir, name.as_slice())
+            }
+            Call::AttrWrite {
+                id, name, bytes, ..
+            } => look_write_attr(
+                alloc,
+                sup,
+                bitmap,
+                edits,
+                *id,
+                name.as_slice(),
+                bytes.as_slice(),
+            ),
+            Call::AttrRemove { id, name } => {
+                look_remove_attr(alloc, sup, bitmap, edits, *id, name.as_slice())
             }
             Call::IndexRemove { name } => {
                 look_remove_index(alloc, sup, bitmap, edits, name.as_slice())
@@ -250,9 +279,31 @@ impl Answers for Calls {
                     Err(fault) => Err(fault),
                 }
             }
+            Call::SetSize { id, size } => {
+                give_size(alloc, sup, bitmap, edits, holds, *id, *size, stamp)
+            }
             Call::Remove { dir, name } => {
                 let name = name.as_slice();
                 remove(alloc, sup, bitmap, edits, holds, *dir, name, stamp)
+            }
+            Call::AttrWrite {
+                id,
+                name,
+                kind,
+                bytes,
+            } => put_attr(
+                alloc,
+                sup,
+                bitmap,
+                edits,
+                *id,
+                name.as_slice(),
+                *kind,
+                bytes.as_slice(),
+                stamp,
+            ),
+            Call::AttrRemove { id, name } => {
+                drop_attr(alloc, sup, bitmap, edits, *id, name.as_slice(), stamp)
             }
             Call::IndexRemove { name } => drop_index(alloc, sup, bitmap, edits, name.as_slice()),
             _ => Err(TreeFault::NoMemory),

@@ -4,20 +4,21 @@ ghost use Rattle.bfs_super.specs.Conditions.{IsValid};
 ghost use Rattle.bfs_device.specs.Layouts.{is_data, layout_of, ring_count};
 ghost use Rattle.bfs_space.specs.Answered.{AreFit, IsUnfit};
 
+use crate::Allowance;
 use bfs_bitmap::Bitmap;
 use bfs_super::Super;
 use bfs_txn::{Blocks, Overlay};
 use thiserror::Error;
 
 /// Why what a call changed isn't kept: it changed this block, which no group may have, so that what was read of the volume is
-/// damaged; or so many blocks, which with those of the open group are more than the log has room for; or more than the call is allowed.
+/// damaged; or so many blocks, which with those of the open group are more than the log has room for; or it changed or took more than it is allowed.
 #[derive(Clone, Copy, Debug, PartialEq, Eq, Error)]
 pub enum Unkept {
     #[error("block {0} can't be changed by a call")]
     Damaged(u64),
     #[error("{0} blocks are more than the log takes")]
     TooMany(u64),
-    #[error("the call changed more blocks than it may")]
+    #[error("the call changed or took more blocks than it may")]
     Beyond,
 }
 
@@ -47,23 +48,23 @@ fn is_within<B: Blocks>(
     bitmap: &Bitmap,
     mark: usize,
     was: u64,
-    allowed: u64,
+    allowed: Allowance,
 ) -> bool
     requires mark { mark ≤ length overlay.now.group.now }
-    ensures few { IsTrue result → length overlay.now.group.now ≤ mark + allowed }
-    ensures rise { IsTrue result → bitmap.now.tally.used ≤ was + allowed }
+    ensures few { IsTrue result → length overlay.now.group.now ≤ mark + allowed.logged }
+    ensures rise { IsTrue result → bitmap.now.tally.used ≤ was + allowed.taken }
     ensures idle { IsTrue result → length overlay.now.group.now ≡ 0 → bitmap.now.tally.used ≡ was }
-    ensures not { IsFalse result → (mark + allowed < length overlay.now.group.now) ⊎ (was + allowed < bitmap.now.tally.used) ⊎ ((length overlay.now.group.now ≡ 0) × (bitmap.now.tally.used ≢ was)) }
+    ensures not { IsFalse result → (mark + allowed.logged < length overlay.now.group.now) ⊎ (was + allowed.taken < bitmap.now.tally.used) ⊎ ((length overlay.now.group.now ≡ 0) × (bitmap.now.tally.used ≢ was)) }
 {
     let changed = (overlay.pairs() - mark) as u64;
-    if changed > allowed {
+    if changed > allowed.logged {
         return false;
     }
     let used = bitmap.used();
     if overlay.pairs() == 0 && used != was {
         return false;
     }
-    used <= was || used - was <= allowed
+    used <= was || used - was <= allowed.taken
 }
 
 /// Whether the blocks that a call changed, behind `mark` pairs of an open group, may go into a group, with the bitmap that it left; so many
@@ -74,13 +75,13 @@ pub fn may_be_kept<B: Blocks>(
     bitmap: &Bitmap,
     mark: usize,
     was: u64,
-    allowed: u64,
+    allowed: Allowance,
 ) -> Result<(), Unkept>
     requires valid { IsValid sup.now }
     requires mark { mark ≤ length overlay.now.group.now }
     ensures ok { OnOk result (AreFit (layout_of sup.now) overlay.now.group.now mark) }
-    ensures few { OnOk result (length overlay.now.group.now ≤ mark + allowed) }
-    ensures rise { OnOk result (bitmap.now.tally.used ≤ was + allowed) }
+    ensures few { OnOk result (length overlay.now.group.now ≤ mark + allowed.logged) }
+    ensures rise { OnOk result (bitmap.now.tally.used ≤ was + allowed.taken) }
     ensures idle { OnOk result (length overlay.now.group.now ≡ 0 → bitmap.now.tally.used ≡ was) }
     ensures err { IfErr result (IsUnfit (layout_of sup.now) allowed was bitmap.now.tally.used overlay.now.group.now mark) }
 {

@@ -12,7 +12,7 @@ ghost use Rattle.bfs_tree.specs.declared.state.Hold as hold;
 ghost use Rattle.bfs_tree.specs.Trees.{Tree};
 ghost use Rattle.bfs_device.specs.declared.journal.Stop as stops;
 ghost use Rattle.bfs_device.specs.Layouts.{layout_of};
-ghost use Rattle.bfs_sound.specs.Need.{logged_need};
+ghost use Rattle.bfs_sound.specs.Need.{need};
 ghost use Rattle.bfs_shift.specs.Shifts.{volume_in};
 ghost use Rattle.bfs_space.specs.Books.{MayBeSealed};
 ghost use Rattle.bfs_space.specs.declared.replying.NoReply.TheVariants.{NoMemory, Drain};
@@ -107,7 +107,7 @@ fn say_no_space<B: Blocks>(
     requires size { B.size under.old ≡ sup.now.block_size }
     requires volume { IsOfVolume (sizes_of sup.now) bitmap.now }
     requires group { MayBeSealed (layout_of sup.now) sup.now.block_size group.old }
-    ensures short { (m : ℕ → Option (List ℕ)) (tree : Tree) (holds : List hold.Hold) (call : calls.Call) → B.told under.old ≡ Some m → HasBitmap bitmap.now (over group.old m) → IsChange tree holds call → takes_out call ≡ false → needed ≤ logged_need (volume_in (geometry_of sup.now) (over group.old m)) tree call → IfOk result (IsOutside (geometry_of sup.now) bitmap.now (over group.old m) tree holds (true ≡ true) call) }
+    ensures short { (m : ℕ → Option (List ℕ)) (tree : Tree) (holds : List hold.Hold) (call : calls.Call) → B.told under.old ≡ Some m → HasBitmap bitmap.now (over group.old m) → IsChange tree holds call → takes_out call ≡ false → needed ≤ need (volume_in (geometry_of sup.now) (over group.old m)) tree call → IfOk result (IsOutside (geometry_of sup.now) bitmap.now (over group.old m) tree holds (true ≡ true) call) }
     ensures no_memory { IfErr result (λ e. e ≡ NoMemory) }
     ensures cause { (stop : Option stops.Stop) → IfOk result (HasReplyCause (B.counts under.old) (B.counts under.new) stop) }
     ensures group { group.new ≡ group.old }
@@ -185,8 +185,8 @@ pub fn lacks_space<B: Blocks>(
     requires size { B.size under.old ≡ sup.now.block_size }
     requires volume { IsOfVolume (sizes_of sup.now) bitmap.now }
     requires group { MayBeSealed (layout_of sup.now) sup.now.block_size group.old }
-    ensures outside { (m : ℕ → Option (List ℕ)) (tree : Tree) (holds : List hold.Hold) → B.told under.old ≡ Some m → HasBitmap bitmap.now (over group.old m) → IsChange tree holds call.now → needed ≤ logged_need (volume_in (geometry_of sup.now) (over group.old m)) tree call.now → IfOk result (IsOutside (geometry_of sup.now) bitmap.now (over group.old m) tree holds (idle ≡ true) call.now) }
-    ensures put_off { (m : ℕ → Option (List ℕ)) (tree : Tree) (holds : List hold.Hold) (begun : ℕ) → B.told under.old ≡ Some m → HasBitmap bitmap.now (over group.old m) → IsChange tree holds call.now → needed ≤ logged_need (volume_in (geometry_of sup.now) (over group.old m)) tree call.now → IfErr result (IsNoReply (geometry_of sup.now) bitmap.now (over group.old m) begun tree holds (idle ≡ true) call.now) }
+    ensures outside { (m : ℕ → Option (List ℕ)) (tree : Tree) (holds : List hold.Hold) → B.told under.old ≡ Some m → HasBitmap bitmap.now (over group.old m) → IsChange tree holds call.now → needed ≤ need (volume_in (geometry_of sup.now) (over group.old m)) tree call.now → IfOk result (IsOutside (geometry_of sup.now) bitmap.now (over group.old m) tree holds (idle ≡ true) call.now) }
+    ensures put_off { (m : ℕ → Option (List ℕ)) (tree : Tree) (holds : List hold.Hold) (begun : ℕ) → B.told under.old ≡ Some m → HasBitmap bitmap.now (over group.old m) → IsChange tree holds call.now → needed ≤ need (volume_in (geometry_of sup.now) (over group.old m)) tree call.now → IfErr result (IsNoReply (geometry_of sup.now) bitmap.now (over group.old m) begun tree holds (idle ≡ true) call.now) }
     ensures cause { (stop : Option stops.Stop) → IfOk result (HasReplyCause (B.counts under.old) (B.counts under.new) stop) }
     ensures group { group.new ≡ group.old }
     ensures told { B.told under.new ≡ B.told under.old }

@@ -12,11 +12,13 @@ mod lacking;
 mod laws;
 mod looking;
 mod replying;
+mod sizing;
 mod space;
 mod stamp;
 mod taking;
+mod writing;
 
-pub use answers::{Answers, Looked};
+pub use answers::{Allowance, Answers, Looked};
 pub use calling::{CallFault, answer_call};
 pub use calls::Calls;
 pub use keep::Unkept;

@@ -31,7 +31,7 @@ use crate::calling::{CallFault, answer_call};
 use crate::keep::Unkept;
 use crate::lacking::{lacks_space, reply_to_fault};
 use crate::looking::look_call;
-use crate::{Answers, Looked};
+use crate::{Allowance, Answers, Looked};
 use bfs_bitmap::Bitmap;
 use bfs_device::Stop;
 use bfs_node::TreeFault;
@@ -80,8 +80,8 @@ fn crowds_log(sup: &Super, idle: bool, blocks: u64) -> Result<Reply, NoReply>
     Err(NoReply::Drain)
 }
 
-/// Performs a call that is to be done with these holds of sessions and may change so many blocks; what it changed is in the open group, or
-/// nothing is.
+/// Performs a call that is to be done with these holds of sessions and may change and take so many blocks; what it changed is in the open
+/// group, or nothing is.
 fn perform<A: Answers, B: Blocks>(
     alloc: Global,
     sup: &Super,
@@ -93,7 +93,7 @@ fn perform<A: Answers, B: Blocks>(
     holds: &[Hold],
     call: &Call,
     stamp: i64,
-    allowed: u64,
+    allowed: Allowance,
 ) -> Result<Reply, NoReply>
     requires valid { IsValid sup.now }
     requires size { B.size under.old ≡ sup.now.block_size }
@@ -128,7 +128,7 @@ fn perform<A: Answers, B: Blocks>(
     match fault {
         CallFault::Map(fault) => {
             if is_no_run(&fault) {
-                return lacks_space(sup, bitmap, group, under, idle, call, allowed);
+                return lacks_space(sup, bitmap, group, under, idle, call, allowed.taken);
             }
             reply_to_step(fault)
         }

@@ -11,7 +11,7 @@ ghost use Rattle.bfs_tree.specs.declared.call.Call.TheVariants.{Sync};
 ghost use Rattle.bfs_space.specs.Looks.{is_built};
 
 use crate::holds::note_holds;
-use crate::{Answers, CallFault, Calls, Looked, Outcome, Space, answer_call};
+use crate::{Allowance, Answers, CallFault, Calls, Looked, Outcome, Space, answer_call};
 use bfs_bitmap::Bitmap;
 use bfs_bytes::{Run, put_run, put_u32};
 use bfs_disk::{Disk, MemDisk};
@@ -230,7 +230,10 @@ fn what_a_failed_call_changed_is_given_up(rt: HostRuntime) -> Result<(), Fail> {
         &holds,
         &Call::IndexList,
         0,
-        1,
+        Allowance {
+            logged: 1,
+            taken: 1,
+        },
     );
     assert!(rt; is_refused(&answer));
     assert_eq!(rt; group.len(), 0);
@@ -302,7 +305,7 @@ fn told_by(reply: &Reply) -> (u8, u64, u64) {
     match reply {
         Reply::Made { id } => (1, *id, 0),
         Reply::Exists => (2, 0, 0),
-        Reply::NoSpace { free, .. } => (3, *free, 0),
+        Reply::NoSpace { free, needed } => (3, *free, *needed),
         Reply::NoLogRoom { blocks, room } => (4, *blocks, *room),
         Reply::Done => (6, 0, 0),
         Reply::Info { info } => (7, u64::from(info.mode), info.parent),
@@ -319,6 +322,10 @@ fn told_by(reply: &Reply) -> (u8, u64, u64) {
         Reply::NotEmpty => (19, 0, 0),
         Reply::BuiltIn => (20, 0, 0),
         Reply::NotDir => (21, 0, 0),
+        Reply::TooBig => (22, 0, 0),
+        Reply::NotFile => (23, 0, 0),
+        Reply::Held { session } => (24, u64::from(*session), 0),
+        Reply::NameBad => (25, 0, 0),
         _ => (0, 0, 0),
     }
 }
@@ -392,18 +399,19 @@ fn lie_inside(blocks: &Changed, size: usize) -> bool
     true
 }
 
-/// Seals what is open and lets it leave the log: its blocks go home. Tells whether that went well.
-fn drains(mount: &mut Mount) -> bool {
+/// Seals what is open and lets it leave the log: its blocks go home. The used blocks that the seal tells of; or 0 where that didn't go well, or
+/// nothing was open.
+fn drains(mount: &mut Mount) -> u64 {
     let Some(group) = mount.space.seal() else {
-        return true;
+        return 0;
     };
     let length = mount.under.blocks.bytes().len();
     if length >= 1 << 30 || !lie_inside(&group.blocks, length) {
-        return false;
+        return 0;
     }
     mount.under.blocks.apply(&group);
     mount.space.released(group.last);
-    true
+    group.used
 }
 
 /// The bytes of a new volume of so many blocks of 1,024 bytes, with a log of so many; none where they can't be had.
@@ -421,8 +429,7 @@ fn new_volume(alloc: Global, blocks: u64, log: u16) -> Result<Option<Vec<u8>>, A
     Ok(Some(disk.bytes()))
 }
 
-/// Two calls for nodes in the root of a new volume, the second after a drain: what has become of each, and the used blocks that the last seal
-/// tells of.
+/// Four calls for nodes in the root of a new volume, two of them after a drain: what has become of each.
 fn two_calls(alloc: Global, blocks: u64, log: u16, root: u64) -> Result<[(u8, u64, u64); 4], Fail>
     requires some { 1 ≤ blocks }
     requires few { blocks ≤ 4096 }
@@ -438,7 +445,7 @@ fn two_calls(alloc: Global, blocks: u64, log: u16, root: u64) -> Result<[(u8, u6
     };
     let first = asks(alloc, &mut mount, root, b'a', MakeKind::File)?;
     let second = asks(alloc, &mut mount, root, b'b', MakeKind::Dir)?;
-    if !drains(&mut mount) {
+    if drains(&mut mount) == 0 {
         return Ok([nothing; 4]);
     }
     let third = asks(alloc, &mut mount, root, b'b', MakeKind::Dir)?;
@@ -451,9 +458,9 @@ fn a_node_is_made_refused_put_off_or_turned_away_for_want_of_space(
     rt: HostRuntime,
 ) -> Result<(), Fail> {
     let alloc = rt.alloc();
-    // With two blocks free there is room for a file, and none for a directory, which takes three.
+    // With two blocks free there is room for a file, and none for a directory, which takes three. What is needed is 28 for each of four rows, and 8.
     let few = two_calls(alloc, 531, 512, 514)?;
-    assert_eq!(rt; few, [(1, 529, 0), (5, 0, 0), (3, 1, 0), (2, 0, 0)]);
+    assert_eq!(rt; few, [(1, 529, 0), (5, 0, 0), (3, 1, 120), (2, 0, 0)]);
     let many = two_calls(alloc, 4096, 512, 514)?;
     assert_eq!(rt; many, [(1, 529, 0), (1, 530, 0), (2, 0, 0), (2, 0, 0)]);
     Ok(())
@@ -628,7 +635,7 @@ fn what_is_removed_is_gone_and_its_blocks_serve_again(rt: HostRuntime) -> Result
     assert_eq!(rt; inner.0, 1);
     assert_eq!(rt; takes(alloc, &mut mount, 514, b"b", false)?, (19, 0, 0));
     assert_eq!(rt; takes(alloc, &mut mount, inner.1, b"x", false)?, (21, 0, 0));
-    assert!(rt; drains(&mut mount));
+    assert!(rt; drains(&mut mount) > 0);
     let again = asks(alloc, &mut mount, 514, b'a', MakeKind::File)?;
     assert_eq!(rt; again, (1, 529, 0));
     assert_eq!(rt; takes(alloc, &mut mount, 530, b"c", false)?, (6, 0, 0));
@@ -636,6 +643,128 @@ fn what_is_removed_is_gone_and_its_blocks_serve_again(rt: HostRuntime) -> Result
     assert_eq!(rt; asks_of(&mut mount, 2, 514)?, (8, 1, 0));
     assert_eq!(rt; takes(alloc, &mut mount, 0, b"name", true)?, (20, 0, 0));
     assert_eq!(rt; takes(alloc, &mut mount, 0, b"none", true)?, (18, 0, 0));
+    Ok(())
+}
+
+/// The reply to a call that gives a file a size.
+fn sizes(mount: &mut Mount, id: u64, size: u64) -> Result<(u8, u64, u64), AllocError> {
+    let call = Call::SetSize { id, size };
+    let answers = Calls {};
+    match mount
+        .space
+        .call(&answers, &mut mount.under, 1, 5, 1000, call)?
+    {
+        Outcome::Replied => match mount.space.history().last() {
+            Some(entry) => Ok(told_by(&entry.reply)),
+            None => Ok((0, 0, 0)),
+        },
+        Outcome::Drain(_) => Ok((5, 0, 0)),
+    }
+}
+
+/// The size that is read of a node, or the largest number where none is.
+fn size_of(mount: &mut Mount, id: u64) -> Result<u64, AllocError> {
+    let _ = asks_of(mount, 1, id)?;
+    Ok(match mount.space.history().last() {
+        Some(entry) => size_in(&entry.reply),
+        None => u64::MAX,
+    })
+}
+
+/// The size in a reply, or the largest number.
+fn size_in(reply: &Reply) -> u64 {
+    match reply {
+        Reply::Info { info } => info.size,
+        _ => u64::MAX,
+    }
+}
+
+#[test]
+fn a_file_grows_and_the_blocks_of_what_is_cut_serve_again(rt: HostRuntime) -> Result<(), Fail> {
+    let alloc = rt.alloc();
+    let Some(bytes) = new_volume(alloc, 4096, 512)? else {
+        return Err(Fail::from("no volume"));
+    };
+    let Some(mut mount) = mounts(alloc, bytes, 4096)? else {
+        return Err(Fail::from("no mount"));
+    };
+    let file = asks(alloc, &mut mount, 514, b'a', MakeKind::File)?;
+    assert_eq!(rt; file, (1, 529, 0));
+    // 5,000 bytes have five blocks, those behind the inode: with it six are used beside the 529 of the new volume.
+    assert_eq!(rt; sizes(&mut mount, 529, 5000)?, (6, 0, 0));
+    assert_eq!(rt; size_of(&mut mount, 529)?, 5000);
+    assert_eq!(rt; drains(&mut mount), 535);
+    // Two of them hold 1,025 bytes, and the others wait for the group to leave the log.
+    assert_eq!(rt; sizes(&mut mount, 529, 1025)?, (6, 0, 0));
+    assert_eq!(rt; size_of(&mut mount, 529)?, 1025);
+    let other = asks(alloc, &mut mount, 514, b'b', MakeKind::File)?;
+    assert_eq!(rt; other, (1, 535, 0));
+    assert_eq!(rt; drains(&mut mount), 533);
+    let again = asks(alloc, &mut mount, 514, b'c', MakeKind::File)?;
+    assert_eq!(rt; again, (1, 532, 0));
+    assert_eq!(rt; sizes(&mut mount, 529, 0)?, (6, 0, 0));
+    assert_eq!(rt; size_of(&mut mount, 529)?, 0);
+    // Three inodes, and a page of the index of sizes for the files of one size.
+    assert_eq!(rt; drains(&mut mount), 533);
+    Ok(())
+}
+
+#[test]
+fn a_size_is_put_off_or_turned_away_for_want_of_space(rt: HostRuntime) -> Result<(), Fail> {
+    let alloc = rt.alloc();
+    let Some(bytes) = new_volume(alloc, 533, 512)? else {
+        return Err(Fail::from("no volume"));
+    };
+    let Some(mut mount) = mounts(alloc, bytes, 533)? else {
+        return Err(Fail::from("no mount"));
+    };
+    let file = asks(alloc, &mut mount, 514, b'a', MakeKind::File)?;
+    assert_eq!(rt; file, (1, 529, 0));
+    // Three blocks are free, and 5,000 bytes want five; as an array has four, eight count. What the log holds: 28 for each of two rows in the
+    // indices of sizes and of stamps, 1 + 3 * 4 blocks of arrays, 1 of the bitmap, and 8. So 112 + 13 + 1 + 8 = 134, and with the eight 142.
+    assert_eq!(rt; sizes(&mut mount, 529, 5000)?, (5, 0, 0));
+    assert_eq!(rt; drains(&mut mount), 530);
+    assert_eq!(rt; sizes(&mut mount, 529, 5000)?, (3, 3, 142));
+    assert_eq!(rt; size_of(&mut mount, 529)?, 0);
+    // 3,000 bytes take all three; once they are given back they wait for the group to leave the log.
+    assert_eq!(rt; sizes(&mut mount, 529, 3000)?, (6, 0, 0));
+    assert_eq!(rt; sizes(&mut mount, 529, 0)?, (6, 0, 0));
+    assert_eq!(rt; sizes(&mut mount, 529, 3000)?, (5, 0, 0));
+    assert_eq!(rt; drains(&mut mount), 530);
+    assert_eq!(rt; sizes(&mut mount, 529, 3000)?, (6, 0, 0));
+    assert_eq!(rt; drains(&mut mount), 533);
+    Ok(())
+}
+
+/// Notes a call of session 2 that is done, for which it is promised room first.
+fn notes_done(space: &mut Space, call: Call) -> Result<(), AllocError>
+    ensures sup { space.new.view.sup ≡ space.old.view.sup }
+{
+    space.unpromise(2);
+    space.promise(2)?;
+    space.note(2, 9, 1000, call, Reply::Done, 0);
+    Ok(())
+}
+
+#[test]
+fn a_size_is_refused_where_it_is_too_big_or_the_file_is_held(rt: HostRuntime) -> Result<(), Fail> {
+    let alloc = rt.alloc();
+    let Some(bytes) = new_volume(alloc, 4096, 512)? else {
+        return Err(Fail::from("no volume"));
+    };
+    let Some(mut mount) = mounts(alloc, bytes, 4096)? else {
+        return Err(Fail::from("no mount"));
+    };
+    let file = asks(alloc, &mut mount, 514, b'a', MakeKind::File)?;
+    assert_eq!(rt; file, (1, 529, 0));
+    assert_eq!(rt; sizes(&mut mount, 529, 1073741825)?, (22, 0, 0));
+    assert_eq!(rt; sizes(&mut mount, 514, 1)?, (23, 0, 0));
+    assert_eq!(rt; sizes(&mut mount, 4000, 1)?, (11, 0, 0));
+    notes_done(&mut mount.space, hold_of(529, 0))?;
+    assert_eq!(rt; sizes(&mut mount, 529, 1000)?, (24, 2, 0));
+    notes_done(&mut mount.space, release_of(alloc, 529))?;
+    assert_eq!(rt; sizes(&mut mount, 529, 1000)?, (6, 0, 0));
+    assert_eq!(rt; size_of(&mut mount, 529)?, 1000);
     Ok(())
 }
 
@@ -680,6 +809,133 @@ fn attributes_and_indices_are_read(rt: HostRuntime) -> Result<(), Fail> {
     for which in 0..8u8 {
         assert_eq!(rt; reads(alloc, &mut mount, which)?, wanted[which as usize]);
     }
+    Ok(())
+}
+
+/// A call that removes the attribute of a name of one letter.
+fn dropping_call(alloc: Global, id: u64, name: &[u8]) -> Result<Call, AllocError>
+    ensures serves { IfOk result (λ call. is_built call ≡ true) }
+    ensures ranges { IfOk result KeepsRanges }
+    ensures other { IfOk result (λ call. call ≢ Sync) }
+{
+    let name = Bytes::from_slice(alloc, name)?;
+    Ok(Call::AttrRemove { id, name })
+}
+
+/// The reply to a call that removes the attribute of a name of one letter.
+fn drops(
+    alloc: Global,
+    mount: &mut Mount,
+    id: u64,
+    name: &[u8],
+) -> Result<(u8, u64, u64), AllocError> {
+    let call = dropping_call(alloc, id, name)?;
+    let answers = Calls {};
+    match mount
+        .space
+        .call(&answers, &mut mount.under, 1, 5, 1000, call)?
+    {
+        Outcome::Replied => match mount.space.history().last() {
+            Some(entry) => Ok(told_by(&entry.reply)),
+            None => Ok((0, 0, 0)),
+        },
+        Outcome::Drain(_) => Ok((5, 0, 0)),
+    }
+}
+
+#[test]
+fn an_attribute_that_is_removed_is_gone(rt: HostRuntime) -> Result<(), Fail> {
+    let alloc = rt.alloc();
+    let Some(mut bytes) = new_volume(alloc, 4096, 512)? else {
+        return Err(Fail::from("no volume"));
+    };
+    assert!(rt; put_attribute(&mut bytes, 514 * 1024));
+    let Some(mut mount) = mounts(alloc, bytes, 4096)? else {
+        return Err(Fail::from("no mount"));
+    };
+    assert_eq!(rt; drops(alloc, &mut mount, 4000, b"k")?, (11, 0, 0));
+    assert_eq!(rt; drops(alloc, &mut mount, 514, b"l")?, (14, 0, 0));
+    assert_eq!(rt; reads(alloc, &mut mount, 0)?, (13, 1, 0));
+    assert_eq!(rt; drops(alloc, &mut mount, 514, b"k")?, (6, 0, 0));
+    assert_eq!(rt; reads(alloc, &mut mount, 0)?, (13, 0, 0));
+    assert_eq!(rt; reads(alloc, &mut mount, 1)?, (14, 0, 0));
+    assert_eq!(rt; drops(alloc, &mut mount, 514, b"k")?, (14, 0, 0));
+    Ok(())
+}
+
+/// A call that writes an attribute of so many bytes.
+fn writing_call(alloc: Global, id: u64, name: &[u8], length: usize) -> Result<Call, AllocError>
+    requires few { length ≤ 65537 }
+    ensures serves { IfOk result (λ call. is_built call ≡ true) }
+    ensures ranges { IfOk result KeepsRanges }
+    ensures other { IfOk result (λ call. call ≢ Sync) }
+{
+    let name = Bytes::from_slice(alloc, name)?;
+    let bytes = Bytes::new(vec![in alloc; 7u8; length]?);
+    Ok(Call::AttrWrite {
+        id,
+        name,
+        kind: 0x4c4f4e47,
+        bytes,
+    })
+}
+
+/// The reply to a call that writes an attribute of so many bytes.
+fn writes(
+    alloc: Global,
+    mount: &mut Mount,
+    id: u64,
+    name: &[u8],
+    length: usize,
+) -> Result<(u8, u64, u64), AllocError>
+    requires few { length ≤ 65537 }
+{
+    let call = writing_call(alloc, id, name, length)?;
+    let answers = Calls {};
+    match mount
+        .space
+        .call(&answers, &mut mount.under, 1, 6, 1000, call)?
+    {
+        Outcome::Replied => match mount.space.history().last() {
+            Some(entry) => Ok(told_by(&entry.reply)),
+            None => Ok((0, 0, 0)),
+        },
+        Outcome::Drain(_) => Ok((5, 0, 0)),
+    }
+}
+
+/// Writes the attribute `k` of the root with so many bytes, reads it, and lets the group leave the log: the reply, what is read, and the used
+/// blocks.
+fn writes_and_drains(
+    alloc: Global,
+    mount: &mut Mount,
+    length: usize,
+) -> Result<((u8, u64, u64), (u8, u64, u64), u64), AllocError>
+    requires few { length ≤ 65537 }
+{
+    let reply = writes(alloc, mount, 514, b"k", length)?;
+    let read = reads(alloc, mount, 1)?;
+    Ok((reply, read, drains(mount)))
+}
+
+#[test]
+fn an_attribute_is_written_read_and_exchanged(rt: HostRuntime) -> Result<(), Fail> {
+    let alloc = rt.alloc();
+    let Some(bytes) = new_volume(alloc, 4096, 512)? else {
+        return Err(Fail::from("no volume"));
+    };
+    let Some(mut mount) = mounts(alloc, bytes, 4096)? else {
+        return Err(Fail::from("no mount"));
+    };
+    // In small data it takes no block. With 3,000 bytes it has an inode and three blocks, and the attribute directory an inode and two.
+    let table: [(usize, u64); 3] = [(5, 529), (3000, 536), (4, 529)];
+    for (length, used) in table {
+        let wanted = ((6, 0, 0), (12, 0x4c4f4e47, length as u64), used);
+        assert_eq!(rt; writes_and_drains(alloc, &mut mount, length)?, wanted);
+    }
+    assert_eq!(rt; writes(alloc, &mut mount, 4000, b"k", 1)?, (11, 0, 0));
+    assert_eq!(rt; writes(alloc, &mut mount, 514, b"", 1)?, (25, 0, 0));
+    assert_eq!(rt; writes(alloc, &mut mount, 514, b"k", 65537)?, (22, 0, 0));
     Ok(())
 }
 

@@ -26,9 +26,9 @@ returns-in-Ok-clause-within g c = λ m.
     let open_is : take c.begin-overlay.result.mark c.begin-overlay.result.group.now ≡ c.args.group.now = whole c.begin-overlay.result.mark c.begin-overlay.result.group.now c.args.group.now c.begin-overlay.ensures.mark c.begin-overlay.ensures.open_now in
     let few = c.in-Ok.ensures.few in
     let mark = same_mark c.answer_over.new.overlay.mark c.begin-overlay.result.mark c.answer_over.new.overlay.group.now c.begin-overlay.result.group.now c.answer_over.new.overlay.layered.within c.begin-overlay.result.layered.within c.answer_over.ensures.open in
-    subst (λ (ps : List (ℕ × List ℕ)). IsWithin c.args.allowed c.args.bitmap.now c.keep-in-Ok.new.self m c.args.group.now ps) (search rules)
-    (subst (λ (r : Room). IsWithin c.args.allowed c.args.bitmap.now r m c.args.group.now c.keep.new.self.0) (sym c.keep-in-Ok.ensures.given)
-    (within c.args.bitmap.now c.answer_over.new.bitmap m c.args.group.now c.answer_over.new.overlay.group.now c.keep.new.self.0 c.answer_over.new.overlay.mark c.args.allowed (c.answer_over.ensures.open ∙ open_is) c.keep.ensures.reads
+    subst (λ (ps : List (ℕ × List ℕ)). IsWithin c.args.allowed.logged c.args.allowed.taken c.args.bitmap.now c.keep-in-Ok.new.self m c.args.group.now ps) (search rules)
+    (subst (λ (r : Room). IsWithin c.args.allowed.logged c.args.allowed.taken c.args.bitmap.now r m c.args.group.now c.keep.new.self.0) (sym c.keep-in-Ok.ensures.given)
+    (within c.args.bitmap.now c.answer_over.new.bitmap m c.args.group.now c.answer_over.new.overlay.group.now c.keep.new.self.0 c.answer_over.new.overlay.mark c.args.allowed.logged c.args.allowed.taken (c.answer_over.ensures.open ∙ open_is) c.keep.ensures.reads
     (let long = c.begin-overlay.ensures.mark in let n = c.len-mark.ensures in omega (arith, few, mark, long, n)) c.in-Ok.ensures.rise))
 
 pub returns-in-Ok-clause-kept : goal.returns-in-Ok-clause-kept

@@ -23,6 +23,8 @@ pub returns-in-None-clause-looked : goal.returns-in-None-clause-looked
 returns-in-None-clause-looked g c m tree lists holds mode uid gid told ready = record {
   changes = refl;
   fine = λ s same held. sym (sym c.in-None.is ∙ c.in-Ok.ensures.refused m tree lists s mode uid gid told ready same);
-  is = omega arith;
-  within = omega arith;
+  logged_is = omega arith;
+  taken_is = omega arith;
+  logged = omega arith;
+  taken = omega arith;
 }

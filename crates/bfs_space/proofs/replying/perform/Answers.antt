@@ -6,7 +6,7 @@ use Rattle.bfs_bitmap.specs.Runs.{Room, HasBitmap}
 use Rattle.bfs_txn.specs.Changed.{over}
 use Rattle.bfs_tree.specs.Steps.{is_done}
 use Rattle.bfs_device.specs.Layouts.{layout_of}
-use Rattle.bfs_sound.specs.Need.{logged_need}
+use Rattle.bfs_sound.specs.Need.{logged_need, need}
 use Rattle.bfs_shift.specs.Shifts.{volume_in}
 use Rattle.bfs_space.specs.declared.calling.CallFault.TheVariants as calling
 use Rattle.bfs_space.specs.declared.keep.Unkept.{Unkept}
@@ -27,7 +27,8 @@ returns-in-Ok-clause-replied g c = λ m tree lists told ready.
       kept = subst (λ (z : ℤ). IsKept (geometry_of c.args.sup.now) c.args.bitmap.now c.answer_call.new.bitmap m c.args.group.now c.answer_call.new.group tree c.args.holds.now z c.args.call.now c.in-Ok.reply) same (c.in-Ok.ensures.kept m tree lists told ready);
       own = c.in-Ok.ensures.own;
       unchanged = λ no. let done : is_done c.in-Ok.reply ≡ true = c.in-Ok.ensures.done in let bad : false ≡ true = sym no ∙ done in absurd cc;
-      within = within_more c.args.allowed (logged_need (volume_in (geometry_of c.args.sup.now) (over c.args.group.now m)) tree c.args.call.now) c.args.bitmap.now c.answer_call.new.bitmap m c.args.group.now c.answer_call.new.group allowed.within (c.in-Ok.ensures.within m);
+      within = within_more c.args.allowed.logged (logged_need (volume_in (geometry_of c.args.sup.now) (over c.args.group.now m)) tree c.args.call.now) c.args.allowed.taken (need (volume_in (geometry_of c.args.sup.now) (over c.args.group.now m)) tree c.args.call.now)
+          c.args.bitmap.now c.answer_call.new.bitmap m c.args.group.now c.answer_call.new.group allowed.logged allowed.taken (c.in-Ok.ensures.within m);
     })
 
 pub returns-then-is_no_run-clause-replied : goal.returns-then-is_no_run-clause-replied
@@ -38,7 +39,7 @@ returns-then-is_no_run-clause-replied g c = λ m tree lists told ready.
     let group : c.answer_call.new.group ≡ c.args.group.now = c.in-Err.ensures.refused.0 in
     let bitmap : c.answer_call.new.bitmap ≡ c.args.bitmap.now = c.in-Err.ensures.refused.1 in
     let has : HasBitmap c.answer_call.new.bitmap (over c.answer_call.new.group m) = subst (λ (x : Room). HasBitmap x (over c.answer_call.new.group m)) (sym bitmap) (subst (λ (ps : List (ℕ × List ℕ)). HasBitmap c.args.bitmap.now (over ps m)) (sym group) ready.work.fits.has) in
-    let within : c.args.allowed ≤ logged_need (volume_in s (over c.answer_call.new.group m)) tree c.args.call.now = subst (λ (ps : List (ℕ × List ℕ)). c.args.allowed ≤ logged_need (volume_in s (over ps m)) tree c.args.call.now) (sym group) allowed.within in
+    let within : c.args.allowed.taken ≤ need (volume_in s (over c.answer_call.new.group m)) tree c.args.call.now = subst (λ (ps : List (ℕ × List ℕ)). c.args.allowed.taken ≤ need (volume_in s (over ps m)) tree c.args.call.now) (sym group) allowed.taken in
     IfOk-weaker c.lacks_space.result (IsOutside s c.answer_call.new.bitmap (over c.answer_call.new.group m) tree c.args.holds.now (c.args.idle ≡ true) c.args.call.now)
     (IsReplied s c.args.bitmap.now c.answer_call.new.bitmap m c.args.group.now c.lacks_space.new.group tree c.args.holds.now (c.args.idle ≡ true) c.args.stamp c.args.call.now)
     (λ r why. away s c.args.bitmap.now c.answer_call.new.bitmap m c.args.group.now c.lacks_space.new.group tree c.args.holds.now (c.args.idle ≡ true) c.args.stamp c.args.call.now r bitmap (c.lacks_space.ensures.group ∙ group)
@@ -54,7 +55,7 @@ returns-then-is_no_run-clause-put_off g c = λ m tree lists told ready.
     let group : c.answer_call.new.group ≡ c.args.group.now = c.in-Err.ensures.refused.0 in
     let bitmap : c.answer_call.new.bitmap ≡ c.args.bitmap.now = c.in-Err.ensures.refused.1 in
     let has : HasBitmap c.answer_call.new.bitmap (over c.answer_call.new.group m) = subst (λ (x : Room). HasBitmap x (over c.answer_call.new.group m)) (sym bitmap) (subst (λ (ps : List (ℕ × List ℕ)). HasBitmap c.args.bitmap.now (over ps m)) (sym group) ready.work.fits.has) in
-    let within : c.args.allowed ≤ logged_need (volume_in s (over c.answer_call.new.group m)) tree c.args.call.now = subst (λ (ps : List (ℕ × List ℕ)). c.args.allowed ≤ logged_need (volume_in s (over ps m)) tree c.args.call.now) (sym group) allowed.within in
+    let within : c.args.allowed.taken ≤ need (volume_in s (over c.answer_call.new.group m)) tree c.args.call.now = subst (λ (ps : List (ℕ × List ℕ)). c.args.allowed.taken ≤ need (volume_in s (over ps m)) tree c.args.call.now) (sym group) allowed.taken in
     subst (λ (ps : List (ℕ × List ℕ)). IfErr c.lacks_space.result (IsNoReply s c.args.bitmap.now (over ps m) (length c.args.group.now) tree c.args.holds.now (c.args.idle ≡ true) c.args.call.now)) group
     (subst (λ (x : Room). IfErr c.lacks_space.result (IsNoReply s x (over c.answer_call.new.group m) (length c.args.group.now) tree c.args.holds.now (c.args.idle ≡ true) c.args.call.now)) bitmap
     (c.lacks_space.ensures.put_off m tree c.args.holds.now (length c.args.group.now) (c.answer_call.ensures.told ∙ told) has change within))
@@ -81,9 +82,9 @@ returns-in-TooMany-clause-replied g c = λ m tree lists told ready.
     let s = geometry_of c.args.sup.now in
     let allowed = c.requires.allowed m tree lists told ready in
     let change : IsChange tree c.args.holds.now c.args.call.now = record { changes = allowed.changes; fine = allowed.fine } in
-    let crowding = subst (λ (w : Unkept). IsCrowding (layout_of c.args.sup.now) c.args.allowed (length c.args.group.now) (calling.Unkept w)) c.in-TooMany.is (subst (IsCrowding (layout_of c.args.sup.now) c.args.allowed (length c.args.group.now)) c.in-Unkept.is c.in-Err.ensures.crowding) in
+    let crowding = subst (λ (w : Unkept). IsCrowding (layout_of c.args.sup.now) c.args.allowed.logged (length c.args.group.now) (calling.Unkept w)) c.in-TooMany.is (subst (IsCrowding (layout_of c.args.sup.now) c.args.allowed.logged (length c.args.group.now)) c.in-Unkept.is c.in-Err.ensures.crowding) in
     let few = crowding.1 in
-    let most = allowed.within in
+    let most = allowed.logged in
     let within : c.in-TooMany.blocks ≤ logged_need (volume_in s (over c.args.group.now m)) tree c.args.call.now = omega (arith, few, most) in
     let long : IsTooLong s (length c.args.group.now + c.in-TooMany.blocks) = too_long c.args.sup.now (length c.args.group.now + c.in-TooMany.blocks) c.requires.valid crowding.0 in
     IfOk-weaker c.crowds_log.result (IsOutside s c.args.bitmap.now (over c.args.group.now m) tree c.args.holds.now (c.args.idle ≡ true) c.args.call.now)
@@ -97,9 +98,9 @@ returns-in-TooMany-clause-put_off g c = λ m tree lists told ready.
     let s = geometry_of c.args.sup.now in
     let allowed = c.requires.allowed m tree lists told ready in
     let change : IsChange tree c.args.holds.now c.args.call.now = record { changes = allowed.changes; fine = allowed.fine } in
-    let crowding = subst (λ (w : Unkept). IsCrowding (layout_of c.args.sup.now) c.args.allowed (length c.args.group.now) (calling.Unkept w)) c.in-TooMany.is (subst (IsCrowding (layout_of c.args.sup.now) c.args.allowed (length c.args.group.now)) c.in-Unkept.is c.in-Err.ensures.crowding) in
+    let crowding = subst (λ (w : Unkept). IsCrowding (layout_of c.args.sup.now) c.args.allowed.logged (length c.args.group.now) (calling.Unkept w)) c.in-TooMany.is (subst (IsCrowding (layout_of c.args.sup.now) c.args.allowed.logged (length c.args.group.now)) c.in-Unkept.is c.in-Err.ensures.crowding) in
     let few = crowding.1 in
-    let most = allowed.within in
+    let most = allowed.logged in
     let within : c.in-TooMany.blocks ≤ logged_need (volume_in s (over c.args.group.now m)) tree c.args.call.now = omega (arith, few, most) in
     let long : IsTooLong s (length c.args.group.now + c.in-TooMany.blocks) = too_long c.args.sup.now (length c.args.group.now + c.in-TooMany.blocks) c.requires.valid crowding.0 in
     c.crowds_log.ensures.put_off c.args.bitmap.now (over c.args.group.now m) tree c.args.holds.now c.args.call.now (length c.args.group.now) change within long

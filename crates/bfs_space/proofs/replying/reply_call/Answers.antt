@@ -4,7 +4,7 @@ use Rattle.std.proofs.lemmas.Result.{IfOk-weaker}
 use Rattle.bfs_super.specs.Geometry.{geometry_of}
 use Rattle.bfs_bitmap.specs.Runs.{Room, Fits}
 use Rattle.bfs_txn.specs.Changed.{over}
-use Rattle.bfs_sound.specs.Need.{logged_need}
+use Rattle.bfs_sound.specs.Need.{logged_need, need}
 use Rattle.bfs_shift.specs.Shifts.{volume_in}
 use Rattle.bfs_look.specs.Ready.{IsReady, HasReady}
 use Rattle.bfs_space.specs.declared.answers.Looked.{Looked}
@@ -52,7 +52,8 @@ returns-in-Answered-clause-replied g c = λ m tree lists told ready.
       kept = kept;
       own = subst FindsOwn c.in-Answered.is c.in-Ok.ensures.own;
       unchanged = λ no. (refl, ap (λ (x : Room). x.tally.used) room);
-      within = subst (λ (x : Room). IsWithin (logged_need (volume_in s (over c.args.group.now m)) tree c.args.call.now) c.args.bitmap.now x m c.args.group.now c.args.group.now) (sym room) (within_none c.args.bitmap.now m c.args.group.now (logged_need (volume_in s (over c.args.group.now m)) tree c.args.call.now));
+      within = subst (λ (x : Room). IsWithin (logged_need (volume_in s (over c.args.group.now m)) tree c.args.call.now) (need (volume_in s (over c.args.group.now m)) tree c.args.call.now) c.args.bitmap.now x m c.args.group.now c.args.group.now) (sym room)
+          (within_none c.args.bitmap.now m c.args.group.now (logged_need (volume_in s (over c.args.group.now m)) tree c.args.call.now) (need (volume_in s (over c.args.group.now m)) tree c.args.call.now));
     }))
 
 pub returns-in-Allowed-clause-replied : goal.returns-in-Allowed-clause-replied

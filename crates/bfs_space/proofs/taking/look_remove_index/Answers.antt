@@ -2,9 +2,11 @@ use Rattle.std.proofs.Common.{◌∙◌, [], refl, sym, subst}
 use Rattle.std.specs.FinMap.{empty}
 use Rattle.bfs_bitmap.specs.Runs.{Room}
 use Rattle.bfs_super.specs.Geometry.{geometry_of}
+use Rattle.bfs_tree.specs.declared.call.Call.TheVariants.{IndexRemove}
 use Rattle.bfs_tree.specs.Steps.{ByTree}
 use Rattle.bfs_look.specs.Ready.{IsReady, HasReady}
 use Rattle.bfs_calls.proofs.Faulting.{undone_unanswered}
+use Rattle.bfs_space.proofs.Alike.{allowed_alike}
 use Rattle.bfs_space.proofs.taking.look_remove_index.Goals as goal
 
 pub returns-in-Err-clause-unanswered : goal.returns-in-Err-clause-unanswered
@@ -22,12 +24,10 @@ remove_index_allowance-requires-clause-ready g c m told =
 pub returns-in-Ok-remove_index_allowance-clause-looked : goal.returns-in-Ok-remove_index_allowance-clause-looked
 returns-in-Ok-remove_index_allowance-clause-looked g c m tree lists holds told ready =
     let ready_here = subst (λ (v : Room). IsReady (geometry_of c.args.sup.now) v m tree lists) (sym c.in-Ok.ensures.bitmap) ready in
-    let told_here = c.in-Ok.ensures.told ∙ told in record {
-      changes = refl;
-      fine = λ s same held. sym (sym c.in-None.is ∙ c.in-Ok.ensures.refused m tree lists s told ready same);
-      is = c.in-Ok-remove_index_allowance.ensures.allowed m tree lists told_here ready_here;
-      within = c.in-Ok-remove_index_allowance.ensures.within m tree lists told_here ready_here;
-    }
+    let told_here = c.in-Ok.ensures.told ∙ told in
+    allowed_alike (geometry_of c.args.sup.now) m tree holds (IndexRemove c.args.name.now) c.in-Ok-remove_index_allowance.allowed refl
+    (λ s same held. sym (sym c.in-None.is ∙ c.in-Ok.ensures.refused m tree lists s told ready same)) refl
+    (c.in-Ok-remove_index_allowance.ensures.allowed m tree lists told_here ready_here) (c.in-Ok-remove_index_allowance.ensures.within m tree lists told_here ready_here)
 
 pub returns-in-Err-remove_index_allowance-clause-unanswered : goal.returns-in-Err-remove_index_allowance-clause-unanswered
 returns-in-Err-remove_index_allowance-clause-unanswered g c m tree lists told ready =

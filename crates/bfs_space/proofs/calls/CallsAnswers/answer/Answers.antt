@@ -3,7 +3,7 @@ use Rattle.std.specs.FinMap.{empty}
 use Rattle.std.specs.Prelude.{IfOk}
 use Rattle.bfs_super.specs.Geometry.{geometry_of}
 use Rattle.bfs_tree.specs.declared.call.Call.{Call}
-use Rattle.bfs_tree.specs.declared.call.Call.TheVariants.{Make, SetMode, Remove, IndexRemove}
+use Rattle.bfs_tree.specs.declared.call.Call.TheVariants.{Make, SetMode, SetSize, Remove, AttrWrite, AttrRemove, IndexRemove}
 use Rattle.bfs_tree.specs.declared.reply.Reply.TheVariants.{Done, Made}
 use Rattle.bfs_tree.specs.declared.reply.Reply.{Reply}
 use Rattle.bfs_tree.specs.Refusals.{own_refusal}
@@ -48,6 +48,19 @@ returns-in-Ok-set_mode-clause-answered g c m tree lists told ready =
     (c.in-Ok-set_mode.ensures.done c.args.bitmap.now m tree lists told ready (λ other same. subst (λ (x : Call). own_refusal x (record { tree = other.tree; holds = c.args.holds.now; known = other.known }) ≡ None) is (c.requires.fine m tree lists (record { tree = other.tree; holds = c.args.holds.now; known = other.known }) told ready same refl)))) in
     done_is_answered s c.args.bitmap.now c.args.bitmap.now m tree lists (g.E.Blocks.told c.set_mode.new.edits) (g.E.Blocks.changed c.args.edits.now) (g.E.Blocks.changed c.set_mode.new.edits) ready c.args.holds.now c.args.stamp c.args.call.now Done so
 
+pub give_size-requires-clause-fine : goal.give_size-requires-clause-fine
+give_size-requires-clause-fine g c m tree lists s told ready same held =
+    subst (λ (x : Call). own_refusal x s ≡ None) c.in-SetSize.is (c.requires.fine m tree lists s told ready same held)
+
+pub returns-in-SetSize-clause-answered : goal.returns-in-SetSize-clause-answered
+returns-in-SetSize-clause-answered g c m tree lists told ready =
+    let v = geometry_of c.args.sup.now in
+    let n = c.give_size.new in
+    let e : to_z w64 (of_z w64 c.args.stamp) ≡ c.args.stamp = search rules in
+    let so : ℤ → Call → Reply → Type 0 = λ z x reply. IsAnswered v c.args.bitmap.now n.bitmap m tree c.args.holds.now z x reply (g.E.Blocks.told n.edits) (g.E.Blocks.changed c.args.edits.now) (g.E.Blocks.changed n.edits) in
+    subst (λ (x : Call). IfOk c.give_size.result (so c.args.stamp x)) (sym c.in-SetSize.is)
+    (subst (λ (z : ℤ). IfOk c.give_size.result (so z (SetSize c.in-SetSize.id c.in-SetSize.size))) e (c.give_size.ensures.answered m tree lists told ready))
+
 pub remove-requires-clause-fine : goal.remove-requires-clause-fine
 remove-requires-clause-fine g c m tree lists s told ready same held =
     let is : c.args.call.now ≡ Remove c.in-Remove.dir c.as_slice-name.result.now = c.in-Remove.is ∙ ap (λ (n : List ℕ). Remove c.in-Remove.dir n) (sym c.as_slice-name.ensures) in
@@ -76,3 +89,34 @@ returns-in-IndexRemove-clause-answered g c m tree lists told ready =
     let so : Call → Reply → Type 0 = λ x reply. IsAnswered v c.args.bitmap.now n.bitmap m tree c.args.holds.now c.args.stamp x reply (g.E.Blocks.told n.edits) (g.E.Blocks.changed c.args.edits.now) (g.E.Blocks.changed n.edits) in
     subst (λ (x : Call). IfOk c.drop_index.result (so x)) (sym is)
     (c.drop_index.ensures.answered m tree lists c.args.holds.now c.args.stamp told ready)
+
+pub drop_attr-requires-clause-fine : goal.drop_attr-requires-clause-fine
+drop_attr-requires-clause-fine g c m tree lists s told ready same =
+    let is : c.args.call.now ≡ AttrRemove c.in-AttrRemove.id c.as_slice-in-AttrRemove.result.now = c.in-AttrRemove.is ∙ ap (λ (n : List ℕ). AttrRemove c.in-AttrRemove.id n) (sym c.as_slice-in-AttrRemove.ensures) in
+    subst (λ (x : Call). own_refusal x (record { tree = s.tree; holds = c.args.holds.now; known = s.known }) ≡ None) is (c.requires.fine m tree lists (record { tree = s.tree; holds = c.args.holds.now; known = s.known }) told ready same refl)
+
+pub returns-in-AttrRemove-clause-answered : goal.returns-in-AttrRemove-clause-answered
+returns-in-AttrRemove-clause-answered g c m tree lists told ready =
+    let v = geometry_of c.args.sup.now in
+    let n = c.drop_attr.new in
+    let is : c.args.call.now ≡ AttrRemove c.in-AttrRemove.id c.as_slice-in-AttrRemove.result.now = c.in-AttrRemove.is ∙ ap (λ (l : List ℕ). AttrRemove c.in-AttrRemove.id l) (sym c.as_slice-in-AttrRemove.ensures) in
+    let e : to_z w64 (of_z w64 c.args.stamp) ≡ c.args.stamp = search rules in
+    let so : ℤ → Call → Reply → Type 0 = λ z x reply. IsAnswered v c.args.bitmap.now n.bitmap m tree c.args.holds.now z x reply (g.E.Blocks.told n.edits) (g.E.Blocks.changed c.args.edits.now) (g.E.Blocks.changed n.edits) in
+    subst (λ (x : Call). IfOk c.drop_attr.result (so c.args.stamp x)) (sym is)
+    (subst (λ (z : ℤ). IfOk c.drop_attr.result (so z (AttrRemove c.in-AttrRemove.id c.as_slice-in-AttrRemove.result.now))) e (c.drop_attr.ensures.answered m tree lists c.args.holds.now told ready))
+
+pub put_attr-requires-clause-fine : goal.put_attr-requires-clause-fine
+put_attr-requires-clause-fine g c m tree lists s told ready same =
+    let is : c.args.call.now ≡ AttrWrite c.in-AttrWrite.id c.as_slice-in-AttrWrite.result.now c.in-AttrWrite.kind c.as_slice-in-AttrWrite-2.result.now = search rules in
+    subst (λ (x : Call). own_refusal x (record { tree = s.tree; holds = c.args.holds.now; known = s.known }) ≡ None) is (c.requires.fine m tree lists (record { tree = s.tree; holds = c.args.holds.now; known = s.known }) told ready same refl)
+
+pub returns-in-AttrWrite-clause-answered : goal.returns-in-AttrWrite-clause-answered
+returns-in-AttrWrite-clause-answered g c m tree lists told ready =
+    let v = geometry_of c.args.sup.now in
+    let n = c.put_attr.new in
+    let here : Call = AttrWrite c.in-AttrWrite.id c.as_slice-in-AttrWrite.result.now c.in-AttrWrite.kind c.as_slice-in-AttrWrite-2.result.now in
+    let is : c.args.call.now ≡ here = search rules in
+    let e : to_z w64 (of_z w64 c.args.stamp) ≡ c.args.stamp = search rules in
+    let so : ℤ → Call → Reply → Type 0 = λ z x reply. IsAnswered v c.args.bitmap.now n.bitmap m tree c.args.holds.now z x reply (g.E.Blocks.told n.edits) (g.E.Blocks.changed c.args.edits.now) (g.E.Blocks.changed n.edits) in
+    subst (λ (x : Call). IfOk c.put_attr.result (so c.args.stamp x)) (sym is)
+    (subst (λ (z : ℤ). IfOk c.put_attr.result (so z here)) e (c.put_attr.ensures.answered m tree lists c.args.holds.now told ready))

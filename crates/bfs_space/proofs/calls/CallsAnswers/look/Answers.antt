@@ -1,4 +1,4 @@
-use Rattle.std.proofs.Common.{◌≡◌, ◌∙◌, List, [], ℕ, refl, sym, ap, subst}
+use Rattle.std.proofs.Common.{rules, ◌≡◌, ◌∙◌, List, [], ℕ, refl, sym, ap, subst}
 use Rattle.std.specs.Prelude.{IfOk}
 use Rattle.bfs_super.specs.Geometry.{geometry_of}
 use Rattle.bfs_tree.specs.declared.call.Call.{Call}
@@ -26,6 +26,14 @@ returns-in-SetMode-clause-looked g c m tree lists told ready =
 pub returns-in-SetMode-clause-may : goal.returns-in-SetMode-clause-may
 returns-in-SetMode-clause-may g c =
     subst (λ (x : Call). IfOk c.look_set_mode.result (FindsMay MayBeDone c.args.sup.now x)) (sym c.in-SetMode.is) (c.look_set_mode.ensures.may c.in-SetMode.mode c.in-SetMode.uid c.in-SetMode.gid)
+
+pub returns-in-SetSize-clause-looked : goal.returns-in-SetSize-clause-looked
+returns-in-SetSize-clause-looked g c m tree lists told ready =
+    subst (λ (x : Call). IfOk c.look_set_size.result (IsLooked (geometry_of c.args.sup.now) m tree c.args.holds.now x)) (sym c.in-SetSize.is) (c.look_set_size.ensures.looked m tree lists told ready)
+
+pub returns-in-SetSize-clause-may : goal.returns-in-SetSize-clause-may
+returns-in-SetSize-clause-may g c =
+    subst (λ (x : Call). IfOk c.look_set_size.result (FindsMay MayBeDone c.args.sup.now x)) (sym c.in-SetSize.is) c.look_set_size.ensures.may
 
 pub returns-in-Lookup-clause-looked : goal.returns-in-Lookup-clause-looked
 returns-in-Lookup-clause-looked g c m tree lists told ready =
@@ -165,6 +173,16 @@ returns-in-Remove-clause-may g c =
     let is : c.args.call.now ≡ calls.Remove c.in-Remove.dir c.as_slice-in-Remove.result.now = c.in-Remove.is ∙ ap (λ (n : List ℕ). calls.Remove c.in-Remove.dir n) (sym c.as_slice-in-Remove.ensures) in
     subst (λ (x : Call). IfOk c.look_remove.result (FindsMay MayBeDone c.args.sup.now x)) (sym is) c.look_remove.ensures.may
 
+pub returns-in-AttrRemove-clause-looked : goal.returns-in-AttrRemove-clause-looked
+returns-in-AttrRemove-clause-looked g c m tree lists told ready =
+    let is : c.args.call.now ≡ calls.AttrRemove c.in-AttrRemove.id c.as_slice-in-AttrRemove.result.now = c.in-AttrRemove.is ∙ ap (λ (n : List ℕ). calls.AttrRemove c.in-AttrRemove.id n) (sym c.as_slice-in-AttrRemove.ensures) in
+    subst (λ (x : Call). IfOk c.look_remove_attr.result (IsLooked (geometry_of c.args.sup.now) m tree c.args.holds.now x)) (sym is) (c.look_remove_attr.ensures.looked m tree lists c.args.holds.now told ready)
+
+pub returns-in-AttrRemove-clause-may : goal.returns-in-AttrRemove-clause-may
+returns-in-AttrRemove-clause-may g c =
+    let is : c.args.call.now ≡ calls.AttrRemove c.in-AttrRemove.id c.as_slice-in-AttrRemove.result.now = c.in-AttrRemove.is ∙ ap (λ (n : List ℕ). calls.AttrRemove c.in-AttrRemove.id n) (sym c.as_slice-in-AttrRemove.ensures) in
+    subst (λ (x : Call). IfOk c.look_remove_attr.result (FindsMay MayBeDone c.args.sup.now x)) (sym is) c.look_remove_attr.ensures.may
+
 pub returns-in-IndexRemove-clause-looked : goal.returns-in-IndexRemove-clause-looked
 returns-in-IndexRemove-clause-looked g c m tree lists told ready =
     let is : c.args.call.now ≡ calls.IndexRemove c.as_slice-in-IndexRemove.result.now = c.in-IndexRemove.is ∙ ap (λ (n : List ℕ). calls.IndexRemove n) (sym c.as_slice-in-IndexRemove.ensures) in
@@ -174,3 +192,13 @@ pub returns-in-IndexRemove-clause-may : goal.returns-in-IndexRemove-clause-may
 returns-in-IndexRemove-clause-may g c =
     let is : c.args.call.now ≡ calls.IndexRemove c.as_slice-in-IndexRemove.result.now = c.in-IndexRemove.is ∙ ap (λ (n : List ℕ). calls.IndexRemove n) (sym c.as_slice-in-IndexRemove.ensures) in
     subst (λ (x : Call). IfOk c.look_remove_index.result (FindsMay MayBeDone c.args.sup.now x)) (sym is) c.look_remove_index.ensures.may
+
+pub returns-in-AttrWrite-clause-looked : goal.returns-in-AttrWrite-clause-looked
+returns-in-AttrWrite-clause-looked g c m tree lists told ready =
+    let is : c.args.call.now ≡ calls.AttrWrite c.in-AttrWrite.id c.as_slice-in-AttrWrite.result.now c.in-AttrWrite.kind c.as_slice-in-AttrWrite-2.result.now = search rules in
+    subst (λ (x : Call). IfOk c.look_write_attr.result (IsLooked (geometry_of c.args.sup.now) m tree c.args.holds.now x)) (sym is) (c.look_write_attr.ensures.looked m tree lists c.args.holds.now c.in-AttrWrite.kind told ready)
+
+pub returns-in-AttrWrite-clause-may : goal.returns-in-AttrWrite-clause-may
+returns-in-AttrWrite-clause-may g c =
+    let is : c.args.call.now ≡ calls.AttrWrite c.in-AttrWrite.id c.as_slice-in-AttrWrite.result.now c.in-AttrWrite.kind c.as_slice-in-AttrWrite-2.result.now = search rules in
+    subst (λ (x : Call). IfOk c.look_write_attr.result (FindsMay MayBeDone c.args.sup.now x)) (sym is) (c.look_write_attr.ensures.may c.in-AttrWrite.kind)

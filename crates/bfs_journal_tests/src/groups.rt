@@ -46,7 +46,7 @@ fn put_all(
 
 /// A group of so many blocks from one on, filled with one byte. It is the entries from `numbers[0]` to `numbers[1]`, and leaves
 /// `numbers[2]` used blocks.
-pub fn group_of(
+pub(crate) fn group_of(
     alloc: Global,
     numbers: [u64; 3],
     first: u64,
@@ -127,7 +127,7 @@ fn is_next(sup: &Super, left: u64, used: u64, group: &Group) -> bool
 }
 
 /// A device over this disk with three groups sealed.
-pub fn loaded(
+pub(crate) fn loaded(
     alloc: Global,
     mut disk: MemDisk,
     sup: Super,
@@ -167,7 +167,7 @@ pub fn loaded(
 
 /// A device over this volume with groups of so many blocks sealed: of bytes 1, 2 and 3, each from the first block that may be
 /// changed on, so that a later one covers an earlier one. They leave 21, 22 and 23 used blocks, but for a group without blocks.
-pub fn sealed(alloc: Global, volume: &Volume, sizes: [u64; 3]) -> Option<Device<MemDisk>> {
+pub(crate) fn sealed(alloc: Global, volume: &Volume, sizes: [u64; 3]) -> Option<Device<MemDisk>> {
     let Ok(sup) = Super::parse(&volume.fields().print()) else {
         return None;
     };
@@ -193,7 +193,7 @@ pub fn sealed(alloc: Global, volume: &Volume, sizes: [u64; 3]) -> Option<Device<
 }
 
 /// The used blocks after each of the groups.
-pub fn used_after(sizes: [u64; 3]) -> [u64; 3] {
+pub(crate) fn used_after(sizes: [u64; 3]) -> [u64; 3] {
     let one = if sizes[0] == 0 { 20 } else { 21 };
     let two = if sizes[1] == 0 { one } else { 22 };
     let three = if sizes[2] == 0 { two } else { 23 };
@@ -201,7 +201,7 @@ pub fn used_after(sizes: [u64; 3]) -> [u64; 3] {
 }
 
 /// Makes so many steps. Tells whether each was made.
-pub fn step_on(device: &mut Device<MemDisk>, steps: u64) -> bool {
+pub(crate) fn step_on(device: &mut Device<MemDisk>, steps: u64) -> bool {
     for _ in 0..steps {
         if device.step().is_err() {
             return false;

@@ -16,12 +16,12 @@ pub struct Volume {
 
 impl Volume {
     /// The first block behind the indices.
-    pub fn first(&self) -> u64 {
+    pub(crate) fn first(&self) -> u64 {
         u64::from(self.log) + 4
     }
 
     /// The fields of the superblock.
-    pub fn fields(&self) -> Super {
+    pub(crate) fn fields(&self) -> Super {
         let run = |start, len| Run {
             group: 0,
             start,
@@ -52,7 +52,7 @@ impl Volume {
     }
 
     /// The volume's bytes: zeros but for the superblock.
-    pub fn bytes(&self, alloc: Global) -> Result<Vec<u8>, AllocError>
+    pub(crate) fn bytes(&self, alloc: Global) -> Result<Vec<u8>, AllocError>
         ensures { IfOk result (λ v. length v.items ≡ 512 * (length v.items / 512)) }
     {
         let mut bytes = vec![in alloc; 0u8; 512 * (2 * self.blocks as usize)]?;

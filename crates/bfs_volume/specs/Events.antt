@@ -87,3 +87,8 @@ HasReplied t0 old new b later told faults faults' _ _ = Unit {0}
 abbrev pub MayHappen : Event → Type 0
 MayHappen (events.Call session tag call) = (session ≢ 0) × (call ≢ calls.Sync) × (is_built call ≡ true) × KeepsRanges call
 MayHappen _ = Unit {0}
+
+-- an event may want memory, but for a step of the device
+abbrev pub MayWantMemory : Event → Type 0
+MayWantMemory events.Step = ⊥
+MayWantMemory _ = Unit {0}

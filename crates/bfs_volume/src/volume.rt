@@ -14,7 +14,7 @@ ghost use Rattle.bfs_device_blocks.specs.Lent.{HasCore};
 ghost use Rattle.bfs_space.specs.Looks.{is_built};
 ghost use Rattle.bfs_volume.specs.Volumes.{MayBeMounted};
 ghost use Rattle.bfs_volume.specs.Entries.{HasEntry, HasEntryOf, HasFailedSync, HasReplyIn, IsAnsweredIn, IsEnded};
-ghost use Rattle.bfs_volume.specs.Events.{MayHappen, IsHappened, HasReplied};
+ghost use Rattle.bfs_volume.specs.Events.{MayHappen, MayWantMemory, IsHappened, HasReplied};
 ghost use Rattle.bfs_volume.specs.Causes.{HasSyncCause, HasStopCause};
 
 use crate::calls::{answer, sync};
@@ -134,6 +134,8 @@ impl<D: Disk, C: Clock> Volume<D, C> {
         requires may { MayHappen event }
         ensures happened { IfOk result (IsHappened self.old.space self.new.space self.old.device.books self.new.device.books (D.faults self.old.device.disk) (D.faults self.new.device.disk) (D.stops self.old.device.disk) (D.stops self.new.device.disk) event) }
         ensures no_memory { OnErr result (self.new.space.view.history ≡ self.old.space.view.history) }
+        // A step of the device wants no memory.
+        ensures wants { OnErr result (MayWantMemory event) }
         // Over what the disk tells, a call's reply is as the space's call says it, and it is put off only as that says.
         ensures replied { (t0 : Mounted) (adopted : ℕ) → HasCore t0 adopted self.old.space.view self.old.device.books (D.state self.old.device.disk) (D.clock self.old.device.disk) (D.since self.old.device.disk)
             → IfOk result (HasReplied t0 self.old.space self.new.space self.old.device.books self.new.device.books (D.state self.new.device.disk) (D.faults self.old.device.disk) (D.faults self.new.device.disk) event) }
@@ -173,6 +175,7 @@ impl<D: Disk, C: Clock> Volume<D, C> {
 
     /// Gives up the volume as it stands: what wasn't sealed is lost, and the disk is as a crash now would meet it. Takes no memory.
     pub fn abandon(self) -> (D, C, Vec<Entry>)
+        ensures disk { result.0 ≡ self.device.disk }
         ensures history { result.2.items ≡ self.space.view.history }
         ensures held { (t0 : Mounted) (adopted : ℕ) → HasCore t0 adopted self.space.view self.device.books (D.state self.device.disk) (D.clock self.device.disk) (D.since self.device.disk)
             → (image : List ℕ) → MayLeave (D.state result.0) image → RecoversFrom t0 self.space.view.history (durable_of self.device.books) image }

@@ -26,14 +26,14 @@ use bfs_txn::Blocks;
 use std::alloc::Global;
 
 /// Is it a name but `.` and `..`?
-fn is_proper_name(name: &[u8]) -> bool
+pub fn is_proper_name(name: &[u8]) -> bool
     ensures { result ≡ is_proper name.now }
 {
     !(name == b".".as_slice() || name == b"..".as_slice())
 }
 
 /// The number of a row's inode.
-fn number_of(value: i64) -> u64
+pub fn number_of(value: i64) -> u64
     ensures { result ≡ natural value }
 {
     if value < 0 { 0 } else { value as u64 }

@@ -37,8 +37,9 @@ fn blocks_in(sup: Super) -> u64
     }
 }
 
-/// The rows of a tree of names, of which each but `.` and `..` names a block.
-fn rows_in<B: Blocks>(
+/// The rows of the tree of names in the stream of an inode with these bytes, which was found to keep its format. Each but `.` and `..`
+/// names a block.
+pub fn rows_in<B: Blocks>(
     alloc: Global,
     under: &mut B,
     sup: &Super,

@@ -8,8 +8,8 @@ mod directory;
 mod stored;
 
 pub use address::directory_of;
-pub use attribute::visit_rows;
-pub use directory::visit_directory;
+pub use attribute::{is_proper_name, number_of, visit_rows};
+pub use directory::{rows_in, visit_directory};
 pub use stored::visit_stored;
 
 #[cfg(test)]

@@ -106,7 +106,7 @@ module _ (v : Volume) (this : Way) where
 
 -- ---- rows of one directory
 
-proper_parts : (front : List NameRow) (row : NameRow) (back : List NameRow) → is_proper row.name ≡ true → proper (as_rows (front ++ (row ∷ back))) ≡ proper (as_rows front) ++ ((row.name, row.value) ∷ proper (as_rows back))
+pub proper_parts : (front : List NameRow) (row : NameRow) (back : List NameRow) → is_proper row.name ≡ true → proper (as_rows (front ++ (row ∷ back))) ≡ proper (as_rows front) ++ ((row.name, row.value) ∷ proper (as_rows back))
 proper_parts [] row back p = ap (λ (c : Bool). cond c ((row.name, row.value) ∷ proper (as_rows back)) (proper (as_rows back))) p
 proper_parts (x ∷ xs) row back p = by_test (is_proper x.name) (proper_parts xs row back p)
   where
@@ -121,12 +121,12 @@ names_differ a b up e =
     let other : same_keys Text b a ≡ false = greater_not_same Text b a up in
     let bad : true ≡ false = sym same ∙ other in cc
 
-before_differ : (xs : List Row) (y : Row) (ys : List Row) → KeysAscend Text (xs ++ (y ∷ ys)) → (r : Row) → In r xs → r.0 ≢ y.0
+pub before_differ : (xs : List Row) (y : Row) (ys : List Row) → KeysAscend Text (xs ++ (y ∷ ys)) → (r : Row) → In r xs → r.0 ≢ y.0
 before_differ [] y ys up r i = absurd i
 before_differ (x ∷ xs) y ys up r (inl e) = names_differ r.0 y.0 (subst (λ (z : Row). comes_before Text z.0 y.0 ≡ true) (sym e) (of_all (λ (s : Row). comes_before Text x.0 s.0 ≡ true) (xs ++ (y ∷ ys)) y up.0 (in_behind y xs (y ∷ ys) (inl refl))))
 before_differ (x ∷ xs) y ys up r (inr i) = before_differ xs y ys up.1 r i
 
-value_is : (blocks : ℕ) (r : Row) → NamesBlock blocks r → r.1 ≡ pos (number_of r)
+pub value_is : (blocks : ℕ) (r : Row) → NamesBlock blocks r → r.1 ≡ pos (number_of r)
 value_is blocks r n = n.1 ∙ ap pos (sym (ap natural n.1))
 
 -- ---- one node

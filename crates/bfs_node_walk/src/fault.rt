@@ -1,14 +1,14 @@
-// What is wrong with a tree of names, as a finding on its inode.
+// What is wrong with a tree in a stream, as a finding on its inode.
 ghost use Rattle.std.specs.Prelude.{◌≡◌, ℕ, List};
-ghost use Rattle.bfs_base.specs.declared.kind.KeyKind.TheVariants.{Text};
+ghost use Rattle.bfs_base.specs.declared.kind.KeyKind.{KeyKind};
 ghost use Rattle.bfs_txn.specs.Faults.{Counts};
 ghost use Rattle.bfs_stream.specs.Faults.{IsCauseIn, IsGrowCause};
 ghost use Rattle.bfs_stream.specs.Scans.{IsDamage};
 ghost use Rattle.bfs_stream_pages.specs.Steps.{IsUndamaged};
 ghost use Rattle.bfs_sound.specs.Volumes.{Volume};
 ghost use Rattle.bfs_sound.specs.Inodes.{content};
-ghost use Rattle.bfs_finding.specs.Ways.{HasNames};
 ghost use Rattle.bfs_finding.specs.Findings.{IsBroken, IsStreamOf};
+ghost use Rattle.bfs_finding.specs.TreeFaults.{HasTree};
 ghost use Rattle.bfs_walk.specs.Wrong.{IsWalkCause};
 ghost use Rattle.bfs_tree_check.specs.Amiss.{IsAmissIn, IsAmiss};
 ghost use Rattle.bfs_inode_walk.specs.Visited.{IsTrueOf, IsTaken, IsVisitCause};
@@ -21,7 +21,7 @@ use bfs_walk::{TreeWrong, WalkFault};
 
 /// The finding on a tree.
 fn finding_of(owner: u64, wrong: TreeWrong) -> Finding
-    ensures { (v : Volume) → HasNames v owner → IsStreamOf v owner → IsAmissIn Text (content v owner) wrong → IsBroken v result }
+    ensures { (v : Volume) (kind : KeyKind) → HasTree v owner kind → IsStreamOf v owner → IsAmissIn kind (content v owner) wrong → IsBroken v result }
 {
     match wrong {
         TreeWrong::Page { page, part } => Finding::TreePage { owner, page, part },
@@ -60,7 +60,7 @@ fn block_fault(owner: u64, fault: BlockFault) -> VisitFault
 }
 
 /// A page of a stream that could not be had.
-fn page_fault(owner: u64, fault: GrowFault) -> VisitFault
+pub fn page_fault(owner: u64, fault: GrowFault) -> VisitFault
     ensures wrong { (v : Volume) → IsUndamaged fault → IsTrueOf v result }
     ensures cause { (old new : Counts) → IsGrowCause 1 old new fault → IsVisitCause old new result }
     ensures other { (xs own : List ℕ) → IsTaken xs own result }
@@ -72,9 +72,9 @@ fn page_fault(owner: u64, fault: GrowFault) -> VisitFault
     }
 }
 
-/// Why a tree of names could not be gone over.
-pub(crate) fn names_fault(owner: u64, fault: WalkFault<GrowFault>) -> VisitFault
-    ensures wrong { (v : Volume) → HasNames v owner → IsStreamOf v owner → IsAmiss Text (content v owner) fault → IsWalkCause IsUndamaged fault → IsTrueOf v result }
+/// Why a tree could not be gone over.
+pub fn tree_fault(owner: u64, fault: WalkFault<GrowFault>) -> VisitFault
+    ensures wrong { (v : Volume) (kind : KeyKind) → HasTree v owner kind → IsStreamOf v owner → IsAmiss kind (content v owner) fault → IsWalkCause IsUndamaged fault → IsTrueOf v result }
     ensures cause { (old new : Counts) → IsWalkCause (IsGrowCause 1 old new) fault → IsVisitCause old new result }
     ensures other { (xs own : List ℕ) → IsTaken xs own result }
 {

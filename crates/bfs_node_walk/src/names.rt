@@ -16,7 +16,7 @@ ghost use Rattle.bfs_finding.specs.Findings.{IsStreamOf};
 ghost use Rattle.bfs_names_walk.specs.Rows.{AreNames};
 ghost use Rattle.bfs_inode_walk.specs.Visited.{IsTrueOf, IsTaken, IsVisitCause};
 
-use crate::fault::names_fault;
+use crate::fault::tree_fault;
 use bfs_finding::{Finding, PagePart};
 use bfs_inode::InodeView;
 use bfs_inode_walk::VisitFault;
@@ -41,7 +41,7 @@ fn whole_pages(size: i64) -> Option<u64>
 }
 
 /// The size of the stream of an inode, by its block, where it is of whole pages.
-fn size_in(block: &[u8]) -> Option<u64>
+pub fn size_in(block: &[u8]) -> Option<u64>
     requires { 1024 ≤ length block.now }
     ensures is { IfSome result (λ n. ((stream_at block.now).size ≡ pos n) × (n % 1024 ≡ 0)) }
     ensures none { result ≡ None → (n : ℕ) → (stream_at block.now).size ≡ pos n → n % 1024 ≡ 0 → ⊥ }
@@ -70,7 +70,7 @@ fn names_over<B: Blocks, L: Ledger>(
 {
     match walk_rows(alloc, pages, steps) {
         Ok(rows) => Ok(rows),
-        Err(fault) => Err(names_fault(owner, fault)),
+        Err(fault) => Err(tree_fault(owner, fault)),
     }
 }
 

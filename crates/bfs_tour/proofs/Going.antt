@@ -12,7 +12,7 @@ use Rattle.bfs_sound.specs.Owners.{In}
 use Rattle.bfs_sound.proofs.Counts.{in_left, in_right}
 use Rattle.bfs_tour.specs.Tours.{Visit, IsVisit}
 use Rattle.bfs_finding.proofs.Pieces.{eq_yes}
-use Rattle.bfs_tour.specs.Touring.{Lead, lead_by, leads_at, IsListed, IsLead, IsMet, IsTouring, IsStep, TourBegins, TourGoesOn, TourEnds}
+use Rattle.bfs_tour.specs.Touring.{Lead, lead_by, leads_at, IsListed, IsLead, IsMet, IsTouring, IsStep, TourBegins, TourGoesOn, TourEnds, RoundEnds}
 
 abbrev test : Bool → ℕ
 test c = cond c 1 0
@@ -171,16 +171,18 @@ module _ (v : Volume) (top : Visit) (es : List Visit) (l : Lead) (todo : List Le
 pub goes_on : TourGoesOn
 goes_on v top es l todo n t s = on v top es l todo n t s
 
-pub ends : TourEnds
-ends v top es kinds t directory indices some = record {
+pub round_ends : RoundEnds
+round_ends v top es kinds t directory indices = record {
   tour = t.tour;
   once = t.once;
   scanned = λ d i dir. record { dot = (t.listed d i dir).dot; dots = (t.listed d i dir).dots; below = λ name value row. visited d name value (t.met d i dir name value row) };
   directory = directory;
   indices = indices;
-  some = some;
 }
   where
     visited : (d : Visit) (name : List ℕ) (value : ℤ) → IsMet es [] d name value → (e : Visit) × In e es × (value ≡ pos e.0) × (e.1.parent ≡ d.0) × (e.1.name ≡ name)
     visited d name value (inl m) = m
     visited d name value (inr m) = absurd m.1
+
+pub ends : TourEnds
+ends v top es kinds t directory indices some = record { round = round_ends v top es kinds t directory indices; some = some }

@@ -16,7 +16,7 @@ use Rattle.bfs_tree.specs.Orders.{placed, in_order}
 use Rattle.bfs_tree.specs.Listings.{pair_cmp, pairs_in, key_in}
 use Rattle.bfs_tree.specs.Trees.{Node}
 use Rattle.bfs_sound.specs.Owners.{In}
-use Rattle.bfs_tour.specs.Pairs.{Rises, PairsAreListed}
+use Rattle.bfs_tour.specs.Pairs.{Rises, GatheredAreListed, PairsAreListed}
 use Rattle.bfs_tour.proofs.Members.{numbers, once_first, once_rest, found_in, in_found, times_entries}
 use Rattle.bfs_finding.proofs.Rows.{all_in}
 
@@ -147,10 +147,15 @@ module _ {X : Type 0} (cmp : X → X → Ordering) (o : IsOrder cmp) where
   in_fold (x ∷ xs) acc z (inl (inr i)) = in_fold xs (placed cmp acc x) z (inl i)
   in_fold (x ∷ xs) acc z (inr i) = in_fold xs (placed cmp acc x) z (inr (in_placed acc x z (inr i)))
 
+  order_rises : (xs : List X) → Apart xs → Rises cmp (in_order cmp xs)
+  order_rises xs a = fold_rises xs [] tt a (λ x y i j. absurd j)
+
+  order_in : (xs : List X) (z : X) → In z (in_order cmp xs) ↔ In z xs
+  order_in xs z = (λ i. ⊎_elim (λ j. j) (λ j. absurd j) (fold_in xs [] z i), λ i. in_fold xs [] z (inl i))
+
   pub order_same : (xs ys : List X) → Apart xs → Rises cmp ys → ((z : X) → In z ys ↔ In z xs) → ys ≡ in_order cmp xs
   order_same xs ys a r same =
-      rise_same ys (in_order cmp xs) r (fold_rises xs [] tt a (λ x y i j. absurd j))
-      (λ z. (λ i. in_fold xs [] z (inl ((same z).0 i)), λ i. (same z).1 (⊎_elim (λ j. j) (λ j. absurd j) (fold_in xs [] z i))))
+      rise_same ys (in_order cmp xs) r (order_rises xs a) (λ z. (λ i. (order_in xs z).1 ((same z).0 i), λ i. (same z).1 ((order_in xs z).0 i)))
 
 -- pairs
 then_less : (a b : Ordering) → ordering_then a b ≡ Less → (a ≡ Less) ⊎ ((a ≡ Equal) × (b ≡ Less))
@@ -256,3 +261,14 @@ pairs_listed root index kind visits pairs once rises same =
     let all : List (ℕ × Node) = entries (from_entries {R = nat_cmp} visits) in
     order_same (pair_cmp kind) (pair_order kind) (pairs_in root index kind all) pairs (pairs_apart root index kind all (entries_once visits once)) rises
     (λ p. (λ i. pairs_over root index kind visits all (visit_entry visits once) p ((same p).0 i), λ i. (same p).1 (pairs_over root index kind all visits (entry_visit visits once) p i)))
+
+pub gathered_listed : GatheredAreListed
+gathered_listed root index kind visits gathered once apart same =
+    let all : List (ℕ × Node) = entries (from_entries {R = nat_cmp} visits) in
+    let pairs : List (List ℕ × ℕ) = pairs_in root index kind gathered in
+    order_same (pair_cmp kind) (pair_order kind) (pairs_in root index kind all) (in_order (pair_cmp kind) pairs) (pairs_apart root index kind all (entries_once visits once))
+    (order_rises (pair_cmp kind) (pair_order kind) pairs (pairs_apart root index kind gathered apart))
+    (λ p. (
+      λ i. pairs_over root index kind gathered all (λ e j. visit_entry visits once e ((same e).0 j)) p ((order_in (pair_cmp kind) (pair_order kind) pairs p).0 i),
+      λ i. (order_in (pair_cmp kind) (pair_order kind) pairs p).1 (pairs_over root index kind all gathered (λ e j. (same e).1 (entry_visit visits once e j)) p i),
+    ))

@@ -31,7 +31,9 @@ use Rattle.bfs_sound.specs.Listings.{IsChild, IsRow, Lists, IsIndex, IsIndexRow,
 use Rattle.bfs_sound.specs.Owners.{In, node_blocks, index_blocks, fixed_blocks, reach}
 use Rattle.bfs_finding.proofs.OneNodes.{some_same, pos_same}
 use Rattle.bfs_finding.proofs.Rows.{in_filter, text_same, in_assoc, tree_ascends}
-use Rattle.bfs_tour.specs.Tours.{Visit, Found, IsTop, IsVisit, IsTour, IsScanned, AreIndices, toured_tree, Toured, claimed, TourReaches, TourStands}
+use Rattle.bfs_tour.specs.Tours.{Visit, Found, IsTop, IsVisit, IsTour, IsScanned, AreIndices, toured_tree, IsRound, claimed, TourReaches, TourStands, RoundIsUnbroken}
+use Rattle.bfs_finding.proofs.Passes.{broken}
+use Rattle.bfs_finding.proofs.Upright.{Upright}
 use Rattle.bfs_tour.proofs.Members.{filter_in, once_first, found_in, in_found, times_entries}
 
 assoc_in : (rows : List Row) (name : List ℕ) (value : ℤ) → assoc Text rows name ≡ Some value → In (name, value) rows
@@ -159,7 +161,7 @@ no_entries (k ∷ ks) none = absurd (differ (sym here ∙ get-from_entries nat_l
     differ : None ≡ Some k.1 → ⊥
     differ h = cc
 
-module _ (v : Volume) (top : Visit) (es : List Visit) (kinds : List Found) (t : Toured v top es kinds) where
+module _ (v : Volume) (top : Visit) (es : List Visit) (kinds : List Found) (t : IsRound v top es kinds) where
   tree : Tree
   tree = toured_tree v top es kinds
 
@@ -292,21 +294,21 @@ module _ (v : Volume) (top : Visit) (es : List Visit) (kinds : List Found) (t : 
       let i = index_at v (index_rows v) kinds t.indices name value h in
       record { kind = i.kind; there = get-from_entries nat_list_cmp_total kinds name ∙ i.there; number = i.number; index = i.index }
 
-  none_found : (v.geometry.indices ≡ 0) ↔ (from_entries {R = text_cmp} kinds ≡ empty)
-  none_found = (λ zero. ap (λ (ks : List Found). from_entries {R = text_cmp} ks) (no_kinds v (index_rows v) kinds t.indices (ap (rows_of v) (no_directory v zero))), λ none. t.some (no_entries kinds none))
+  none_found : (kinds ≡ [] → v.geometry.indices ≡ 0) → (v.geometry.indices ≡ 0) ↔ (from_entries {R = text_cmp} kinds ≡ empty)
+  none_found some = (λ zero. ap (λ (ks : List Found). from_entries {R = text_cmp} ks) (no_kinds v (index_rows v) kinds t.indices (ap (rows_of v) (no_directory v zero))), λ none. some (no_entries kinds none))
 
-  stands : Stands v (toured_tree v top es kinds)
-  stands = record {
+  stands : (kinds ≡ [] → v.geometry.indices ≡ 0) → Stands v (toured_tree v top es kinds)
+  stands some = record {
     root = refl;
     nodes = λ id n there. has_node (id, n) (node_in id n there);
     listings = λ id n there dir. lists id n (node_in id n there) dir;
     directory = t.directory;
-    none = none_found;
+    none = none_found some;
     indices = index_of;
     no_more = λ name kind there. row_of v (index_rows v) kinds t.indices name kind (sym (get-from_entries nat_list_cmp_total kinds name) ∙ there);
   }
 
-pub tour_claims : (v : Volume) (top : Visit) (es : List Visit) (kinds : List Found) → Toured v top es kinds → (k : ℕ) → times k (reach v (toured_tree v top es kinds)) ≡ times k (claimed v (top ∷ es))
+pub tour_claims : (v : Volume) (top : Visit) (es : List Visit) (kinds : List Found) → IsRound v top es kinds → (k : ℕ) → times k (reach v (toured_tree v top es kinds)) ≡ times k (claimed v (top ∷ es))
 tour_claims v top es kinds t k =
     let nodes : List (ℕ × Node) = entries (toured_tree v top es kinds).nodes in
     let one : times k (flat_map (node_blocks v) nodes) ≡ times k (flat_map (node_blocks v) (top ∷ es)) = times_entries k (node_blocks v) (top ∷ es) t.once in
@@ -319,14 +321,29 @@ tour_claims v top es kinds t k =
     omega (arith, one, a, b, c, d, e, f)
 
 pub tour_reach : TourReaches
-tour_reach v top es kinds t k = tour_claims v top es kinds t k
+tour_reach v top es kinds t k = tour_claims v top es kinds t.round k
 
 pub tour_standing : TourStands
 tour_standing v top es kinds t once inside = record {
   nodes = record {
-    plain = nodes_are v top es kinds t;
-    stands = stands v top es kinds t;
-    once = λ k. subst (λ (n : ℕ). n ≤ 1) (sym (tour_claims v top es kinds t k)) (once k);
+    plain = nodes_are v top es kinds t.round;
+    stands = stands v top es kinds t.round t.some;
+    once = λ k. subst (λ (n : ℕ). n ≤ 1) (sym (tour_claims v top es kinds t.round k)) (once k);
   };
-  inside = λ k h. inside k (subst (λ (n : ℕ). 0 < n) (tour_claims v top es kinds t k) h);
+  inside = λ k h. inside k (subst (λ (n : ℕ). 0 < n) (tour_claims v top es kinds t.round k) h);
 }
+
+pub round_unbroken : RoundIsUnbroken
+round_unbroken v top es kinds t once inside finding = broken v (toured_tree v top es kinds) up finding
+  where
+    up : Upright v (toured_tree v top es kinds)
+    up = record {
+      plain = nodes_are v top es kinds t;
+      root = refl;
+      nodes = λ id n there. has_node v top es kinds t (id, n) (node_in v top es kinds t id n there);
+      listings = λ id n there dir. lists v top es kinds t id n (node_in v top es kinds t id n there) dir;
+      directory = t.directory;
+      indices = index_of v top es kinds t;
+      once = λ k. subst (λ (n : ℕ). n ≤ 1) (sym (tour_claims v top es kinds t k)) (once k);
+      inside = λ k h. inside k (subst (λ (n : ℕ). 0 < n) (tour_claims v top es kinds t k) h);
+    }

@@ -8,6 +8,7 @@ use Rattle.std.specs.declared.cmp.Ordering.TheVariants.{Less}
 use Rattle.bfs_base.specs.Lists.{IsOnce}
 use Rattle.bfs_base.specs.declared.kind.KeyKind.{KeyKind}
 use Rattle.bfs_tree.specs.Listings.{pair_cmp, pairs_in, listed_among}
+use Rattle.bfs_tree.specs.Orders.{in_order}
 use Rattle.bfs_sound.specs.Owners.{In}
 use Rattle.bfs_tour.specs.Tours.{Visit}
 
@@ -24,3 +25,8 @@ Rises cmp (x ∷ xs) = AllByRecursion (λ y. cmp x y ≡ Less) xs × Rises cmp x
 abbrev pub PairsAreListed : Type 0
 PairsAreListed = (root : ℕ) (index : List ℕ) (kind : KeyKind) (visits : List Visit) (pairs : List Pair) → IsOnce (map (λ e. e.0) visits) → Rises (pair_cmp kind) pairs
     → ((p : Pair) → In p pairs ↔ In p (pairs_in root index kind visits)) → pairs ≡ listed_among root index kind (entries (from_entries {R = nat_cmp} visits))
+
+-- the pairs of what was visited, gathered in any order and then put in order, are what an index lists of the map of this
+abbrev pub GatheredAreListed : Type 0
+GatheredAreListed = (root : ℕ) (index : List ℕ) (kind : KeyKind) (visits gathered : List Visit) → IsOnce (map (λ e. e.0) visits) → IsOnce (map (λ e. e.0) gathered) → ((e : Visit) → In e gathered ↔ In e visits)
+    → in_order (pair_cmp kind) (pairs_in root index kind gathered) ≡ listed_among root index kind (entries (from_entries {R = nat_cmp} visits))

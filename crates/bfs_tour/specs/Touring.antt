@@ -14,7 +14,7 @@ use Rattle.bfs_sound.specs.Inodes.{content, proper_rows, index_directory}
 use Rattle.bfs_sound.specs.Nodes.{HasNode}
 use Rattle.bfs_sound.specs.Listings.{HasIndexDirectory, index_rows}
 use Rattle.bfs_sound.specs.Owners.{In}
-use Rattle.bfs_tour.specs.Tours.{Visit, Found, IsTop, IsTour, AreIndices, Toured}
+use Rattle.bfs_tour.specs.Tours.{Visit, Found, IsTop, IsTour, AreIndices, IsRound, Toured}
 
 -- a row that leads on: its directory, its name, and the number that it names
 pub record Lead : Type 0 where
@@ -77,7 +77,11 @@ abbrev pub TourGoesOn : Type 0
 TourGoesOn = (v : Volume) (top : Visit) (es : List Visit) (l : Lead) (todo : List Lead) (n : Node) → IsTouring v top es (l ∷ todo) → IsStep v top es l n
     → IsTouring v top ((l.id, n) ∷ es) (todo ++ leads_at v (l.id, n))
 
--- where nothing leads on, and the index directory was gone over too, it is whole
+-- where nothing leads on, and the index directory was gone over too, it is a round
+abbrev pub RoundEnds : Type 0
+RoundEnds = (v : Volume) (top : Visit) (es : List Visit) (kinds : List Found) → IsTouring v top es [] → HasIndexDirectory v (index_directory v) → AreIndices v (index_rows v) kinds → IsRound v top es kinds
+
+-- where besides the index directory has a row, if it is there, it is whole
 abbrev pub TourEnds : Type 0
 TourEnds = (v : Volume) (top : Visit) (es : List Visit) (kinds : List Found) → IsTouring v top es [] → HasIndexDirectory v (index_directory v) → AreIndices v (index_rows v) kinds → (kinds ≡ [] → v.geometry.indices ≡ 0)
     → Toured v top es kinds

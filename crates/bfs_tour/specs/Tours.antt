@@ -17,7 +17,8 @@ use Rattle.bfs_sound.specs.Inodes.{content, proper_rows, index_directory}
 use Rattle.bfs_sound.specs.Nodes.{HasNode}
 use Rattle.bfs_sound.specs.Listings.{IsIndex, HasIndexDirectory, index_rows}
 use Rattle.bfs_sound.specs.Owners.{In, node_blocks, index_blocks, fixed_blocks, reach}
-use Rattle.bfs_finding.specs.Findings.{Standing}
+use Rattle.bfs_finding.specs.declared.finding.Finding.{Finding}
+use Rattle.bfs_finding.specs.Findings.{IsBroken, Standing}
 
 -- a node that was visited: its number and its record
 abbrev pub Visit : Type 0
@@ -66,14 +67,18 @@ AreIndices v (r ∷ rs) (k ∷ ks) = (k.0 ≡ r.0) × (r.1 ≡ pos (natural r.1)
 abbrev pub toured_tree : Volume → Visit → List Visit → List Found → Tree
 toured_tree v top es kinds = record { root = v.geometry.root; nodes = from_entries (top ∷ es); indices = from_entries kinds }
 
--- A whole tour: no number was visited twice, each directory's rows were gone over, and so were those of the index directory, which
--- has one where it is there.
-pub record Toured (v : Volume) (top : Visit) (es : List Visit) (kinds : List Found) : Type 0 where
+-- A round over all nodes and indices: no number was visited twice, each directory's rows were gone over, and so were those of the index
+-- directory.
+pub record IsRound (v : Volume) (top : Visit) (es : List Visit) (kinds : List Found) : Type 0 where
   pub tour : IsTour v top es
   pub once : IsOnce (map (λ e. e.0) (top ∷ es))
   pub scanned : (d : Visit) → In d (top ∷ es) → d.1.kind ≡ Dir → IsScanned v es d
   pub directory : HasIndexDirectory v (index_directory v)
   pub indices : AreIndices v (index_rows v) kinds
+
+-- A whole tour: besides, the index directory has a row where it is there.
+pub record Toured (v : Volume) (top : Visit) (es : List Visit) (kinds : List Found) : Type 0 where
+  pub round : IsRound v top es kinds
   pub some : kinds ≡ [] → v.geometry.indices ≡ 0
 
 -- the blocks that were claimed: those of the system, of each visit, and of the index directory with its indices
@@ -88,3 +93,9 @@ TourReaches = (v : Volume) (top : Visit) (es : List Visit) (kinds : List Found) 
 abbrev pub TourStands : Type 0
 TourStands = (v : Volume) (top : Visit) (es : List Visit) (kinds : List Found) → Toured v top es kinds → IsOnce (claimed v (top ∷ es)) → ((k : ℕ) → Has (claimed v (top ∷ es)) k → k < v.geometry.blocks)
     → Standing v (toured_tree v top es kinds)
+
+-- nothing is broken on a volume on which a round was gone, where each block was claimed once and lies in the volume, also one whose index
+-- directory has no row
+abbrev pub RoundIsUnbroken : Type 0
+RoundIsUnbroken = (v : Volume) (top : Visit) (es : List Visit) (kinds : List Found) → IsRound v top es kinds → IsOnce (claimed v (top ∷ es)) → ((k : ℕ) → Has (claimed v (top ∷ es)) k → k < v.geometry.blocks)
+    → (finding : Finding) → ¬ IsBroken v finding

@@ -1,8 +1,8 @@
 // Laws of a tour over the nodes of a volume: each is the contract of a function that does nothing.
-ghost use Rattle.bfs_tour.specs.Pairs.{PairsAreListed};
+ghost use Rattle.bfs_tour.specs.Pairs.{GatheredAreListed, PairsAreListed};
 ghost use Rattle.bfs_tour.specs.Shared.{TakenIsShared};
-ghost use Rattle.bfs_tour.specs.Touring.{TourBegins, TourEnds, TourGoesOn};
-ghost use Rattle.bfs_tour.specs.Tours.{TourReaches, TourStands};
+ghost use Rattle.bfs_tour.specs.Touring.{RoundEnds, TourBegins, TourEnds, TourGoesOn};
+ghost use Rattle.bfs_tour.specs.Tours.{TourReaches, TourStands, RoundIsUnbroken};
 
 /// A tour begins with the root, whose rows lead on.
 pub fn tour_begins()
@@ -14,7 +14,12 @@ pub fn tour_goes_on()
     ensures { TourGoesOn }
 {}
 
-/// Where no row leads on, it is whole.
+/// Where no row leads on, and the index directory was gone over, it is a round.
+pub fn round_ends()
+    ensures { RoundEnds }
+{}
+
+/// Where besides the index directory has a row, if it is there, it is whole.
 pub fn tour_ends()
     ensures { TourEnds }
 {}
@@ -37,4 +42,14 @@ pub fn taken_is_shared()
 /// Pairs that rise and are those of the nodes that were visited are what the tree lists.
 pub fn pairs_are_listed()
     ensures { PairsAreListed }
+{}
+
+/// The pairs of the nodes that were visited, gathered in any order and then put in order, are what the tree lists.
+pub fn gathered_are_listed()
+    ensures { GatheredAreListed }
+{}
+
+/// Nothing is broken where a round over all nodes and indices was gone, and no block claimed twice nor outside of the volume.
+pub fn round_is_unbroken()
+    ensures { RoundIsUnbroken }
 {}

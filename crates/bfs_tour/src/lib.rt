@@ -6,6 +6,6 @@
 mod laws;
 
 pub use laws::{
-    pairs_are_listed, taken_is_shared, tour_begins, tour_ends, tour_goes_on, tour_reaches,
-    tour_stands,
+    gathered_are_listed, pairs_are_listed, round_ends, round_is_unbroken, taken_is_shared,
+    tour_begins, tour_ends, tour_goes_on, tour_reaches, tour_stands,
 };

@@ -1,4 +1,4 @@
-use Rattle.std.proofs.Common.{◌≡◌, ◌∙◌, List, ℕ, Option, Some, refl, sym, ap, subst}
+use Rattle.std.proofs.Common.{◌≡◌, ◌∙◌, inl, List, ℕ, Option, Some, refl, sym, ap, subst}
 use Rattle.std.specs.Prelude.{IsSome}
 use Rattle.std.specs.Option.{option_map}
 use Rattle.bfs_base.specs.declared.kind.KeyKind.TheVariants.{Text}
@@ -20,7 +20,7 @@ returns-in-Err-clause-wrong g c v m told same names stream =
     let s = c.args.pages.now in
     let q = c.walk_rows.new.pages in
     let some : IsSome (g.B.Blocks.told s.under.now) = subst (λ (o : Option (ℕ → Option (List ℕ))). IsSome o) (sym told) refl in
-    c.names_fault.ensures.wrong v names stream
+    c.tree_fault.ensures.wrong v Text (inl (names, refl)) stream
     (subst (λ (b : List ℕ). IsAmiss Text b c.in-Err.fault) (sym same) (c.in-Err.ensures.wrong (stream_of s.backing m) (ap (option_map (stream_of s.backing)) told)))
     (walk_weaker (IsReadCause (g.B.Blocks.told s.under.now) (g.B.Blocks.counts s.under.now) (g.B.Blocks.counts q.under.now)) IsUndamaged (λ f r. r.sound some) c.in-Err.fault c.in-Err.ensures.cause)
 
@@ -28,5 +28,5 @@ pub returns-in-Err-clause-cause : goal.returns-in-Err-clause-cause
 returns-in-Err-clause-cause g c =
     let s = c.args.pages.now in
     let q = c.walk_rows.new.pages in
-    c.names_fault.ensures.cause (g.B.Blocks.counts s.under.now) (g.B.Blocks.counts q.under.now)
+    c.tree_fault.ensures.cause (g.B.Blocks.counts s.under.now) (g.B.Blocks.counts q.under.now)
     (walk_weaker (IsReadCause (g.B.Blocks.told s.under.now) (g.B.Blocks.counts s.under.now) (g.B.Blocks.counts q.under.now)) (IsGrowCause 1 (g.B.Blocks.counts s.under.now) (g.B.Blocks.counts q.under.now)) (λ f r. r.below) c.in-Err.fault c.in-Err.ensures.cause)

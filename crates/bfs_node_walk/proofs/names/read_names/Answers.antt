@@ -1,4 +1,4 @@
-use Rattle.std.proofs.Common.{◌≡◌, ◌∙◌, ◌%◌, List, ℕ, length, pos, refl, sym, ap, subst}
+use Rattle.std.proofs.Common.{◌≡◌, ◌∙◌, ◌%◌, inl, List, ℕ, length, pos, refl, sym, ap, subst}
 use Rattle.bfs_inode.specs.Inode.{stream_at}
 use Rattle.bfs_super.specs.Conditions.{natural}
 use Rattle.bfs_stream.specs.Sizes.{Sizes, sizes_of}
@@ -21,7 +21,7 @@ returns-in_default-clause-wrong g c m told names =
     let size : (stream_at (contents m c.args.id)).size ≡ pos n = size_natural s c.args.id m all c.requires.inside has in
     let sized = sized_of s.block_size (g.B.Blocks.size c.args.under.now) (g.B.Blocks.told c.args.under.now) m c.requires.size told (g.met.B.Blocks.sized c.args.under.now) in
     let long : length (content v c.args.id) ≡ n = length_is s c.args.id m all c.requires.inside has n size sized in
-    size_broken v c.args.id names has (λ h. c.in_default.ensures.none refl n (ap (λ (b : List ℕ). (stream_at b).size) (c.requires.bytes m told) ∙ size) (ap (λ (k : ℕ). k % 1024) (sym long) ∙ h))
+    size_broken v c.args.id (inl names) has (λ h. c.in_default.ensures.none refl n (ap (λ (b : List ℕ). (stream_at b).size) (c.requires.bytes m told) ∙ size) (ap (λ (k : ℕ). k % 1024) (sym long) ∙ h))
 
 pub names_with-requires-clause-held : goal.names_with-requires-clause-held
 names_with-requires-clause-held g c m told =

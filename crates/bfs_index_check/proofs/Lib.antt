@@ -1,0 +1,5 @@
+pub mod Differs
+pub mod Prefixes
+pub mod KeysBack
+pub mod Rests
+pub mod Unlisted

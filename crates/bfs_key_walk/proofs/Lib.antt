@@ -1,0 +1,4 @@
+pub mod Keyed
+pub mod Bearing
+pub mod Gathers
+pub mod Toured

@@ -1,0 +1,10 @@
+// Gathers the pairs that an index has to list, of the nodes that a check has gone over: the key of each, with its number, in the index's
+// order. What is known of the nodes then stands in specs/Gathered.antt.
+#![tactic(auto)]
+
+mod fault;
+mod gather;
+mod key;
+mod wanted;
+
+pub use wanted::wanted_pairs;

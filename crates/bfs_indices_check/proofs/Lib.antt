@@ -1,0 +1,4 @@
+pub mod Rowed
+pub mod Placing
+pub mod Listing
+pub mod Finds

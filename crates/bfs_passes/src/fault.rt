@@ -4,7 +4,7 @@ ghost use Rattle.bfs_super.specs.declared.sup.Super.{Super};
 ghost use Rattle.bfs_txn.specs.Faults.{Counts};
 ghost use Rattle.bfs_tree.specs.Trees.{Tree};
 ghost use Rattle.bfs_sound.specs.Volumes.{Volume};
-ghost use Rattle.bfs_sound.specs.Owners.{Marks, reach};
+ghost use Rattle.bfs_sound.specs.Owners.{reach};
 ghost use Rattle.bfs_sound.specs.Whole.{HasSoundIndices};
 ghost use Rattle.bfs_finding.specs.Findings.{Standing};
 ghost use Rattle.bfs_bitmap_check.specs.Bitmaps.{IsBitCause};

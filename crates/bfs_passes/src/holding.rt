@@ -1,5 +1,5 @@
 // What was gone over, held against the rules that are left: what the indices list, the bitmap, and the number of used blocks.
-ghost use Rattle.std.specs.Prelude.{◌≡◌, ◌≢◌, ◌<◌, ℕ, List, [], Bool, true, false, Option, Some, OnOk, IfOk, IfErr};
+ghost use Rattle.std.specs.Prelude.{◌≡◌, ◌≢◌, ◌<◌, ℕ, List, [], true, false, Option, Some, OnOk, IfOk, IfErr};
 ghost use Rattle.bfs_super.specs.Conditions.{IsValid, natural, block_of_run};
 ghost use Rattle.bfs_super.specs.declared.sup.Super.{Super as Fields};
 ghost use Rattle.bfs_txn.specs.Faults.{AreLater, Counts};
@@ -7,9 +7,7 @@ ghost use Rattle.bfs_stream.specs.Sizes.{sizes_of};
 ghost use Rattle.bfs_stream.specs.Told.{contents};
 ghost use Rattle.bfs_stream_check.specs.Known.{IsAllTold};
 ghost use Rattle.bfs_sound.specs.Volumes.{Volume};
-ghost use Rattle.bfs_sound.specs.Whole.{volume_of, HasSoundIndices};
-ghost use Rattle.bfs_finding.specs.Findings.{Standing};
-ghost use Rattle.bfs_claims.specs.Claims.{Claimed};
+ghost use Rattle.bfs_sound.specs.Whole.{volume_of};
 ghost use Rattle.bfs_nodes_walk.specs.Leads.{AreInside as AreLeadsInside};
 ghost use Rattle.bfs_nodes_walk.specs.declared.lead.NodeLead.{NodeLead as Lead};
 ghost use Rattle.bfs_index_walk.specs.Indices.{AreInside};

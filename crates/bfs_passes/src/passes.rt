@@ -1,6 +1,6 @@
 // The passes, one after the other.
 ghost use Rattle.std.specs.Prelude.{◌≡◌, ℕ, List, Option, Some, IfOk, IfErr};
-ghost use Rattle.bfs_super.specs.Conditions.{IsValid, natural, block_of_run};
+ghost use Rattle.bfs_super.specs.Conditions.{IsValid};
 ghost use Rattle.bfs_txn.specs.Faults.{AreLater};
 ghost use Rattle.bfs_stream.specs.Sizes.{sizes_of};
 ghost use Rattle.bfs_stream.specs.Told.{contents};

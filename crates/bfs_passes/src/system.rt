@@ -1,13 +1,10 @@
 // The blocks of the system, which are claimed first of all: block 0, the bitmap and the log.
-ghost use Rattle.std.specs.Prelude.{◌≡◌, ◌≤◌, ℕ, List, IfOk, IfErr};
-ghost use Rattle.bfs_super.specs.Conditions.{IsValid, natural, ceil};
+ghost use Rattle.std.specs.Prelude.{◌≡◌, ℕ, List, IfOk, IfErr};
+ghost use Rattle.bfs_super.specs.Conditions.{IsValid, natural};
 ghost use Rattle.bfs_super.specs.Geometry.{bitmap_length};
-ghost use Rattle.bfs_super.specs.declared.sup.Super.{Super as Fields};
 ghost use Rattle.bfs_sound.specs.Whole.{volume_of};
-ghost use Rattle.bfs_txn.specs.Faults.{Counts};
 ghost use Rattle.bfs_claims.specs.Claims.{AreClaimed};
 ghost use Rattle.bfs_index_walk.specs.Laws.{system_blocks};
-ghost use Rattle.bfs_passes.specs.Passed.{IsFaultOf, IsPassCause};
 
 use crate::PassFault;
 use bfs_claims::Claims;
@@ -15,26 +12,13 @@ use bfs_super::Super;
 use bfs_txn::BlockFault;
 use std::alloc::Global;
 
-/// The number of a volume's blocks.
-fn blocks_in(sup: &Super) -> u64
-    requires { IsValid sup.now }
-    ensures value { result ≡ natural sup.now.num_blocks }
-    ensures few { result ≤ 4194304 }
-{
-    if sup.num_blocks < 0 {
-        0
-    } else {
-        sup.num_blocks as u64
-    }
-}
-
 /// How many blocks the bitmap has.
 fn bitmap_blocks(sup: &Super) -> u64
     requires { IsValid sup.now }
     ensures { result ≡ bitmap_length (natural sup.now.num_blocks) sup.now.block_size }
 {
     let bits = u64::from(sup.block_size) * 8;
-    (blocks_in(sup) + (bits - 1)) / bits
+    (sup.geometry().blocks + (bits - 1)) / bits
 }
 
 /// Claims the blocks of the system, and no others. The log of a valid superblock stands behind its bitmap, so that none is claimed twice.
@@ -44,7 +28,7 @@ pub(crate) fn claim_system(alloc: Global, sup: &Super) -> Result<Claims, PassFau
     ensures blocks { IfOk result (λ c. c.blocks ≡ natural sup.now.num_blocks) }
     ensures memory { IfErr result (λ f. f ≡ PassFault.Block BlockFault.NoMemory) }
 {
-    let mut claims = match Claims::new(alloc, blocks_in(sup)) {
+    let mut claims = match Claims::new(alloc, sup.geometry().blocks) {
         Ok(claims) => claims,
         Err(_) => return Err(PassFault::Block(BlockFault::NoMemory)),
     };

@@ -201,7 +201,10 @@ impl Answers for Calls {
                 look_remove(alloc, sup, bitmap, edits, holds, *dir, name.as_slice())
             }
             Call::AttrWrite {
-                id, name, bytes, ..
+                id,
+                name,
+                bytes,
+                ..
             } => look_write_attr(
                 alloc,
                 sup,

@@ -1,5 +1,5 @@
 -- What claims are after a run was claimed.
-use Rattle.std.proofs.Common.{◌≡◌, ◌≤◌, ◌<◌, ◌+◌, ◌-◌, ◌/◌, ◌%◌, ℕ, zero, suc, List, [], ◌∷◌, ◌++◌, length, Bool, true, false, not, cond, ◌&&◌, ◌||◌, ◌==◌, nat_le, nat_lt, refl, sym, ap, ◌∙◌, arith, length-append, get_or, replicate, ◌⊎◌, inl, inr}
+use Rattle.std.proofs.Common.{◌≡◌, ◌≤◌, ◌<◌, ◌+◌, ◌-◌, ◌/◌, ◌%◌, ℕ, zero, suc, List, [], ◌∷◌, ◌++◌, length, Bool, true, false, not, cond, ◌&&◌, ◌||◌, ◌==◌, nat_le, nat_lt, refl, sym, ap, ◌∙◌, arith, length-append, get_or, replicate, ◌⊎◌, inl, inr, subst}
 use Rattle.std.specs.Int.{bit_at}
 use Rattle.std.proofs.lemmas.Nat.Bits.{bit_at-zero}
 use Rattle.std.proofs.lemmas.List.{get_or-replicate, get_or_past, length-replicate}
@@ -161,3 +161,72 @@ pub run_has : (first len k : ℕ) → first ≤ k → k < first + len → Has (c
 run_has first len k low high =
     let inside : in_run first len k ≡ true = grind (arith, low, high) in
     let one : times k (counted_from first len) ≡ 1 = times_run k first len ∙ ap (λ (b : Bool). cond b 1 0) inside in omega (arith, one)
+
+-- ---- what is claimed, as a list
+
+list_below : List ℕ → ℕ → List ℕ
+list_below bits zero = []
+list_below bits (suc n) = cond (is_clear bits n) (list_below bits n) (n ∷ list_below bits n)
+
+length_below : (bits : List ℕ) (n : ℕ) → length (list_below bits n) ≡ claimed_below bits n
+unfolding list_below
+length_below bits zero = refl
+length_below bits (suc n) = by_test (is_clear bits n) (length_below bits n)
+  where
+    by_test : (t : Bool) → length (list_below bits n) ≡ claimed_below bits n → length (cond t (list_below bits n) (n ∷ list_below bits n)) ≡ cond t 0 1 + claimed_below bits n
+    by_test true e = omega (arith, e)
+    by_test false e = omega (arith, e)
+
+one_of : ℕ → ℕ → Bool → ℕ
+one_of k n t = cond (nat_lt k n && not t) 1 0
+
+times_below : (bits : List ℕ) (k n : ℕ) → times k (list_below bits n) ≡ one_of k n (is_clear bits k)
+unfolding list_below one_of
+times_below bits k zero = grind arith
+times_below bits k (suc n) = by_test (is_clear bits n) refl (side k n) (times_below bits k n)
+  where
+    side : (a b : ℕ) → (a ≡ b) ⊎ ((a < b) ⊎ (b < a))
+    side a b = grind arith
+
+    step : (k < n) ⊎ (n < k) → one_of k n (is_clear bits k) ≡ one_of k (suc n) (is_clear bits k)
+    step (inl lt) = ap (λ (b : Bool). cond (b && not (is_clear bits k)) 1 0) (let f : nat_lt k n ≡ nat_lt k (suc n) = grind (arith, lt) in f)
+    step (inr gt) = ap (λ (b : Bool). cond (b && not (is_clear bits k)) 1 0) (let f : nat_lt k n ≡ nat_lt k (suc n) = grind (arith, gt) in f)
+
+    differs : (k < n) ⊎ (n < k) → (n == k) ≡ false
+    differs (inl lt) = grind (arith, lt)
+    differs (inr gt) = grind (arith, gt)
+
+    apart : (t : Bool) → (k < n) ⊎ (n < k) → times k (list_below bits n) ≡ one_of k n (is_clear bits k) → times k (cond t (list_below bits n) (n ∷ list_below bits n)) ≡ one_of k (suc n) (is_clear bits k)
+    apart true h e = e ∙ step h
+    apart false h e =
+        let none : cond (n == k) 1 0 ≡ 0 = ap (λ (b : Bool). cond {A = ℕ} b 1 0) (differs h) in
+        let all : cond (n == k) 1 0 + times k (list_below bits n) ≡ times k (list_below bits n) = omega (arith, none) in
+        all ∙ (e ∙ step h)
+
+    itself : (t : Bool) → is_clear bits n ≡ t → times n (list_below bits n) ≡ one_of n n (is_clear bits n) → times n (cond t (list_below bits n) (n ∷ list_below bits n)) ≡ one_of n (suc n) (is_clear bits n)
+    itself true e h =
+        h ∙ ap (λ (b : Bool). cond (b && not (is_clear bits n)) 1 0) (let f : nat_lt n n ≡ false = grind arith in f) ∙ sym (ap (λ (t : Bool). cond (nat_lt n (suc n) && not t) 1 0) e ∙ ap (λ (b : Bool). cond {A = ℕ} b 1 0) (let f : (nat_lt n (suc n) && false) ≡ false = grind arith in f))
+    itself false e h =
+        ap (λ (b : Bool). cond b 1 0 + times n (list_below bits n)) (let f : (n == n) ≡ true = grind arith in f)
+        ∙ ap (λ (m : ℕ). 1 + m) (h ∙ ap (λ (b : Bool). cond {A = ℕ} (b && not (is_clear bits n)) 1 0) (let f : nat_lt n n ≡ false = grind arith in f))
+        ∙ sym (ap (λ (t : Bool). cond (nat_lt n (suc n) && not t) 1 0) e ∙ ap (λ (b : Bool). cond {A = ℕ} b 1 0) (let f : (nat_lt n (suc n) && true) ≡ true = grind arith in f))
+
+    by_test : (t : Bool) → is_clear bits n ≡ t → (k ≡ n) ⊎ ((k < n) ⊎ (n < k)) → times k (list_below bits n) ≡ one_of k n (is_clear bits k) → times k (cond t (list_below bits n) (n ∷ list_below bits n)) ≡ one_of k (suc n) (is_clear bits k)
+    by_test t e (inl same) h =
+        subst (λ (j : ℕ). times j (cond t (list_below bits n) (n ∷ list_below bits n)) ≡ one_of j (suc n) (is_clear bits j)) (sym same) (itself t e (subst (λ (j : ℕ). times j (list_below bits n) ≡ one_of j n (is_clear bits j)) same h))
+    by_test t e (inr other) h = apart t other h
+
+-- the claimed blocks are those of a list
+pub are_listed : (c : Claimed) → IsKept c → (xs : List ℕ) × AreClaimed c xs
+unfolding one_of
+are_listed c kept = (list_below c.bits c.blocks, record { each = each; number = kept.counted ∙ sym (length_below c.bits c.blocks) })
+  where
+    side : (a b : ℕ) → (a < b) ⊎ (b ≤ a)
+    side a b = grind arith
+
+    each : (k : ℕ) → times k (list_below c.bits c.blocks) ≡ cond {A = ℕ} (is_claimed c k) 1 0
+    each k = times_below c.bits k c.blocks ∙ by_side (side k c.blocks)
+      where
+        by_side : (k < c.blocks) ⊎ (c.blocks ≤ k) → cond {A = ℕ} (nat_lt k c.blocks && not (is_clear c.bits k)) 1 0 ≡ cond {A = ℕ} (not (is_clear c.bits k)) 1 0
+        by_side (inl lt) = ap (λ (b : Bool). cond {A = ℕ} (b && not (is_clear c.bits k)) 1 0) (let f : nat_lt k c.blocks ≡ true = grind (arith, lt) in f)
+        by_side (inr past) = ap (λ (t : Bool). cond {A = ℕ} (nat_lt k c.blocks && not t) 1 0) (kept.none_past k past) ∙ (let f : cond {A = ℕ} (nat_lt k c.blocks && false) 1 0 ≡ 0 = grind arith in f) ∙ sym (ap (λ (t : Bool). cond {A = ℕ} (not t) 1 0) (kept.none_past k past))

@@ -66,6 +66,7 @@ impl Claims {
         ensures value { result ≡ self.now.count }
         ensures number { (xs : List ℕ) → AreClaimed self.now xs → result ≡ length xs }
         ensures few { result ≤ self.now.blocks }
+        ensures listed { (xs : List ℕ) × AreClaimed self.now xs }
     {
         self.count
     }

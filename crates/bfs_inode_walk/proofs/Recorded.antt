@@ -1,22 +1,22 @@
 -- The record of a node that was gone over.
-use Rattle.std.proofs.Common.{◌≡◌, ◌≤◌, ◌<◌, ◌%◌, ◌/◌, ◌==◌, ◌&&◌, ℕ, List, [], length, Some, Bool, true, false, cond, refl, sym, ap, ◌∙◌, subst}
+use Rattle.std.proofs.Common.{◌≡◌, ◌≤◌, ◌<◌, ◌%◌, ◌/◌, ◌==◌, ◌&&◌, ℕ, List, length, Some, Bool, true, false, cond, refl, sym, ap, ◌∙◌, subst}
 use Rattle.std.specs.List.{AllByRecursion}
 use Rattle.bfs_base.specs.declared.kind.KeyKind.TheVariants.{Text}
-use Rattle.bfs_smalldata.specs.Items.{Item, items_of}
+use Rattle.bfs_smalldata.specs.Items.{Item}
 use Rattle.bfs_stream.specs.Places.{HasStream}
 use Rattle.bfs_tree.specs.declared.call.Kind.{Kind}
 use Rattle.bfs_tree.specs.declared.call.Kind.TheVariants.{File, Dir, Link}
 use Rattle.bfs_values.specs.Reached.{IsWholeTree}
 use Rattle.bfs_sound.specs.Volumes.{Volume, sizes}
 use Rattle.bfs_sound.specs.Inodes.{kind_bits, mode_bits, is_short, content}
-use Rattle.bfs_sound.specs.Nodes.{HasTarget, HasContent, HasNode}
-use Rattle.bfs_finding.specs.NodeFaults.{area_of, target_of}
+use Rattle.bfs_sound.specs.Nodes.{HasTarget, HasContent}
+use Rattle.bfs_finding.specs.NodeFaults.{target_of}
 use Rattle.bfs_finding.specs.Ways.{says, lacks_stream}
 use Rattle.bfs_node_check.specs.declared.role.Role.{Role}
 use Rattle.bfs_node_check.specs.Roles.{is_node}
 use Rattle.bfs_node_check.specs.Inodes.{IsGoodNode}
-use Rattle.bfs_inode_walk.specs.Visited.{is_alone, IsSoundIn}
-use Rattle.bfs_inode_walk.specs.Records.{target_in, record_in, HasParts, RecordIsNode}
+use Rattle.bfs_inode_walk.specs.Visited.{IsSoundIn}
+use Rattle.bfs_inode_walk.specs.Records.{target_in, record_in, RecordIsNode}
 
 and_none : (a b : Bool) → b ≡ false → (a && b) ≡ false
 and_none true b e = e

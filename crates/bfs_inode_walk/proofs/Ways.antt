@@ -1,7 +1,7 @@
 -- An inode in its place and by the way that leads to it.
-use Rattle.std.proofs.Common.{◌≡◌, ℕ, List, Option, Some, None, Bool, true, false, refl, sym, ap, subst, ◌∙◌}
+use Rattle.std.proofs.Common.{◌≡◌, ℕ, Some, None, false, refl, sym, subst}
 use Rattle.bfs_sound.specs.Volumes.{Volume}
-use Rattle.bfs_finding.specs.Ways.{Way, to_system, to_root, to_child, to_directory, to_attribute, to_indices, to_index, Arrives, IsReached, root_reached, row_reached, IsStreamed, by_node, by_directory, by_attribute, by_indices, by_index, blocks_by, lacks_stream}
+use Rattle.bfs_finding.specs.Ways.{Way, to_system, to_root, to_child, to_directory, to_attribute, to_indices, to_index, Arrives, IsReached, root_reached, row_reached, IsStreamed, by_node, by_directory, by_attribute, by_indices, by_index, blocks_by}
 use Rattle.bfs_node_check.specs.declared.role.Role.{Role}
 use Rattle.bfs_node_check.specs.declared.role.Role.TheVariants as roles
 use Rattle.bfs_node_check.specs.Roles.{role_of}

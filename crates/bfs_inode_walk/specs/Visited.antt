@@ -8,7 +8,7 @@ use Rattle.bfs_sound.specs.Volumes.{Volume, sizes}
 use Rattle.bfs_sound.specs.Inodes.{mode_bits}
 use Rattle.bfs_sound.specs.Owners.{owner_blocks}
 use Rattle.bfs_finding.specs.Findings.{IsBroken}
-use Rattle.bfs_finding.specs.Ways.{Way, lacks_stream, blocks_by}
+use Rattle.bfs_finding.specs.Ways.{Way, Arrives, lacks_stream, blocks_by}
 use Rattle.bfs_node_check.specs.declared.role.Role.{Role}
 use Rattle.bfs_node_check.specs.Roles.{IsGoodMode, is_node, role_of}
 use Rattle.bfs_node_check.specs.Inodes.{IsGoodNode}
@@ -34,19 +34,48 @@ pub record IsSoundIn (v : Volume) (role : Role) (b : ℕ) : Type 0 where
 -- a finding is true of the volume; the other faults say nothing of it
 abbrev pub IsTrueOf : Volume → VisitFault → Type 0
 IsTrueOf v (Wrong finding) = IsBroken v finding
-IsTrueOf v (Taken block) = Unit {0}
+IsTrueOf v (Taken block owner) = Unit {0}
 IsTrueOf v (Block fault) = Unit {0}
 
--- a block that is said to be taken is one of these, and is there a second time among those that were claimed before with these
-abbrev pub IsTaken : List ℕ → List ℕ → VisitFault → Type 0
-IsTaken before own (Wrong finding) = Unit {0}
-IsTaken before own (Taken block) = Has own block × (2 ≤ times block (before ++ own))
-IsTaken before own (Block fault) = Unit {0}
+-- a block is one of these, and is there a second time among those before with these
+abbrev pub IsTwiceAmong : List ℕ → List ℕ → ℕ → Type 0
+IsTwiceAmong before own block = Has own block × (2 ≤ times block (before ++ own))
+
+-- a block that is said to be taken is one of these, which this inode has, and is among those that were claimed before
+abbrev pub IsTaken : List ℕ → List ℕ → ℕ → VisitFault → Type 0
+IsTaken before own id (Wrong finding) = Unit {0}
+IsTaken before own id (Taken block owner) = (owner ≡ id) × Has own block × Has before block
+IsTaken before own id (Block fault) = Unit {0}
+
+-- no block is said to be taken
+abbrev pub IsUntaken : VisitFault → Type 0
+IsUntaken (Wrong finding) = Unit {0}
+IsUntaken (Taken block owner) = ⊥
+IsUntaken (Block fault) = Unit {0}
+
+-- A block of an inode to which a way of some kind leads was claimed at first.
+pub record IsClaimedFirst (IsWay : Way → Type 0) (v : Volume) (first : List ℕ) (block owner : ℕ) : Type 0 where
+  pub way : Way
+  pub kind : IsWay way
+  pub arrives : Arrives v way owner
+  pub here : Has (blocks_by v way owner) block
+  pub claimed : Has first block
+
+-- a block that is said to be taken is so; the other faults say nothing of claims
+abbrev pub IsTakenFirst : (Way → Type 0) → Volume → List ℕ → VisitFault → Type 0
+IsTakenFirst IsWay v first (Wrong finding) = Unit {0}
+IsTakenFirst IsWay v first (Taken block owner) = IsClaimedFirst IsWay v first block owner
+IsTakenFirst IsWay v first (Block fault) = Unit {0}
+
+-- whether a block is one of these
+abbrev pub IsHad : List ℕ → ℕ → Bool → Type 0
+IsHad own block true = Has own block
+IsHad own block false = times block own ≡ 0
 
 -- a block that couldn't be had has its cause
 abbrev pub IsVisitCause : Counts → Counts → VisitFault → Type 0
 IsVisitCause old new (Wrong finding) = Unit {0}
-IsVisitCause old new (Taken block) = Unit {0}
+IsVisitCause old new (Taken block owner) = Unit {0}
 IsVisitCause old new (Block fault) = IsCauseOf old new fault
 
 -- the blocks of an inode by the way that leads to it are those by its place

@@ -14,7 +14,7 @@ ghost use Rattle.bfs_finding.specs.Ways.{Way, Arrives, lacks_stream};
 ghost use Rattle.bfs_finding.specs.Findings.{IsBroken};
 ghost use Rattle.bfs_node_check.specs.Roles.{IsGoodMode, is_node, role_of};
 ghost use Rattle.bfs_node_check.specs.Inodes.{IsGoodNode};
-ghost use Rattle.bfs_inode_walk.specs.Visited.{is_alone, IsTrueOf, IsTaken, IsVisitCause};
+ghost use Rattle.bfs_inode_walk.specs.Visited.{is_alone, IsTrueOf, IsUntaken, IsVisitCause};
 
 use crate::VisitFault;
 use bfs_bytes::u32_at;
@@ -115,7 +115,7 @@ pub(crate) fn look_at_inode<B: Blocks>(
     ensures node { is_node role ≡ true → (m : ℕ → Option (List ℕ)) → B.told under.old ≡ Some m → OnOk result (IsGoodNode (volume_of sup (contents m)) id) }
     ensures alone { is_node role ≡ true → IfOk result (λ bytes. (v : Volume) → v.blocks id ≡ bytes.items → IsGoodNode v id) }
     ensures wrong { (m : ℕ → Option (List ℕ)) (way : Way) → B.told under.old ≡ Some m → role_of way ≡ Some role → Arrives (volume_of sup (contents m)) way id → IfErr result (IsTrueOf (volume_of sup (contents m))) }
-    ensures other { (xs own : List ℕ) → IfErr result (IsTaken xs own) }
+    ensures untaken { IfErr result IsUntaken }
     ensures told { B.told under.new ≡ B.told under.old }
     ensures changed { B.changed under.new ≡ B.changed under.old }
     ensures pairs { B.pairs under.new ≡ B.pairs under.old }

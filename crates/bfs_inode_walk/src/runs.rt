@@ -1,10 +1,11 @@
-// Claims the blocks of runs.
+// Claims the blocks of runs, and counts one among them.
 ghost use Rattle.std.specs.Prelude.{◌≡◌, ◌≤◌, ◌+◌, ◌++◌, ℕ, List, All, OnOk, IfErr};
 ghost use Rattle.bfs_base.specs.Lists.{times, Has};
 ghost use Rattle.bfs_super.specs.Conditions.{IsValid, natural};
 ghost use Rattle.bfs_stream.specs.Sizes.{sizes_of, first_block, IsInVolume};
 ghost use Rattle.bfs_stream.specs.Places.{run_blocks, blocks_of};
 ghost use Rattle.bfs_claims.specs.Claims.{AreClaimed};
+ghost use Rattle.bfs_inode_walk.specs.Visited.{IsTwiceAmong};
 
 use bfs_bytes::Run;
 use bfs_claims::Claims;
@@ -40,7 +41,7 @@ pub(crate) fn claim_runs(claims: &mut Claims, sup: Super, runs: &[Run]) -> Resul
     requires inside { All (IsInVolume (sizes_of sup)) runs.now }
     requires blocks { claims.old.blocks ≡ natural sup.num_blocks }
     ensures claimed { (xs : List ℕ) → AreClaimed claims.old xs → OnOk result (AreClaimed claims.new (xs ++ blocks_of (sizes_of sup) runs.now)) }
-    ensures twice { (xs : List ℕ) → AreClaimed claims.old xs → IfErr result (λ block. Has (blocks_of (sizes_of sup) runs.now) block × (2 ≤ times block (xs ++ blocks_of (sizes_of sup) runs.now))) }
+    ensures twice { (xs : List ℕ) → AreClaimed claims.old xs → IfErr result (IsTwiceAmong xs (blocks_of (sizes_of sup) runs.now)) }
     ensures more { OnOk result (claims.old.count ≤ claims.new.count) }
     ensures blocks { claims.new.blocks ≡ claims.old.blocks }
 {
@@ -52,4 +53,37 @@ pub(crate) fn claim_runs(claims: &mut Claims, sup: Super, runs: &[Run]) -> Resul
         }
     }
     Ok(())
+}
+
+/// How many times a block is among those of a run.
+fn count_of(sup: Super, run: Run, block: u64) -> usize
+    requires valid { IsValid sup }
+    requires inside { IsInVolume (sizes_of sup) run }
+    ensures count { result ≡ times block (run_blocks (sizes_of sup) run) }
+    ensures once { result ≤ 1 }
+{
+    let first = start_of(sup, run);
+    if block < first {
+        return 0;
+    }
+    if block < first + u64::from(run.len) {
+        1
+    } else {
+        0
+    }
+}
+
+/// How many times a block is among those of runs.
+pub(crate) fn count_in(sup: Super, runs: &[Run], block: u64) -> usize
+    requires valid { IsValid sup }
+    requires inside { All (IsInVolume (sizes_of sup)) runs.now }
+    ensures { result ≡ times block (blocks_of (sizes_of sup) runs.now) }
+{
+    let mut count = 0;
+    for i in 0..runs.len() {
+        let run = runs[i];
+        let more = count_of(sup, run, block);
+        count += more;
+    }
+    count
 }

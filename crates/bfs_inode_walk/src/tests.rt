@@ -126,13 +126,15 @@ fn volume(alloc: Global, size: usize, at: usize, other: u32) -> Result<MemBlocks
     Ok(over(bytes))
 }
 
-/// What came of it: how many blocks are claimed then, a finding on the inode or its stream, a block that is taken, or a failed read.
+/// What came of it: how many blocks are claimed then, a finding on the inode or its stream, a block that it has twice, one that is taken, or a
+/// failed read.
 #[derive(Clone, Copy, Debug, PartialEq, Eq)]
 enum Seen {
     Claimed(u64),
     Inode(InodePart, i64),
     Stream(i64, i64),
-    Taken(u64),
+    Shared(u64, u64, u64),
+    Taken(u64, u64),
     Failed,
     Other,
 }
@@ -142,7 +144,14 @@ fn told_by(fault: VisitFault) -> Seen {
     match fault {
         VisitFault::Wrong(Finding::Inode { part, found, .. }) => Seen::Inode(part, found),
         VisitFault::Wrong(Finding::Stream { found, wanted, .. }) => Seen::Stream(found, wanted),
-        VisitFault::Taken { block } => Seen::Taken(block),
+        VisitFault::Wrong(
+            Finding::Shared {
+                block,
+                first,
+                second,
+            },
+        ) => Seen::Shared(block, first, second),
+        VisitFault::Taken { block, owner } => Seen::Taken(block, owner),
         VisitFault::Block(BlockFault::Disk { .. }) => Seen::Failed,
         _ => Seen::Other,
     }
@@ -210,8 +219,8 @@ fn an_inode_is_right_and_its_blocks_are_claimed_or_one_thing_is_told(
         ),
         (208, 2049, Role::Child, 10, Seen::Stream(2049, 2048)),
         // the run begins in the inode's own block; and a block was claimed before
-        (76, 0x20006, Role::Child, 10, Seen::Taken(6)),
-        (1000, 0, Role::Child, 9, Seen::Taken(9)),
+        (76, 0x20006, Role::Child, 10, Seen::Shared(6, 6, 6)),
+        (1000, 0, Role::Child, 9, Seen::Taken(9, 6)),
     ];
     for (at, other, role, taken, wanted) in rows {
         assert_eq!(rt; visit_with(alloc, at, other, role, taken, 99)?, wanted);

@@ -26,7 +26,7 @@ use std::alloc::Global;
 fn claim_own(claims: &mut Claims, id: u64) -> Result<(), VisitFault>
     requires inside { id < claims.old.blocks }
     ensures claimed { (xs : List ℕ) → AreClaimed claims.old xs → OnOk result (AreClaimed claims.new (xs ++ id ∷ [])) }
-    ensures taken { (xs rest : List ℕ) → AreClaimed claims.old xs → IfErr result (IsTaken xs (id ∷ rest)) }
+    ensures taken { (xs rest : List ℕ) → AreClaimed claims.old xs → IfErr result (IsTaken xs (id ∷ rest) id) }
     ensures wrong { (v : Volume) → IfErr result (IsTrueOf v) }
     ensures cause { (old new : Counts) → IfErr result (IsVisitCause old new) }
     ensures more { OnOk result (claims.old.count < claims.new.count) }
@@ -34,14 +34,14 @@ fn claim_own(claims: &mut Claims, id: u64) -> Result<(), VisitFault>
 {
     match claims.claim(id, 1) {
         Ok(()) => Ok(()),
-        Err(block) => Err(VisitFault::Taken { block }),
+        Err(block) => Err(VisitFault::Taken { block, owner: id }),
     }
 }
 
 /// Goes over the inode at a block, which has this place, and claims its block, the array blocks and the blocks of its stream. Answers
-/// the bytes of its block exactly where it is right for its place and none of these blocks was claimed before; else what is wrong with
-/// it, or the first of its blocks that is taken. More is claimed behind it than before, whatever the blocks tell. Beside its block it
-/// takes the memory of a block and of the stream's runs.
+/// the bytes of its block exactly where it is right for its place, has no block twice, and none of these blocks was claimed before; else what is
+/// wrong with it, or the first of its blocks that was claimed before. More is claimed behind it than before, whatever the blocks tell. Beside its
+/// block it takes the memory of a block and of the stream's runs.
 pub fn visit_inode<B: Blocks>(
     alloc: Global,
     under: &mut B,
@@ -62,7 +62,7 @@ pub fn visit_inode<B: Blocks>(
     ensures node { is_node role ≡ true → IfOk result (λ bytes. (v : Volume) → v.blocks id ≡ bytes.items → IsGoodNode v id) }
     ensures claimed { (m : ℕ → Option (List ℕ)) (xs : List ℕ) → B.told under.old ≡ Some m → AreClaimed claims.old xs → OnOk result (AreClaimed claims.new (xs ++ role_blocks (volume_of sup.now (contents m)) role id)) }
     ensures wrong { (m : ℕ → Option (List ℕ)) (way : Way) → B.told under.old ≡ Some m → role_of way ≡ Some role → Arrives (volume_of sup.now (contents m)) way id → IfErr result (IsTrueOf (volume_of sup.now (contents m))) }
-    ensures taken { (m : ℕ → Option (List ℕ)) (xs : List ℕ) → B.told under.old ≡ Some m → AreClaimed claims.old xs → IfErr result (IsTaken xs (role_blocks (volume_of sup.now (contents m)) role id)) }
+    ensures taken { (m : ℕ → Option (List ℕ)) (xs : List ℕ) → B.told under.old ≡ Some m → AreClaimed claims.old xs → IfErr result (IsTaken xs (role_blocks (volume_of sup.now (contents m)) role id) id) }
     ensures more { OnOk result (claims.old.count < claims.new.count) }
     ensures blocks { claims.new.blocks ≡ claims.old.blocks }
     ensures told { B.told under.new ≡ B.told under.old }

@@ -1,2 +1,1 @@
-pub mod Clashing
 pub mod Finding

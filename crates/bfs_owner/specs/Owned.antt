@@ -1,15 +1,12 @@
 -- Inodes in their places, and which of them has a block.
-use Rattle.std.specs.Prelude.{◌≡◌, ◌<◌, ℕ, List, ◌∷◌, ◌++◌, Bool, true, false, Option, Some, None}
+use Rattle.std.specs.Prelude.{◌≡◌, ◌<◌, ℕ, List, Option, Some, None}
 use Rattle.std.specs.List.{AllByRecursion, flat_map}
 use Rattle.bfs_base.specs.Lists.{times, Has}
 use Rattle.bfs_sound.specs.Volumes.{Volume}
 use Rattle.bfs_sound.specs.Owners.{In}
 use Rattle.bfs_finding.specs.Ways.{Way, Arrives}
-use Rattle.bfs_claims.specs.Claims.{Claimed, AreClaimed}
 use Rattle.bfs_node_check.specs.Roles.{role_of}
 use Rattle.bfs_inode_walk.specs.Visited.{role_blocks}
-use Rattle.bfs_inode_walk.specs.declared.fault.VisitFault.{VisitFault}
-use Rattle.bfs_inode_walk.specs.declared.fault.VisitFault.TheVariants.{Wrong, Taken, Block}
 use Rattle.bfs_owner.specs.declared.place.Place.{Place}
 
 -- a way leads to the inode, and gives it its place
@@ -30,18 +27,7 @@ blocks_at v p = role_blocks v p.role p.id
 abbrev pub blocks_of_places : Volume → List Place → List ℕ
 blocks_of_places v places = flat_map (blocks_at v) places
 
--- an inode has the block; or it doesn't, and its blocks are claimed besides
-abbrev pub IsMet : Claimed → List ℕ → List ℕ → ℕ → Bool → Type 0
-IsMet claims before own block true = Has own block
-IsMet claims before own block false = AreClaimed claims (block ∷ (before ++ own))
-
 -- this one of some inodes has the block, or none has it
 abbrev pub IsFound : Volume → List Place → ℕ → Option Place → Type 0
 IsFound v places block (Some p) = In p places × Has (blocks_at v p) block
 IsFound v places block None = times block (blocks_of_places v places) ≡ 0
-
--- no block is said to be taken
-abbrev pub IsUntaken : VisitFault → Type 0
-IsUntaken (Wrong finding) = Unit {0}
-IsUntaken (Taken block) = ⊥
-IsUntaken (Block fault) = Unit {0}

@@ -1,8 +1,7 @@
-// Which of some inodes has a block: the second look of a check, where a block has two owners or isn't marked. Each inode is gone over once
-// more, with that block claimed alone. What is found stands in specs/Owned.antt.
+// Which of some inodes has a block: the second look of a check, where a block has two owners or isn't marked. What is found stands in
+// specs/Owned.antt.
 #![tactic(auto)]
 
-mod meeting;
 mod place;
 mod search;
 

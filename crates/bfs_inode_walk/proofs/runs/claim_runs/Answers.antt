@@ -1,4 +1,4 @@
-use Rattle.std.proofs.Common.{◌≡◌, ◌≤◌, ◌<◌, ◌∙◌, ◌++◌, ℕ, List, length, take, pos, refl, arith}
+use Rattle.std.proofs.Common.{◌≤◌, ◌<◌, ◌∙◌, ◌++◌, length, take, pos, refl, arith}
 use Rattle.bfs_bytes.specs.declared.Run.{Run}
 use Rattle.bfs_stream.specs.Sizes.{Sizes, sizes_of}
 use Rattle.bfs_stream.specs.Places.{blocks_of}

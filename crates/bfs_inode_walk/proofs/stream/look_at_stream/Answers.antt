@@ -1,4 +1,4 @@
-use Rattle.std.proofs.Common.{◌≡◌, ℕ, List, sym, subst}
+use Rattle.std.proofs.Common.{sym, subst}
 use Rattle.bfs_stream.specs.Sizes.{Sizes, sizes_of}
 use Rattle.bfs_stream.specs.Places.{Levels, levels_at}
 use Rattle.bfs_stream.specs.Told.{contents}

@@ -1,14 +1,15 @@
-use Rattle.std.proofs.Common.{◌≡◌, ◌++◌, ◌∷◌, [], ◌∙◌, ℕ, List, true, false, sym}
+use Rattle.std.proofs.Common.{◌≡◌, ◌++◌, ◌∷◌, [], ◌∙◌, true, false, sym}
 use Rattle.bfs_stream.specs.Told.{contents}
 use Rattle.bfs_sound.specs.Volumes.{Volume}
 use Rattle.bfs_sound.specs.Whole.{volume_of}
 use Rattle.bfs_inode_walk.specs.Visited.{is_alone}
+use Rattle.bfs_inode_walk.proofs.Claiming.{untaken_taken}
 use Rattle.bfs_inode_walk.proofs.Visits.{claimed_alone, claimed_whole, taken_first, taken_whole, sound_alone, sound_whole}
 use Rattle.bfs_inode_walk.proofs.Ways.{streamed}
 use Rattle.bfs_inode_walk.proofs.visit.visit_inode.Goals as goal
 
 pub returns-in-Err-clause-taken : goal.returns-in-Err-clause-taken
-returns-in-Err-clause-taken g c m xs told a = c.in-Err.ensures.other xs _
+returns-in-Err-clause-taken g c m xs told a = untaken_taken xs _ c.args.id c.in-Err.fault c.in-Err.ensures.untaken
 
 pub returns-in-Err-claim_own-clause-taken : goal.returns-in-Err-claim_own-clause-taken
 returns-in-Err-claim_own-clause-taken g c m xs told a =
@@ -52,7 +53,7 @@ returns-in-Err-take_stream-clause-taken g c m xs told a =
     let v : Volume = volume_of c.args.sup.now (contents m) in
     let bytes : contents m c.args.id ≡ c.deref.result.now = sym (c.deref.ensures.value ∙ c.in-Ok.ensures.read m told) in
     let other : is_alone v c.args.role c.args.id ≡ false = sym (c.has_no_stream-alone.ensures v c.args.id bytes) ∙ c.if-alone.false in
-    taken_whole v c.args.role c.args.id xs c.in-Err-take_stream.fault other (c.in-Err-take_stream.ensures.taken m (xs ++ c.args.id ∷ []) (c.in-Ok.ensures.told ∙ told) (c.in-Ok-claim_own.ensures.claimed xs a))
+    taken_whole v c.args.role c.args.id xs c.in-Err-take_stream.fault other (c.in-Err-take_stream.ensures.taken m xs (c.in-Ok.ensures.told ∙ told) (c.in-Ok-claim_own.ensures.claimed xs a))
 
 pub returns-in-Err-claim_own-clause-wrong : goal.returns-in-Err-claim_own-clause-wrong
 returns-in-Err-claim_own-clause-wrong g c m way told is arrives = c.in-Err-claim_own.ensures.wrong (volume_of c.args.sup.now (contents m))

@@ -1,9 +1,8 @@
-use Rattle.std.proofs.Common.{◌≡◌, ◌∷◌, ℕ, List, take, Option, Some}
+use Rattle.std.proofs.Common.{◌≡◌, ℕ, List, take, Option, Some}
 use Rattle.bfs_txn.specs.Faults.{AreLater}
 use Rattle.bfs_stream.specs.Told.{contents}
 use Rattle.bfs_sound.specs.Whole.{volume_of}
-use Rattle.bfs_base.specs.Lists.{IsOnce}
-use Rattle.bfs_claims.specs.Claims.{AreClaimed}
+use Rattle.bfs_base.specs.Lists.{times}
 use Rattle.bfs_owner.specs.Owned.{blocks_of_places}
 use Rattle.bfs_owner.proofs.search.find_owner.Given as goal
 
@@ -15,6 +14,5 @@ invariant-loop-i g l = record {
   size : g.B.Blocks.size l.under ≡ g.B.Blocks.size l.fn.under;
   frame : g.B.Blocks.frame l.under ≡ g.B.Blocks.frame l.fn.under;
   later : AreLater (g.B.Blocks.counts l.fn.under) (g.B.Blocks.counts l.under);
-  blocks : l.claims.blocks ≡ l.blocks;
-  claimed : (m : ℕ → Option (List ℕ)) → g.B.Blocks.told l.fn.under ≡ Some m → IsOnce (blocks_of_places (volume_of l.sup (contents m)) l.places) → AreClaimed l.claims (l.block ∷ blocks_of_places (volume_of l.sup (contents m)) (take l.i l.places));
+  none : (m : ℕ → Option (List ℕ)) → g.B.Blocks.told l.fn.under ≡ Some m → times l.block (blocks_of_places (volume_of l.sup (contents m)) (take l.i l.places)) ≡ 0;
 }

@@ -1,5 +1,5 @@
 -- What is wrong with a tree is a finding on its inode.
-use Rattle.std.proofs.Common.{◌≡◌, ◌≢◌, ◌⊎◌, ◌%◌, ◌∙◌, inl, inr, ℕ, ℤ, List, length, refl, ap, subst, sym}
+use Rattle.std.proofs.Common.{◌≡◌, ◌≢◌, ◌⊎◌, ◌%◌, ◌∙◌, inl, inr, ℕ, ℤ, length, refl, ap, subst, sym}
 use Rattle.bfs_base.specs.declared.kind.KeyKind.{KeyKind}
 use Rattle.bfs_node.specs.Header.{code_of}
 use Rattle.bfs_pages.specs.Trees.{header_in}

@@ -1,5 +1,5 @@
 -- What is known of a volume's blocks and groups.
-use Rattle.std.proofs.Common.{◌≡◌, ◌≤◌, ◌≤ℤ◌, ◌%◌, ◌/◌, ◌==◌, ◌&&◌, ℕ, ℤ, pos, negsuc, Bool, true, false, refl, sym, ap, ◌∙◌, subst, arith}
+use Rattle.std.proofs.Common.{◌≡◌, ◌≤◌, ◌≤ℤ◌, ◌%◌, ◌/◌, ◌==◌, ◌&&◌, ℕ, ℤ, pos, negsuc, Bool, true, false, refl, ap, arith}
 use Rattle.std.proofs.lemmas.Int.{ints}
 use Rattle.bfs_super.specs.Conditions.{IsValid, natural}
 use Rattle.bfs_super.specs.declared.sup.Super.{Super}
@@ -10,7 +10,7 @@ use Rattle.bfs_sound.specs.Inodes.{mode_bits, is_short}
 use Rattle.bfs_finding.specs.Ways.{says, lacks_stream}
 use Rattle.bfs_node_check.specs.declared.role.Role.{Role}
 use Rattle.bfs_node_check.specs.Roles.{is_node}
-use Rattle.bfs_inode_walk.specs.Visited.{is_alone, IsSoundIn}
+use Rattle.bfs_inode_walk.specs.Visited.{IsSoundIn}
 
 shift_in : (z : ℤ) → z ≤ℤ pos 16 → natural z ≤ 16
 shift_in (pos n) low = omega (arith, ints, low)

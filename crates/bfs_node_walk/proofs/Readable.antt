@@ -1,5 +1,5 @@
 -- A stream that keeps its format, on a volume all of whose blocks are told, can be read.
-use Rattle.std.proofs.Common.{◌≡◌, ◌≢◌, ◌≤◌, ◌<◌, ◌+◌, ◌%◌, ◌⊎◌, inl, inr, ℕ, zero, suc, ℤ, pos, negsuc, List, [], ◌∷◌, ◌++◌, length, Option, Some, cond, ◌==◌, Bool, true, false, refl, sym, ap, ◌∙◌, subst, arith}
+use Rattle.std.proofs.Common.{◌≡◌, ◌<◌, ◌+◌, ◌⊎◌, inl, inr, ℕ, zero, suc, ℤ, pos, negsuc, List, [], ◌∷◌, ◌++◌, length, Option, Some, cond, ◌==◌, Bool, true, false, refl, subst, arith}
 use Rattle.std.specs.Prelude.{All, IsSome, ◌≤ℤ◌}
 use Rattle.std.proofs.lemmas.Int.{ints}
 use Rattle.std.proofs.lemmas.List.Elements.{All-head, All-tail}
@@ -8,11 +8,11 @@ use Rattle.bfs_bytes.specs.declared.Run.{Run}
 use Rattle.bfs_inode.specs.Inode.{stream_at}
 use Rattle.bfs_super.specs.Conditions.{natural}
 use Rattle.bfs_txn.specs.Told.{AreSized}
-use Rattle.bfs_stream.specs.Sizes.{Sizes, Origin, IsInVolume, IsWhole, first_block}
-use Rattle.bfs_stream.specs.Places.{Levels, HasLevels, HasStream, used_runs, run_blocks, blocks_of, level_blocks, places_of, arrays_of, levels_at, places_at, arrays_at, frame_at, bytes_at}
-use Rattle.bfs_stream.specs.Told.{contents, Stands}
+use Rattle.bfs_stream.specs.Sizes.{Sizes, IsInVolume, IsWhole, first_block}
+use Rattle.bfs_stream.specs.Places.{Levels, HasLevels, HasStream, used_runs, run_blocks, blocks_of, level_blocks, places_of, arrays_of, levels_at, arrays_at, frame_at, bytes_at}
+use Rattle.bfs_stream.specs.Told.{contents}
 use Rattle.bfs_stream.proofs.Writes.{run_low}
-use Rattle.bfs_stream_pages.specs.Held.{IsReadable, stream_of}
+use Rattle.bfs_stream_pages.specs.Held.{IsReadable}
 use Rattle.bfs_stream_pages.specs.GoesLaws.{reads_sized}
 use Rattle.bfs_stream_check.specs.Known.{IsAllTold}
 use Rattle.bfs_claims.proofs.Claiming.{times_append}

@@ -1,5 +1,5 @@
 -- The rows of a directory, one after the other.
-use Rattle.std.proofs.Common.{◌≡◌, ◌≢◌, ◌≤◌, ◌<◌, ◌+◌, inl, inr, ℕ, zero, suc, ℤ, pos, List, [], ◌∷◌, ◌++◌, length, take, drop, get_or, Option, Some, None, Bool, true, false, cond, filter, refl, sym, ap, ◌∙◌, subst, arith, codes}
+use Rattle.std.proofs.Common.{◌≡◌, ◌≢◌, ◌≤◌, ◌<◌, ◌+◌, inl, inr, ℕ, zero, suc, ℤ, pos, List, [], ◌∷◌, ◌++◌, length, take, drop, get_or, Some, Bool, true, false, cond, filter, refl, sym, ap, ◌∙◌, subst, arith, codes}
 use Rattle.std.specs.List.{AllByRecursion}
 use Rattle.std.proofs.lemmas.List.{take_more, drop_more}
 use Rattle.bfs_base.specs.declared.kind.KeyKind.TheVariants.{Text}
@@ -14,7 +14,7 @@ use Rattle.bfs_sound.specs.Inodes.{content, is_proper, proper_rows}
 use Rattle.bfs_sound.specs.Owners.{In}
 use Rattle.bfs_finding.specs.declared.finding.Finding.{Finding}
 use Rattle.bfs_finding.specs.declared.finding.Finding.TheVariants as finds
-use Rattle.bfs_finding.specs.Ways.{IsReached, root_reached, row_reached, HasNames, of_node, says, Arrives, to_child}
+use Rattle.bfs_finding.specs.Ways.{IsReached, root_reached, row_reached, HasNames, of_node, says}
 use Rattle.bfs_finding.specs.NodeFaults.{ComesFrom, or_zero, of_dot, of_dots}
 use Rattle.bfs_finding.specs.Findings.{IsBroken}
 use Rattle.bfs_finding.proofs.Rows.{text_same}

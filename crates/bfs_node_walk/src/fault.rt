@@ -11,7 +11,7 @@ ghost use Rattle.bfs_finding.specs.Findings.{IsBroken, IsStreamOf};
 ghost use Rattle.bfs_finding.specs.TreeFaults.{HasTree};
 ghost use Rattle.bfs_walk.specs.Wrong.{IsWalkCause};
 ghost use Rattle.bfs_tree_check.specs.Amiss.{IsAmissIn, IsAmiss};
-ghost use Rattle.bfs_inode_walk.specs.Visited.{IsTrueOf, IsTaken, IsVisitCause};
+ghost use Rattle.bfs_inode_walk.specs.Visited.{IsTrueOf, IsUntaken, IsVisitCause};
 
 use bfs_finding::Finding;
 use bfs_inode_walk::VisitFault;
@@ -43,7 +43,7 @@ fn finding_of(owner: u64, wrong: TreeWrong) -> Finding
 fn block_fault(owner: u64, fault: BlockFault) -> VisitFault
     ensures wrong { (v : Volume) → ¬ IsDamage fault → IsTrueOf v result }
     ensures cause { (old new : Counts) → IsCauseIn old new fault → IsVisitCause old new result }
-    ensures other { (xs own : List ℕ) → IsTaken xs own result }
+    ensures untaken { IsUntaken result }
 {
     match fault {
         BlockFault::Disk { before, after } => VisitFault::Block(BlockFault::Disk { before, after }),
@@ -63,7 +63,7 @@ fn block_fault(owner: u64, fault: BlockFault) -> VisitFault
 pub fn page_fault(owner: u64, fault: GrowFault) -> VisitFault
     ensures wrong { (v : Volume) → IsUndamaged fault → IsTrueOf v result }
     ensures cause { (old new : Counts) → IsGrowCause 1 old new fault → IsVisitCause old new result }
-    ensures other { (xs own : List ℕ) → IsTaken xs own result }
+    ensures untaken { IsUntaken result }
 {
     match fault {
         GrowFault::NoRun { .. } => VisitFault::Block(BlockFault::NoMemory),
@@ -76,7 +76,7 @@ pub fn page_fault(owner: u64, fault: GrowFault) -> VisitFault
 pub fn tree_fault(owner: u64, fault: WalkFault<GrowFault>) -> VisitFault
     ensures wrong { (v : Volume) (kind : KeyKind) → HasTree v owner kind → IsStreamOf v owner → IsAmiss kind (content v owner) fault → IsWalkCause IsUndamaged fault → IsTrueOf v result }
     ensures cause { (old new : Counts) → IsWalkCause (IsGrowCause 1 old new) fault → IsVisitCause old new result }
-    ensures other { (xs own : List ℕ) → IsTaken xs own result }
+    ensures untaken { IsUntaken result }
 {
     match fault {
         WalkFault::Wrong(wrong) => VisitFault::Wrong(finding_of(owner, wrong)),

@@ -14,7 +14,7 @@ ghost use Rattle.bfs_sound.specs.Whole.{volume_of};
 ghost use Rattle.bfs_finding.specs.Ways.{HasNames};
 ghost use Rattle.bfs_finding.specs.Findings.{IsStreamOf};
 ghost use Rattle.bfs_names_walk.specs.Rows.{AreNames};
-ghost use Rattle.bfs_inode_walk.specs.Visited.{IsTrueOf, IsTaken, IsVisitCause};
+ghost use Rattle.bfs_inode_walk.specs.Visited.{IsTrueOf, IsUntaken, IsVisitCause};
 
 use crate::fault::tree_fault;
 use bfs_finding::{Finding, PagePart};
@@ -58,7 +58,7 @@ fn names_over<B: Blocks, L: Ledger>(
 ) -> Result<Vec<NameRow>, VisitFault>
     ensures names { (m : ℕ → Option (List ℕ)) → B.told pages.old.under.now ≡ Some m → IfOk result (λ rows. AreNames (stream_of pages.old.backing m) rows.items) }
     ensures wrong { (v : Volume) (m : ℕ → Option (List ℕ)) → B.told pages.old.under.now ≡ Some m → content v owner ≡ stream_of pages.old.backing m → HasNames v owner → IsStreamOf v owner → IfErr result (IsTrueOf v) }
-    ensures other { (xs own : List ℕ) → IfErr result (IsTaken xs own) }
+    ensures untaken { IfErr result IsUntaken }
     ensures told { B.told pages.new.under.now ≡ B.told pages.old.under.now }
     ensures changed { B.changed pages.new.under.now ≡ B.changed pages.old.under.now }
     ensures pairs { B.pairs pages.new.under.now ≡ B.pairs pages.old.under.now }
@@ -93,7 +93,7 @@ fn names_with<B: Blocks, L: Ledger>(
     requires held { (m : ℕ → Option (List ℕ)) → B.told under.old ≡ Some m → ∥ IsReadable (record { id = id; sizes = sizes_of sup.now }) length m ∥₁ }
     ensures names { (m : ℕ → Option (List ℕ)) → B.told under.old ≡ Some m → IfOk result (λ rows. AreNames (content (volume_of sup.now (contents m)) id) rows.items) }
     ensures wrong { (m : ℕ → Option (List ℕ)) → B.told under.old ≡ Some m → HasNames (volume_of sup.now (contents m)) id → IsStreamOf (volume_of sup.now (contents m)) id → IfErr result (IsTrueOf (volume_of sup.now (contents m))) }
-    ensures other { (xs own : List ℕ) → IfErr result (IsTaken xs own) }
+    ensures untaken { IfErr result IsUntaken }
     ensures told { B.told under.new ≡ B.told under.old }
     ensures changed { B.changed under.new ≡ B.changed under.old }
     ensures pairs { B.pairs under.new ≡ B.pairs under.old }
@@ -125,7 +125,7 @@ pub fn read_names<B: Blocks>(
     requires stream { (m : ℕ → Option (List ℕ)) → B.told under.old ≡ Some m → HasStream (sizes_of sup.now) (contents m) id }
     ensures names { (m : ℕ → Option (List ℕ)) → B.told under.old ≡ Some m → IfOk result (λ rows. AreNames (content (volume_of sup.now (contents m)) id) rows.items) }
     ensures wrong { (m : ℕ → Option (List ℕ)) → B.told under.old ≡ Some m → HasNames (volume_of sup.now (contents m)) id → IfErr result (IsTrueOf (volume_of sup.now (contents m))) }
-    ensures other { (xs own : List ℕ) → IfErr result (IsTaken xs own) }
+    ensures untaken { IfErr result IsUntaken }
     ensures told { B.told under.new ≡ B.told under.old }
     ensures changed { B.changed under.new ≡ B.changed under.old }
     ensures pairs { B.pairs under.new ≡ B.pairs under.old }

@@ -17,7 +17,7 @@ ghost use Rattle.bfs_claims.specs.Claims.{AreClaimed};
 ghost use Rattle.bfs_node_check.specs.Inodes.{IsGoodNode};
 ghost use Rattle.bfs_node_check.specs.Names.{IsNodeFault};
 ghost use Rattle.bfs_node_check.specs.declared.role.Role.TheVariants as roles;
-ghost use Rattle.bfs_inode_walk.specs.Visited.{role_blocks, IsSoundIn, IsTrueOf, IsTaken, IsVisitCause};
+ghost use Rattle.bfs_inode_walk.specs.Visited.{role_blocks, IsSoundIn, IsTrueOf, IsTaken, IsUntaken, IsVisitCause};
 ghost use Rattle.bfs_node_walk.specs.Nodes.{AreRowsOf, IsNamedBy};
 
 use crate::listing::check_listing;
@@ -93,7 +93,7 @@ fn rows_in<B: Blocks>(
     requires stream { (m : ℕ → Option (List ℕ)) → B.told under.old ≡ Some m → HasStream (sizes_of sup.now) (contents m) id }
     ensures rows { (m : ℕ → Option (List ℕ)) → B.told under.old ≡ Some m → IfOk result (λ rows. AreRowsOf (volume_of sup.now (contents m)) id parent rows.items) }
     ensures wrong { (m : ℕ → Option (List ℕ)) → B.told under.old ≡ Some m → ComesFrom (volume_of sup.now (contents m)) id parent → IfErr result (IsTrueOf (volume_of sup.now (contents m))) }
-    ensures other { (xs own : List ℕ) → IfErr result (IsTaken xs own) }
+    ensures untaken { IfErr result IsUntaken }
     ensures told { B.told under.new ≡ B.told under.old }
     ensures changed { B.changed under.new ≡ B.changed under.old }
     ensures pairs { B.pairs under.new ≡ B.pairs under.old }
@@ -130,7 +130,7 @@ fn rows_of<B: Blocks>(
     requires stream { (m : ℕ → Option (List ℕ)) → B.told under.old ≡ Some m → says (volume_of sup.now (contents m)) id Dir ≡ true → HasStream (sizes_of sup.now) (contents m) id }
     ensures rows { (m : ℕ → Option (List ℕ)) → B.told under.old ≡ Some m → IfOk result (λ rows. AreRowsOf (volume_of sup.now (contents m)) id parent rows.items) }
     ensures wrong { (m : ℕ → Option (List ℕ)) → B.told under.old ≡ Some m → ComesFrom (volume_of sup.now (contents m)) id parent → IfErr result (IsTrueOf (volume_of sup.now (contents m))) }
-    ensures other { (xs own : List ℕ) → IfErr result (IsTaken xs own) }
+    ensures untaken { IfErr result IsUntaken }
     ensures told { B.told under.new ≡ B.told under.old }
     ensures changed { B.changed under.new ≡ B.changed under.old }
     ensures pairs { B.pairs under.new ≡ B.pairs under.old }
@@ -149,7 +149,7 @@ fn rows_of<B: Blocks>(
 /// What is wrong with a node, as the fault of a visit.
 pub fn name_fault(fault: NodeFault) -> VisitFault
     ensures wrong { (v : Volume) → IsNodeFault v fault → IsTrueOf v result }
-    ensures other { (xs own : List ℕ) → IsTaken xs own result }
+    ensures untaken { IsUntaken result }
     ensures cause { (old new : Counts) → IsVisitCause old new result }
 {
     match fault {
@@ -172,7 +172,7 @@ fn check_named(
     requires node { (v : Volume) → v.blocks id ≡ bytes.now → IsGoodNode v id }
     ensures named { (v : Volume) → v.blocks id ≡ bytes.now → v.geometry.shift ≡ natural sup.ag_shift → OnOk result (IsNamedBy v id parent row.now) }
     ensures wrong { (v : Volume) → v.blocks id ≡ bytes.now → v.geometry.shift ≡ natural sup.ag_shift → Arrives v (to_child parent row.now) id → IfErr result (IsTrueOf v) }
-    ensures other { (xs own : List ℕ) → IfErr result (IsTaken xs own) }
+    ensures untaken { IfErr result IsUntaken }
     ensures cause { (old new : Counts) → IfErr result (IsVisitCause old new) }
 {
     match check_name(alloc, bytes, id, row) {
@@ -204,7 +204,7 @@ fn finish<B: Blocks>(
     ensures rows { (m : ℕ → Option (List ℕ)) → B.told under.old ≡ Some m → IfOk result (λ node. AreRowsOf (volume_of sup.now (contents m)) id parent node.rows.items) }
     ensures bytes { IfOk result (λ node. node.bytes.items ≡ bytes.items) }
     ensures wrong { (m : ℕ → Option (List ℕ)) → B.told under.old ≡ Some m → ComesFrom (volume_of sup.now (contents m)) id parent → IfErr result (IsTrueOf (volume_of sup.now (contents m))) }
-    ensures other { (xs own : List ℕ) → IfErr result (IsTaken xs own) }
+    ensures untaken { IfErr result IsUntaken }
     ensures told { B.told under.new ≡ B.told under.old }
     ensures changed { B.changed under.new ≡ B.changed under.old }
     ensures pairs { B.pairs under.new ≡ B.pairs under.old }
@@ -238,7 +238,7 @@ pub fn visit_root<B: Blocks>(
     ensures bytes { (m : ℕ → Option (List ℕ)) → B.told under.old ≡ Some m → IfOk result (λ node. node.bytes.items ≡ contents m id) }
     ensures claimed { (m : ℕ → Option (List ℕ)) (xs : List ℕ) → B.told under.old ≡ Some m → AreClaimed claims.old xs → OnOk result (AreClaimed claims.new (xs ++ role_blocks (volume_of sup.now (contents m)) roles.Root id)) }
     ensures wrong { (m : ℕ → Option (List ℕ)) → B.told under.old ≡ Some m → IfErr result (IsTrueOf (volume_of sup.now (contents m))) }
-    ensures taken { (m : ℕ → Option (List ℕ)) (xs : List ℕ) → B.told under.old ≡ Some m → AreClaimed claims.old xs → IfErr result (IsTaken xs (role_blocks (volume_of sup.now (contents m)) roles.Root id)) }
+    ensures taken { (m : ℕ → Option (List ℕ)) (xs : List ℕ) → B.told under.old ≡ Some m → AreClaimed claims.old xs → IfErr result (IsTaken xs (role_blocks (volume_of sup.now (contents m)) roles.Root id) id) }
     ensures more { OnOk result (claims.old.count < claims.new.count) }
     ensures blocks { claims.new.blocks ≡ claims.old.blocks }
     ensures told { B.told under.new ≡ B.told under.old }
@@ -281,7 +281,7 @@ pub fn visit_child<B: Blocks>(
     ensures bytes { (m : ℕ → Option (List ℕ)) → B.told under.old ≡ Some m → IfOk result (λ node. node.bytes.items ≡ contents m id) }
     ensures claimed { (m : ℕ → Option (List ℕ)) (xs : List ℕ) → B.told under.old ≡ Some m → AreClaimed claims.old xs → OnOk result (AreClaimed claims.new (xs ++ role_blocks (volume_of sup.now (contents m)) roles.Child id)) }
     ensures wrong { (m : ℕ → Option (List ℕ)) → B.told under.old ≡ Some m → Arrives (volume_of sup.now (contents m)) (to_child parent row.now) id → IfErr result (IsTrueOf (volume_of sup.now (contents m))) }
-    ensures taken { (m : ℕ → Option (List ℕ)) (xs : List ℕ) → B.told under.old ≡ Some m → AreClaimed claims.old xs → IfErr result (IsTaken xs (role_blocks (volume_of sup.now (contents m)) roles.Child id)) }
+    ensures taken { (m : ℕ → Option (List ℕ)) (xs : List ℕ) → B.told under.old ≡ Some m → AreClaimed claims.old xs → IfErr result (IsTaken xs (role_blocks (volume_of sup.now (contents m)) roles.Child id) id) }
     ensures more { OnOk result (claims.old.count < claims.new.count) }
     ensures blocks { claims.new.blocks ≡ claims.old.blocks }
     ensures told { B.told under.new ≡ B.told under.old }

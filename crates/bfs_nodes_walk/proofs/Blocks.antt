@@ -7,13 +7,12 @@ use Rattle.bfs_tree.specs.declared.call.Kind.TheVariants.{File, Dir, Link}
 use Rattle.bfs_tree.specs.Trees.{Node, is_link}
 use Rattle.bfs_sound.specs.Volumes.{Volume, sizes}
 use Rattle.bfs_sound.specs.Inodes.{kind_bits, mode_bits, is_short, inode_blocks}
-use Rattle.bfs_sound.specs.Owners.{In, own_blocks, owner_blocks, has_no_stream}
-use Rattle.bfs_finding.specs.Ways.{Way, to_root, to_child, Arrives, says, lacks_stream, blocks_by}
+use Rattle.bfs_sound.specs.Owners.{own_blocks, owner_blocks, has_no_stream}
+use Rattle.bfs_finding.specs.Ways.{Way, to_root, to_child, says, lacks_stream}
 use Rattle.bfs_claims.specs.Claims.{Claimed, is_claimed, AreClaimed}
 use Rattle.bfs_claims.proofs.Claiming.{times_append}
-use Rattle.bfs_tour.specs.Shared.{AreOfOthers}
 use Rattle.bfs_tour.specs.Tours.{Visit}
-use Rattle.bfs_nodes_walk.specs.Walks.{blocks_of_visits, IsOnWay}
+use Rattle.bfs_nodes_walk.specs.Walks.{blocks_of_visits}
 
 abbrev test : Bool → ℕ
 test c = cond c 1 0
@@ -85,16 +84,6 @@ module _ (v : Volume) where
       let own : 1 ≤ times e.0 n = own_there e in
       let among : times e.0 (map (λ (e : Visit). e.0) es) ≤ times e.0 b = numbers_low e.0 es in
       omega (arith, once, low, one, two, own, among)
-
-  -- blocks of visits are those of others, where other ways lead to these
-  pub of_others : (this : Way) (es : List Visit) → ((e : Visit) → In e es → (way : Way) × (way ≢ this) × IsOnWay v way e) → AreOfOthers v this (blocks_of_visits v es)
-  of_others this [] ways k h = absurd (omega (arith, h))
-  of_others this (e ∷ es) ways k h = by_side (in_either (own_blocks v e) (blocks_of_visits v es) k h) (of_others this es (λ x j. ways x (inr j)) k)
-    where
-      by_side : Has (own_blocks v e) k ⊎ Has (blocks_of_visits v es) k → (Has (blocks_of_visits v es) k → (other : Way) × (b : ℕ) × (other ≢ this) × Arrives v other b × Has (blocks_by v other b) k)
-          → (other : Way) × (b : ℕ) × (other ≢ this) × Arrives v other b × Has (blocks_by v other b) k
-      by_side (inl i) rest = let w = ways e (inl refl) in (w.0, e.0, w.1, w.2.0, subst (λ (l : List ℕ). Has l k) (sym w.2.1) i)
-      by_side (inr i) rest = rest i
 
 -- ways to the root and by rows
 abbrev at_root : Way → Bool

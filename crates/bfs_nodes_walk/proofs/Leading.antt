@@ -162,11 +162,23 @@ row_met [] x i = absurd i
 row_met (l ∷ ls) x (inl e) = (l, inl refl, e)
 row_met (l ∷ ls) x (inr i) = let r = row_met ls x i in (r.0, inr r.1, r.2)
 
--- what was visited has the directory and the name of a row that was followed
-pub row_of_visit : (visits : List Visit) (leads : List NodeLead) → leads_of visits ≡ as_leads leads → (e : Visit) → In e visits → (k : NodeLead) × In k leads × (k.dir ≡ e.1.parent) × (k.row.name ≡ e.1.name)
-row_of_visit visits leads same e i =
-    let r = row_met leads (lead_of e) (subst (λ (x : List Lead). In (lead_of e) x) same (visit_met visits e i)) in
-    (r.0, r.1, sym (ap (λ (x : Lead). x.dir) r.2), sym (ap (λ (x : Lead). x.name) r.2))
+lead_met : (leads : List NodeLead) (k : NodeLead) → In k leads → In (as_lead k) (as_leads leads)
+lead_met [] k i = absurd i
+lead_met (l ∷ ls) k (inl e) = inl (ap as_lead e)
+lead_met (l ∷ ls) k (inr i) = inr (lead_met ls k i)
+
+met_visit : (visits : List Visit) (x : Lead) → In x (leads_of visits) → (e : Visit) × In e visits × (lead_of e ≡ x)
+met_visit [] x i = absurd i
+met_visit (e ∷ es) x i = by_side (in_parts x (leads_of es) (lead_of e ∷ []) i) (met_visit es x)
+  where
+    by_side : In x (leads_of es) ⊎ In x (lead_of e ∷ []) → (In x (leads_of es) → (z : Visit) × In z es × (lead_of z ≡ x)) → (z : Visit) × In z (e ∷ es) × (lead_of z ≡ x)
+    by_side (inl j) rest = let r = rest j in (r.0, inr r.1, r.2)
+    by_side (inr (inl same)) rest = (e, inl refl, sym same)
+    by_side (inr (inr j)) rest = absurd j
+
+-- what a row names that was followed was visited
+pub visit_of_row : (visits : List Visit) (leads : List NodeLead) → leads_of visits ≡ as_leads leads → (k : NodeLead) → In k leads → (e : Visit) × In e visits × (lead_of e ≡ as_lead k)
+visit_of_row visits leads same k i = met_visit visits (as_lead k) (subst (λ (x : List Lead). In (as_lead k) x) (sym same) (lead_met leads k i))
 
 -- one row more that was followed names a block
 pub inside_more : (blocks : ℕ) (leads more : List NodeLead) (at : ℕ) (l : NodeLead) (id : ℕ) → at < length leads → l ≡ get_or leads at l → l.row.value ≡ pos id → id < blocks → AreInside blocks (take at leads)

@@ -1,3 +1,5 @@
 pub mod Leading
 pub mod Blocks
+pub mod Placing
+pub mod Clashing
 pub mod Walking

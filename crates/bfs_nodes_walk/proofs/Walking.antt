@@ -21,13 +21,17 @@ use Rattle.bfs_finding.proofs.Rows.{tree_ascends}
 use Rattle.bfs_finding.specs.Findings.{IsBroken}
 use Rattle.bfs_finding.specs.declared.finding.Finding.TheVariants as finds
 use Rattle.bfs_claims.specs.Claims.{Claimed, AreClaimed}
+use Rattle.bfs_claims.proofs.Claiming.{times_append}
+use Rattle.bfs_node_check.specs.Roles.{role_of}
 use Rattle.bfs_node_check.specs.declared.role.Role.TheVariants as roles
 use Rattle.bfs_node_check.specs.Inodes.{IsGoodNode}
 use Rattle.bfs_inode_walk.specs.declared.fault.VisitFault.{VisitFault}
 use Rattle.bfs_inode_walk.specs.declared.fault.VisitFault.TheVariants.{Wrong, Taken, Block}
-use Rattle.bfs_inode_walk.specs.Visited.{role_blocks, IsSoundIn, IsTaken}
+use Rattle.bfs_inode_walk.specs.Visited.{role_blocks, IsSoundIn, IsTaken, IsTakenFirst, IsUntaken}
 use Rattle.bfs_inode_walk.specs.Records.{record_in, HasParts}
 use Rattle.bfs_inode_walk.proofs.Recorded.{record_is}
+use Rattle.bfs_owner.specs.Owned.{blocks_of_places}
+use Rattle.bfs_owner.specs.declared.place.Place.{Place}
 use Rattle.bfs_names_walk.specs.Rows.{as_rows}
 use Rattle.bfs_names_walk.specs.declared.row.NameRow.{NameRow}
 use Rattle.bfs_node_walk.specs.Listed.{proper, NamesBlock}
@@ -36,10 +40,12 @@ use Rattle.bfs_tour.specs.Tours.{Visit}
 use Rattle.bfs_tour.specs.Touring.{Lead, lead_by, leads_at, IsListed, IsTouring, IsStep}
 use Rattle.bfs_tour.proofs.Going.{begins, goes_on}
 use Rattle.bfs_nodes_walk.specs.declared.lead.NodeLead.{NodeLead}
-use Rattle.bfs_nodes_walk.specs.Leads.{as_lead, as_leads, leads_in, IsRowOf, IsOtherRow, AreOtherRows, IsTakenBy}
-use Rattle.bfs_nodes_walk.specs.Walks.{HasAttributes, HaveAttributes, blocks_of_visits, IsNodeWay, IsOnWay, way_to, AreOnWays, IsWalking, IsWalkedTo, IsWalked, IsTakenTwice}
-use Rattle.bfs_nodes_walk.proofs.Leading.{drop_front, take_front, in_parts, of_all, leads_append, leads_of_rows, lead_is_row, rows_differ, both_differ, differs_at, row_of_visit}
-use Rattle.bfs_nodes_walk.proofs.Blocks.{eq_itself, own_is, new_here, of_others, root_is_other, row_is_other, has_first, has_second, has_between, claimed_between}
+use Rattle.bfs_nodes_walk.specs.Clashes.{ArePlacedApart, IsApart}
+use Rattle.bfs_nodes_walk.specs.Leads.{as_lead, as_leads, leads_in, IsRowOf, IsOtherRow, AreOtherRows, IsTakenBy, place_of, places_of_nodes}
+use Rattle.bfs_nodes_walk.specs.Walks.{HasAttributes, HaveAttributes, blocks_of_visits, IsNodeWay, IsOnWay, way_to, AreOnWays, IsWalking, IsWalkedTo, IsWalked}
+use Rattle.bfs_nodes_walk.proofs.Leading.{drop_front, take_front, in_parts, of_all, leads_append, leads_of_rows, lead_is_row, rows_differ, both_differ, differs_at, visit_of_row}
+use Rattle.bfs_nodes_walk.proofs.Placing.{place_met, visits_of_places}
+use Rattle.bfs_nodes_walk.proofs.Blocks.{eq_itself, own_is, new_here, root_is_other, row_is_other, has_first, has_second, has_between, claimed_between}
 
 abbrev test : Bool → ℕ
 test c = cond c 1 0
@@ -215,13 +221,32 @@ module _ (v : Volume) (first : List ℕ) (c d : Claimed) (leads : List NodeLead)
   abbrev before : List ℕ
   before = blocks_of_visits v (w.top ∷ w.visits)
 
-  -- no way to a node that was visited is the one by this row
-  other_ways : (e : Visit) → In e (w.top ∷ w.visits) → (way : Way) × (way ≢ to_child l.dir l.row.name) × IsOnWay v way e
-  other_ways e (inl same) = (to_root, root_is_other l.dir l.row.name, subst (IsOnWay v to_root) (sym same) ahead.ways.root)
-  other_ways e (inr i) =
-      let r = row_of_visit w.visits (take at leads) w.followed e i in
-      let differ : IsOtherRow r.0 l = differs_at leads at l inside item w.others r.0 r.1 in
-      (way_to e, row_is_other l.dir e.1.parent l.row.name e.1.name (λ same name. differ (r.2 ∙ same) (r.3 ∙ name)), ahead.ways.rows e i)
+  -- another way than the one by this row leads to a place
+  abbrev IsApartFrom : Place → Type 0
+  IsApartFrom p = (other : Way) × (other ≢ to_child l.dir l.row.name) × (role_of other ≡ Some p.role) × Arrives v other p.id
+
+  row_apart : (k : NodeLead) → In k (take at leads) → IsApartFrom (place_of k)
+  row_apart k i =
+      let e = visit_of_row w.visits (take at leads) w.followed k i in
+      let differ : IsOtherRow k l = differs_at leads at l inside item w.others k i in
+      let arrives : Arrives v (to_child k.dir k.row.name) (natural k.row.value) = subst (λ (x : Lead). Arrives v (to_child x.dir x.name) x.id) e.2 (ahead.ways.rows e.0 e.1).0 in
+      (to_child k.dir k.row.name, row_is_other l.dir k.dir l.row.name k.row.name differ, refl, arrives)
+
+  places_apart : (root : ℕ) → root ≡ v.geometry.root → ArePlacedApart v (to_child l.dir l.row.name) (places_of_nodes root (take at leads))
+  places_apart root same p (inl e) = subst IsApartFrom (sym e) (to_root, root_is_other l.dir l.row.name, refl, same)
+  places_apart root same p (inr i) = let k = place_met (take at leads) p i in subst IsApartFrom (sym k.2) (row_apart k.0 k.1)
+
+  -- the blocks of these places are those of what was visited
+  blocks_of_followed : (root k : ℕ) → root ≡ v.geometry.root → times k before ≡ times k (blocks_of_places v (places_of_nodes root (take at leads)))
+  blocks_of_followed root k same =
+      let others : List Place = map place_of (take at leads) in
+      let top : own_blocks v w.top ≡ role_blocks v roles.Root root = sym ahead.ways.root.1 ∙ ap (role_blocks v roles.Root) (ahead.ways.root.0 ∙ sym same) in
+      let rows : times k (blocks_of_visits v w.visits) ≡ times k (blocks_of_places v others) = visits_of_places v k w.visits (take at leads) w.followed (λ e i. (ahead.ways.rows e i).1) in
+      let one : times k (own_blocks v w.top ++ blocks_of_visits v w.visits) ≡ times k (own_blocks v w.top) + times k (blocks_of_visits v w.visits) = times_append k (own_blocks v w.top) (blocks_of_visits v w.visits) in
+      let two : times k (role_blocks v roles.Root root ++ blocks_of_places v others) ≡ times k (role_blocks v roles.Root root) + times k (blocks_of_places v others) = times_append k (role_blocks v roles.Root root) (blocks_of_places v others) in
+      let first_one : times k (own_blocks v w.top) ≡ times k (role_blocks v roles.Root root) = ap (times k) top in
+      let sum : times k (own_blocks v w.top ++ blocks_of_visits v w.visits) ≡ times k (role_blocks v roles.Root root ++ blocks_of_places v others) = omega (arith, rows, one, two, first_one) in
+      sum
 
   abbrev ids : List ℕ
   ids = map (λ (e : Visit). e.0) w.visits
@@ -265,22 +290,34 @@ module _ (v : Volume) (first : List ℕ) (c d : Claimed) (leads : List NodeLead)
         claimed = claimed_between d first (own_blocks v w.top) (blocks_of_visits v w.visits) (own_blocks v e) claimed;
       }
 
-  -- a block that is taken there is one of its blocks, and is there twice
-  pub taken_on : (fault : VisitFault) → IsTakenBy v (first ++ blocks_of_visits v (w.top ∷ w.visits)) l fault → IsTakenTwice v first fault
-  taken_on (Wrong finding) t = tt
-  taken_on (Taken block) t =
-      let there : In (l.row.name, pos t.0) (proper_rows v l.dir) = subst (λ (z : ℤ). In (l.row.name, z) (proper_rows v l.dir)) t.1 its_row.2 in
+  arrives_here : (id : ℕ) → l.row.value ≡ pos id → Arrives v (to_child l.dir l.row.name) id
+  arrives_here id value = (its_row.0, its_row.1, subst (λ (z : ℤ). In (l.row.name, z) (proper_rows v l.dir)) value its_row.2)
+
+  -- other ways lead to the places than to the node that has a block that is taken
+  pub taken_apart : (root : ℕ) → root ≡ v.geometry.root → (fault : VisitFault) → IsTakenBy v (first ++ before) l fault → IsApart v (places_of_nodes root (take at leads)) fault
+  taken_apart root same (Wrong finding) t = tt
+  taken_apart root same (Taken block owner) t = (to_child l.dir l.row.name, arrives_here owner t.0, t.1, places_apart root same)
+  taken_apart root same (Block fault) t = tt
+
+  -- a block that is taken was claimed at first, or is one of a place
+  pub taken_among : (root : ℕ) → root ≡ v.geometry.root → (fault : VisitFault) → IsTakenBy v (first ++ before) l fault
+      → IsTakenFirst IsNodeWay v (first ++ blocks_of_places v (places_of_nodes root (take at leads))) fault
+  taken_among root same (Wrong finding) t = tt
+  taken_among root same (Taken block owner) t =
+      let places : List ℕ = blocks_of_places v (places_of_nodes root (take at leads)) in
+      let one : times block (first ++ before) ≡ times block first + times block before = times_append block first before in
+      let two : times block (first ++ places) ≡ times block first + times block places = times_append block first places in
+      let both : times block before ≡ times block places = blocks_of_followed root block same in
+      let had : 0 < times block (first ++ before) = t.2 in
+      let has : 0 < times block (first ++ places) = omega (arith, one, two, both, had) in
       record {
-        before = before;
         way = to_child l.dir l.row.name;
-        node = row_way l.dir l.row.name;
-        id = t.0;
-        arrives = (its_row.0, its_row.1, there);
-        here = t.2;
-        twice = t.3;
-        others = of_others v (to_child l.dir l.row.name) (w.top ∷ w.visits) other_ways;
+        kind = row_way l.dir l.row.name;
+        arrives = arrives_here owner t.0;
+        here = t.1;
+        claimed = has;
       }
-  taken_on (Block fault) t = tt
+  taken_among root same (Block fault) t = tt
 
 -- ---- the root
 
@@ -343,25 +380,33 @@ module _ (v : Volume) (id : ℕ) (root : id ≡ v.geometry.root) (sound : IsSoun
       })
 
 -- a block of the root that is taken
-pub taken_first : (v : Volume) (first : List ℕ) (id : ℕ) → id ≡ v.geometry.root → (fault : VisitFault) → IsTaken first (role_blocks v roles.Root id) fault → IsTakenTwice v first fault
+pub taken_first : (v : Volume) (first : List ℕ) (id : ℕ) → id ≡ v.geometry.root → (fault : VisitFault) → IsTaken first (role_blocks v roles.Root id) id fault → IsTakenFirst IsNodeWay v first fault
 taken_first v first id root (Wrong finding) t = tt
-taken_first v first id root (Taken block) t = record {
-  before = [];
+taken_first v first id root (Taken block owner) t = record {
   way = to_root;
-  node = root_way;
-  id = id;
-  arrives = root;
-  here = t.0;
-  twice = subst (λ (x : List ℕ). 2 ≤ times block (x ++ role_blocks v roles.Root id)) (sym (append-nil first)) t.1;
-  others = λ k h. absurd (omega (arith, h));
+  kind = root_way;
+  arrives = t.0 ∙ root;
+  here = subst (λ (n : ℕ). Has (role_blocks v roles.Root n) block) (sym t.0) t.1;
+  claimed = t.2;
 }
 taken_first v first id root (Block fault) t = tt
 
 -- a block of what a row names that is taken
-pub taken_named : (v : Volume) (xs : List ℕ) (l : NodeLead) (id : ℕ) → l.row.value ≡ pos id → (fault : VisitFault) → IsTaken xs (role_blocks v roles.Child id) fault → IsTakenBy v xs l fault
+pub taken_named : (v : Volume) (xs : List ℕ) (l : NodeLead) (id : ℕ) → l.row.value ≡ pos id → (fault : VisitFault) → IsTaken xs (role_blocks v roles.Child id) id fault → IsTakenBy v xs l fault
 taken_named v xs l id value (Wrong finding) t = tt
-taken_named v xs l id value (Taken block) t = (id, value, t.0, t.1)
+taken_named v xs l id value (Taken block owner) t = (value ∙ ap pos (sym t.0), subst (λ (n : ℕ). Has (role_blocks v roles.Child n) block) (sym t.0) t.1, t.2)
 taken_named v xs l id value (Block fault) t = tt
+
+-- no block is said to be taken
+pub untaken_by : (v : Volume) (xs : List ℕ) (l : NodeLead) (fault : VisitFault) → IsUntaken fault → IsTakenBy v xs l fault
+untaken_by v xs l (Wrong finding) u = tt
+untaken_by v xs l (Taken block owner) u = absurd u
+untaken_by v xs l (Block fault) u = tt
+
+pub untaken_first : (v : Volume) (first : List ℕ) (fault : VisitFault) → IsUntaken fault → IsTakenFirst IsNodeWay v first fault
+untaken_first v first (Wrong finding) u = tt
+untaken_first v first (Taken block owner) u = absurd u
+untaken_first v first (Block fault) u = tt
 
 -- all rows were followed
 pub walked : (v : Volume) (first : List ℕ) (c : Claimed) (leads : List NodeLead) (count : ℕ) → length leads ≤ count → IsWalkedTo v first c leads count → IsWalked v first c leads

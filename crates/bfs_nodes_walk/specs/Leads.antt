@@ -1,7 +1,8 @@
 -- The rows of directories that lead on.
-use Rattle.std.specs.Prelude.{◌≡◌, ◌≢◌, ◌≤◌, ℕ, pos, List, [], ◌∷◌, ◌++◌, map, true}
+use Rattle.std.specs.Prelude.{◌≡◌, ◌≢◌, ℕ, pos, List, [], ◌∷◌, ◌++◌, map, true}
 use Rattle.std.specs.List.{filter, AllByRecursion}
-use Rattle.bfs_base.specs.Lists.{times, Has}
+use Rattle.bfs_base.specs.Lists.{Has}
+use Rattle.bfs_super.specs.Conditions.{natural}
 use Rattle.bfs_tree.specs.declared.call.Kind.TheVariants.{Dir}
 use Rattle.bfs_sound.specs.Volumes.{Volume}
 use Rattle.bfs_sound.specs.Inodes.{is_proper, proper_rows}
@@ -11,6 +12,7 @@ use Rattle.bfs_node_check.specs.declared.role.Role.TheVariants as roles
 use Rattle.bfs_inode_walk.specs.Visited.{role_blocks}
 use Rattle.bfs_inode_walk.specs.declared.fault.VisitFault.{VisitFault}
 use Rattle.bfs_inode_walk.specs.declared.fault.VisitFault.TheVariants.{Wrong, Taken, Block}
+use Rattle.bfs_owner.specs.declared.place.Place.{Place}
 use Rattle.bfs_names_walk.specs.declared.row.NameRow.{NameRow}
 use Rattle.bfs_node_walk.specs.Listed.{NamesBlock}
 use Rattle.bfs_tour.specs.Tours.{Visit}
@@ -50,9 +52,17 @@ abbrev pub leads_of : List Visit → List Lead
 leads_of [] = []
 leads_of (e ∷ es) = leads_of es ++ (record { dir = e.1.parent; name = e.1.name; id = e.0 }) ∷ []
 
--- a block that is said to be taken is one of the node that the row names, and is there a second time among those before with these; the
--- other faults say nothing of claims
+-- a block that is said to be taken is one of the node that the row names, and is among those that were claimed before; the other faults say
+-- nothing of claims
 abbrev pub IsTakenBy : Volume → List ℕ → NodeLead → VisitFault → Type 0
 IsTakenBy v before l (Wrong finding) = Unit {0}
-IsTakenBy v before l (Taken block) = (id : ℕ) × (l.row.value ≡ pos id) × Has (role_blocks v roles.Child id) block × (2 ≤ times block (before ++ role_blocks v roles.Child id))
+IsTakenBy v before l (Taken block owner) = (l.row.value ≡ pos owner) × Has (role_blocks v roles.Child owner) block × Has before block
 IsTakenBy v before l (Block fault) = Unit {0}
+
+-- the node that a row names, in its place
+abbrev pub place_of : NodeLead → Place
+place_of l = record { id = natural l.row.value; role = roles.Child }
+
+-- the root and the nodes that rows name, each in its place
+abbrev pub places_of_nodes : ℕ → List NodeLead → List Place
+places_of_nodes root leads = (record { id = root; role = roles.Root }) ∷ map place_of leads

@@ -1,2 +1,3 @@
+pub mod Clashes
 pub mod Leads
 pub mod Walks

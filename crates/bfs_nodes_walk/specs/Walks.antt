@@ -1,7 +1,7 @@
 -- What is known of the nodes that were gone over.
-use Rattle.std.specs.Prelude.{◌≡◌, ◌≤◌, ℕ, List, [], ◌∷◌, ◌++◌, Some, true, take, drop, map}
+use Rattle.std.specs.Prelude.{◌≡◌, ℕ, List, [], ◌∷◌, ◌++◌, Some, true, take, drop, map}
 use Rattle.std.specs.List.{flat_map}
-use Rattle.bfs_base.specs.Lists.{times, Has}
+use Rattle.bfs_base.specs.Lists.{Has}
 use Rattle.bfs_smalldata.specs.Items.{Item, items_of}
 use Rattle.bfs_smalldata.specs.Edits.{AreDistinct}
 use Rattle.bfs_sound.specs.Volumes.{Volume}
@@ -14,9 +14,6 @@ use Rattle.bfs_claims.specs.Claims.{Claimed, AreClaimed}
 use Rattle.bfs_node_check.specs.declared.role.Role.{Role}
 use Rattle.bfs_node_check.specs.Roles.{is_node, role_of}
 use Rattle.bfs_node_check.specs.Inodes.{IsGoodNode}
-use Rattle.bfs_inode_walk.specs.declared.fault.VisitFault.{VisitFault}
-use Rattle.bfs_inode_walk.specs.declared.fault.VisitFault.TheVariants.{Wrong, Taken, Block}
-use Rattle.bfs_tour.specs.Shared.{AreOfOthers}
 use Rattle.bfs_tour.specs.Tours.{Visit}
 use Rattle.bfs_tour.specs.Touring.{IsTouring}
 use Rattle.bfs_nodes_walk.specs.declared.lead.NodeLead.{NodeLead}
@@ -82,21 +79,3 @@ pub record IsWalked (v : Volume) (first : List ℕ) (claims : Claimed) (leads : 
   pub ways : AreOnWays v top visits
   pub followed : leads_of visits ≡ as_leads leads
   pub claimed : AreClaimed claims (first ++ blocks_of_visits v (top ∷ visits))
-
--- A block of a node to which a way leads is there a second time: among those that were claimed at first, those of other nodes that were
--- claimed since, and its own.
-pub record IsTwice (v : Volume) (first : List ℕ) (block : ℕ) : Type 0 where
-  pub before : List ℕ
-  pub way : Way
-  pub node : IsNodeWay way
-  pub id : ℕ
-  pub arrives : Arrives v way id
-  pub here : Has (blocks_by v way id) block
-  pub twice : 2 ≤ times block ((first ++ before) ++ blocks_by v way id)
-  pub others : AreOfOthers v way before
-
--- a block that is said to be taken is there twice; the other faults say nothing of claims
-abbrev pub IsTakenTwice : Volume → List ℕ → VisitFault → Type 0
-IsTakenTwice v first (Wrong finding) = Unit {0}
-IsTakenTwice v first (Taken block) = IsTwice v first block
-IsTakenTwice v first (Block fault) = Unit {0}

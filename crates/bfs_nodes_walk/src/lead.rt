@@ -4,9 +4,8 @@ ghost use Rattle.bfs_super.specs.Conditions.{natural};
 ghost use Rattle.bfs_txn.specs.Faults.{Counts};
 ghost use Rattle.bfs_sound.specs.Volumes.{Volume};
 ghost use Rattle.bfs_sound.specs.Inodes.{is_proper};
-ghost use Rattle.bfs_inode_walk.specs.Visited.{IsTrueOf, IsVisitCause};
-ghost use Rattle.bfs_nodes_walk.specs.Leads.{leads_in, IsRowOf, IsTakenBy};
-ghost use Rattle.bfs_nodes_walk.specs.Walks.{IsTakenTwice};
+ghost use Rattle.bfs_inode_walk.specs.Visited.{IsTrueOf, IsUntaken, IsVisitCause};
+ghost use Rattle.bfs_nodes_walk.specs.Leads.{leads_in, IsRowOf};
 
 use bfs_finding::Finding;
 use bfs_inode_walk::VisitFault;
@@ -38,7 +37,7 @@ fn number_below(value: i64, blocks: u64) -> Result<u64, i64>
 pub(crate) fn block_of(lead: &NodeLead, blocks: u64) -> Result<u64, VisitFault>
     ensures is { IfOk result (λ id. (lead.now.row.value ≡ pos id) × (id < blocks)) }
     ensures wrong { (v : Volume) → v.geometry.blocks ≡ blocks → IsRowOf v lead.now → IfErr result (IsTrueOf v) }
-    ensures other { (v : Volume) (before : List ℕ) → IfErr result (IsTakenBy v before lead.now) }
+    ensures untaken { IfErr result IsUntaken }
     ensures cause { (old new : Counts) → IfErr result (IsVisitCause old new) }
 {
     match number_below(lead.row.value, blocks) {
@@ -61,7 +60,7 @@ fn is_proper_name(name: &[u8]) -> bool
 fn lead_by(alloc: Global, dir: u64, row: &NameRow) -> Result<NodeLead, VisitFault>
     ensures lead { IfOk result (λ lead. lead ≡ record { dir = dir; row = row.now }) }
     ensures wrong { (v : Volume) → IfErr result (IsTrueOf v) }
-    ensures other { (v : Volume) (first : List ℕ) → IfErr result (IsTakenTwice v first) }
+    ensures untaken { IfErr result IsUntaken }
     ensures cause { (old new : Counts) → IfErr result (IsVisitCause old new) }
 {
     match Bytes::from_slice(alloc, row.name.as_slice()) {
@@ -85,7 +84,7 @@ fn push_lead(
 ) -> Result<(), VisitFault>
     ensures pushed { OnOk result (leads.new.items ≡ leads.old.items ++ leads_in dir (row.now ∷ [])) }
     ensures wrong { (v : Volume) → IfErr result (IsTrueOf v) }
-    ensures other { (v : Volume) (first : List ℕ) → IfErr result (IsTakenTwice v first) }
+    ensures untaken { IfErr result IsUntaken }
     ensures cause { (old new : Counts) → IfErr result (IsVisitCause old new) }
 {
     let proper = is_proper_name(row.name.as_slice());
@@ -111,7 +110,7 @@ pub(crate) fn push_leads(
 ) -> Result<(), VisitFault>
     ensures pushed { OnOk result (leads.new.items ≡ leads.old.items ++ leads_in dir rows.now) }
     ensures wrong { (v : Volume) → IfErr result (IsTrueOf v) }
-    ensures other { (v : Volume) (first : List ℕ) → IfErr result (IsTakenTwice v first) }
+    ensures untaken { IfErr result IsUntaken }
     ensures cause { (old new : Counts) → IfErr result (IsVisitCause old new) }
 {
     for i in 0..rows.len() {

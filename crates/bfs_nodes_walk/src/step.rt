@@ -8,12 +8,13 @@ ghost use Rattle.bfs_stream_check.specs.Known.{IsAllTold};
 ghost use Rattle.bfs_sound.specs.Whole.{volume_of};
 ghost use Rattle.bfs_claims.specs.Claims.{AreClaimed};
 ghost use Rattle.bfs_node_check.specs.declared.role.Role.TheVariants as roles;
-ghost use Rattle.bfs_inode_walk.specs.Visited.{role_blocks, IsSoundIn, IsTrueOf, IsVisitCause};
+ghost use Rattle.bfs_inode_walk.specs.Visited.{role_blocks, IsSoundIn, IsTrueOf, IsTakenFirst, IsVisitCause};
 ghost use Rattle.bfs_node_walk.specs.Nodes.{AreRowsOf, IsNamedBy};
 ghost use Rattle.bfs_nodes_walk.specs.Leads.{AreInside, IsRowOf, IsTakenBy};
-ghost use Rattle.bfs_nodes_walk.specs.Walks.{IsWalkedTo, IsTakenTwice};
+ghost use Rattle.bfs_nodes_walk.specs.Walks.{IsWalkedTo, IsNodeWay};
 
 use crate::NodeLead;
+use crate::clash::refusal;
 use crate::lead::{block_of, push_leads};
 use bfs_claims::Claims;
 use bfs_inode_walk::VisitFault;
@@ -93,19 +94,23 @@ pub(crate) fn follow<B: Blocks>(
     alloc: Global,
     under: &mut B,
     sup: &Super,
+    root: u64,
     leads: &mut Vec<NodeLead>,
     at: usize,
     claims: &mut Claims,
 ) -> Result<(), VisitFault>
     requires valid { IsValid sup.now }
+    requires root { root ≡ block_of_run sup.now sup.now.root_dir }
+    requires root_inside { root < natural sup.now.num_blocks }
     requires size { B.size under.old ≡ sup.now.block_size }
     requires all { (m : ℕ → Option (List ℕ)) → B.told under.old ≡ Some m → IsAllTold (sizes_of sup.now) m }
     requires blocks { claims.old.blocks ≡ natural sup.now.num_blocks }
     requires at { at < length leads.old.items }
-    ensures inside { AreInside (natural sup.now.num_blocks) (take at leads.old.items) → OnOk result (AreInside (natural sup.now.num_blocks) (take (at + 1) leads.new.items)) }
+    requires before { AreInside (natural sup.now.num_blocks) (take at leads.old.items) }
+    ensures inside { OnOk result (AreInside (natural sup.now.num_blocks) (take (at + 1) leads.new.items)) }
     ensures on { (m : ℕ → Option (List ℕ)) (xs : List ℕ) → B.told under.old ≡ Some m → IsWalkedTo (volume_of sup.now (contents m)) xs claims.old leads.old.items at → OnOk result (IsWalkedTo (volume_of sup.now (contents m)) xs claims.new leads.new.items (at + 1)) }
     ensures wrong { (m : ℕ → Option (List ℕ)) (xs : List ℕ) → B.told under.old ≡ Some m → IsWalkedTo (volume_of sup.now (contents m)) xs claims.old leads.old.items at → IfErr result (IsTrueOf (volume_of sup.now (contents m))) }
-    ensures taken { (m : ℕ → Option (List ℕ)) (xs : List ℕ) → B.told under.old ≡ Some m → IsWalkedTo (volume_of sup.now (contents m)) xs claims.old leads.old.items at → IfErr result (IsTakenTwice (volume_of sup.now (contents m)) xs) }
+    ensures taken { (m : ℕ → Option (List ℕ)) (xs : List ℕ) → B.told under.old ≡ Some m → IsWalkedTo (volume_of sup.now (contents m)) xs claims.old leads.old.items at → IfErr result (IsTakenFirst IsNodeWay (volume_of sup.now (contents m)) xs) }
     ensures more { OnOk result (claims.old.count < claims.new.count) }
     ensures blocks { claims.new.blocks ≡ claims.old.blocks }
     ensures told { B.told under.new ≡ B.told under.old }
@@ -118,7 +123,10 @@ pub(crate) fn follow<B: Blocks>(
 {
     let found = match visit_lead(alloc, under, sup, &leads[at], claims) {
         Ok(found) => found,
-        Err(fault) => return Err(fault),
+        Err(fault) => {
+            let before: &[NodeLead] = &leads[..at];
+            return Err(refusal(alloc, under, sup, root, before, fault));
+        }
     };
     match push_leads(alloc, found.id, &found.node.rows, leads) {
         Ok(()) => Ok(()),
@@ -142,7 +150,7 @@ pub(crate) fn begin<B: Blocks>(
     requires blocks { claims.old.blocks ≡ natural sup.now.num_blocks }
     ensures begun { (m : ℕ → Option (List ℕ)) (xs : List ℕ) → B.told under.old ≡ Some m → AreClaimed claims.old xs → IfOk result (λ leads. IsWalkedTo (volume_of sup.now (contents m)) xs claims.new leads.items 0) }
     ensures wrong { (m : ℕ → Option (List ℕ)) → B.told under.old ≡ Some m → IfErr result (IsTrueOf (volume_of sup.now (contents m))) }
-    ensures taken { (m : ℕ → Option (List ℕ)) (xs : List ℕ) → B.told under.old ≡ Some m → AreClaimed claims.old xs → IfErr result (IsTakenTwice (volume_of sup.now (contents m)) xs) }
+    ensures taken { (m : ℕ → Option (List ℕ)) (xs : List ℕ) → B.told under.old ≡ Some m → AreClaimed claims.old xs → IfErr result (IsTakenFirst IsNodeWay (volume_of sup.now (contents m)) xs) }
     ensures blocks { claims.new.blocks ≡ claims.old.blocks }
     ensures told { B.told under.new ≡ B.told under.old }
     ensures changed { B.changed under.new ≡ B.changed under.old }

@@ -1,5 +1,5 @@
 // A volume of 16 blocks of 1,024 bytes, whole and broken: the root is at block 4 with two pages of a tree in blocks 6 and 7, which names
-// the files `a` and `b` at blocks 8 and 9.
+// the files `a` and `b` at blocks 8 and 9, each with a stream of a block or with none.
 ghost use Rattle.std.specs.Prelude.{◌≡◌, ◌<◌, IfOk, length, true};
 ghost use Rattle.bfs_super.specs.Conditions.{IsValid, natural, block_of_run};
 
@@ -94,14 +94,18 @@ fn put_inode(bytes: &mut [u8], block: u16, mode: u32)
     put_u32(bytes, at + 64, 1024);
 }
 
-/// Writes the file at a block with its own name, of one byte.
-fn put_file(bytes: &mut [u8], block: u16, name: u32)
+/// Writes the file at a block with its own name, of one byte, and its stream, which is this run of one block or none.
+fn put_file(bytes: &mut [u8], block: u16, name: u32, stream: Run)
     requires size { length bytes.old ≡ 16384 }
     requires inside { block < 16 }
     ensures { length bytes.new ≡ 16384 }
 {
     put_inode(bytes, block, 0x81a4);
     let at = 1024 * usize::from(block);
+    let size = if stream.len == 0 { 0 } else { 1024 };
+    put_run(bytes, at + 72, stream);
+    put_i64(bytes, at + 168, size);
+    put_i64(bytes, at + 208, size);
     put_u32(bytes, at + 232, 0x43535452);
     put_u32(bytes, at + 236, 0x10001);
     put_u32(bytes, at + 240, 0x13);
@@ -152,15 +156,23 @@ fn put_values(bytes: &mut [u8], other: i64)
     put_i64(bytes, 7240, other);
 }
 
+/// What a volume has: the value of the row `b`, and the streams of the two files.
+#[derive(Clone, Copy, Debug)]
+struct Case {
+    other: i64,
+    first: Run,
+    second: Run,
+}
+
 /// Writes the whole volume.
-fn put_all(bytes: &mut [u8], other: i64)
+fn put_all(bytes: &mut [u8], case: Case)
     requires size { length bytes.old ≡ 16384 }
     ensures { length bytes.new ≡ 16384 }
 {
     put_root(bytes);
-    put_leaf(bytes, other);
-    put_file(bytes, 8, 0x61);
-    put_file(bytes, 9, 0x62);
+    put_leaf(bytes, case.other);
+    put_file(bytes, 8, 0x61, case.first);
+    put_file(bytes, 9, 0x62, case.second);
 }
 
 /// Blocks of 1,024 bytes over these.
@@ -171,23 +183,24 @@ fn over(bytes: Vec<u8>) -> MemBlocks
     MemBlocks::new(bytes, 1024)
 }
 
-/// The blocks of the volume, where the row `b` has this value.
-fn volume(alloc: Global, size: usize, other: i64) -> Result<MemBlocks, AllocError>
+/// The blocks of a volume.
+fn volume(alloc: Global, size: usize, case: Case) -> Result<MemBlocks, AllocError>
     requires size { size ≡ 16384 }
     ensures { IfOk result (λ b. b.block_size ≡ 1024) }
 {
     let mut bytes = vec![in alloc; 0u8; size]?;
-    put_all(bytes.as_mut_slice(), other);
+    put_all(bytes.as_mut_slice(), case);
     Ok(over(bytes))
 }
 
-/// What came of it: how many rows were followed, and how many blocks are claimed then; a finding; or a block that is taken.
+/// What came of it: how many rows were followed, and how many blocks are claimed then; a finding; or a block that is taken, and the inode that has it.
 #[derive(Clone, Copy, Debug, PartialEq, Eq)]
 enum Seen {
     Walked(usize, u64),
     Inode(InodePart, i64),
     Row(i64),
-    Taken(u64),
+    Shared(u64, u64, u64),
+    Taken(u64, u64),
     Other,
 }
 
@@ -196,7 +209,14 @@ fn told_by(fault: VisitFault) -> Seen {
     match fault {
         VisitFault::Wrong(Finding::Inode { part, found, .. }) => Seen::Inode(part, found),
         VisitFault::Wrong(Finding::Row { value, .. }) => Seen::Row(value),
-        VisitFault::Taken { block } => Seen::Taken(block),
+        VisitFault::Wrong(
+            Finding::Shared {
+                block,
+                first,
+                second,
+            },
+        ) => Seen::Shared(block, first, second),
+        VisitFault::Taken { block, owner } => Seen::Taken(block, owner),
         _ => Seen::Other,
     }
 }
@@ -229,8 +249,8 @@ fn is_meant(sup: Super) -> bool
     true
 }
 
-/// Goes over them where the row `b` has this value.
-fn walk_with(alloc: Global, other: i64) -> Result<Seen, Fail> {
+/// Goes over the nodes of such a volume.
+fn walk_with(alloc: Global, case: Case) -> Result<Seen, Fail> {
     let sup = superblock()?;
     let meant = is_meant(sup);
     if !meant {
@@ -241,7 +261,7 @@ fn walk_with(alloc: Global, other: i64) -> Result<Seen, Fail> {
         return Ok(Seen::Other);
     }
     let mut under = Untold {
-        blocks: volume(alloc, 16384, other)?,
+        blocks: volume(alloc, 16384, case)?,
     };
     Ok(walk(alloc, &sup, &mut under, root)?)
 }
@@ -254,20 +274,46 @@ fn root_of(sup: Super) -> u64
     sup.block_of(sup.root_dir)
 }
 
+/// A volume with such a row, and such streams.
+fn make_case(other: i64, first: Run, second: Run) -> Case {
+    Case {
+        other,
+        first,
+        second,
+    }
+}
+
 #[test]
-fn two_files_are_walked_or_a_second_row_that_names_one_is_found(
+fn two_files_are_walked_or_what_is_wrong_with_them_is_found(rt: HostRuntime) -> Result<(), Fail> {
+    let none = run(0, 0);
+    // blocks 0, 4, 6 to 9; with two more; no block of the volume; no inode there
+    let table: [(Case, Seen); 4] = [
+        (make_case(9, none, none), Seen::Walked(2, 6)),
+        (make_case(9, run(10, 1), run(11, 1)), Seen::Walked(2, 8)),
+        (make_case(16, none, none), Seen::Row(16)),
+        (make_case(10, none, none), Seen::Inode(InodePart::Magic, 0)),
+    ];
+    for (case, wanted) in table {
+        assert_eq!(rt; walk_with(rt.alloc(), case)?, wanted);
+    }
+    Ok(())
+}
+
+#[test]
+fn a_block_of_two_nodes_is_shared_by_the_first_and_one_of_the_system_is_taken(
     rt: HostRuntime,
 ) -> Result<(), Fail> {
-    let alloc = rt.alloc();
-    // blocks 0, 4, 6 to 9; a node named twice; no block of the volume; no inode there
-    let table: [(i64, Seen); 4] = [
-        (9, Seen::Walked(2, 6)),
-        (8, Seen::Taken(8)),
-        (16, Seen::Row(16)),
-        (10, Seen::Inode(InodePart::Magic, 0)),
+    let none = run(0, 0);
+    // a file that two rows name; a block of the root; the first file's inode; a block of both files; the superblock
+    let table: [(Case, Seen); 5] = [
+        (make_case(8, none, none), Seen::Shared(8, 8, 8)),
+        (make_case(9, none, run(7, 1)), Seen::Shared(7, 4, 9)),
+        (make_case(9, none, run(8, 1)), Seen::Shared(8, 8, 9)),
+        (make_case(9, run(10, 1), run(10, 1)), Seen::Shared(10, 8, 9)),
+        (make_case(9, none, run(0, 1)), Seen::Taken(0, 9)),
     ];
-    for (other, wanted) in table {
-        assert_eq!(rt; walk_with(alloc, other)?, wanted);
+    for (case, wanted) in table {
+        assert_eq!(rt; walk_with(rt.alloc(), case)?, wanted);
     }
     Ok(())
 }

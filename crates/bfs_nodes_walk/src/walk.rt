@@ -7,9 +7,9 @@ ghost use Rattle.bfs_stream.specs.Told.{contents};
 ghost use Rattle.bfs_stream_check.specs.Known.{IsAllTold};
 ghost use Rattle.bfs_sound.specs.Whole.{volume_of};
 ghost use Rattle.bfs_claims.specs.Claims.{AreClaimed};
-ghost use Rattle.bfs_inode_walk.specs.Visited.{IsTrueOf, IsVisitCause};
+ghost use Rattle.bfs_inode_walk.specs.Visited.{IsTrueOf, IsTakenFirst, IsVisitCause};
 ghost use Rattle.bfs_nodes_walk.specs.Leads.{AreInside};
-ghost use Rattle.bfs_nodes_walk.specs.Walks.{IsWalkedTo, IsWalked, IsTakenTwice};
+ghost use Rattle.bfs_nodes_walk.specs.Walks.{IsWalkedTo, IsWalked, IsNodeWay};
 
 use crate::NodeLead;
 use crate::step::{begin, follow};
@@ -32,16 +32,19 @@ fn follow_all<B: Blocks>(
     alloc: Global,
     under: &mut B,
     sup: &Super,
+    root: u64,
     mut leads: Vec<NodeLead>,
     claims: &mut Claims,
 ) -> Result<Vec<NodeLead>, VisitFault>
     requires valid { IsValid sup.now }
+    requires root { root ≡ block_of_run sup.now sup.now.root_dir }
+    requires root_inside { root < natural sup.now.num_blocks }
     requires size { B.size under.old ≡ sup.now.block_size }
     requires all { (m : ℕ → Option (List ℕ)) → B.told under.old ≡ Some m → IsAllTold (sizes_of sup.now) m }
     requires blocks { claims.old.blocks ≡ natural sup.now.num_blocks }
     ensures walked { (m : ℕ → Option (List ℕ)) (xs : List ℕ) → B.told under.old ≡ Some m → IsWalkedTo (volume_of sup.now (contents m)) xs claims.old leads.items 0 → IfOk result (λ all. IsWalked (volume_of sup.now (contents m)) xs claims.new all.items) }
     ensures wrong { (m : ℕ → Option (List ℕ)) (xs : List ℕ) → B.told under.old ≡ Some m → IsWalkedTo (volume_of sup.now (contents m)) xs claims.old leads.items 0 → IfErr result (IsTrueOf (volume_of sup.now (contents m))) }
-    ensures taken { (m : ℕ → Option (List ℕ)) (xs : List ℕ) → B.told under.old ≡ Some m → IsWalkedTo (volume_of sup.now (contents m)) xs claims.old leads.items 0 → IfErr result (IsTakenTwice (volume_of sup.now (contents m)) xs) }
+    ensures taken { (m : ℕ → Option (List ℕ)) (xs : List ℕ) → B.told under.old ≡ Some m → IsWalkedTo (volume_of sup.now (contents m)) xs claims.old leads.items 0 → IfErr result (IsTakenFirst IsNodeWay (volume_of sup.now (contents m)) xs) }
     ensures inside { IfOk result (λ all. AreInside (natural sup.now.num_blocks) all.items) }
     ensures blocks { claims.new.blocks ≡ claims.old.blocks }
     ensures told { B.told under.new ≡ B.told under.old }
@@ -54,7 +57,7 @@ fn follow_all<B: Blocks>(
 {
     let mut at = 0;
     while at < leads.len() {
-        match follow(alloc, under, sup, &mut leads, at, claims) {
+        match follow(alloc, under, sup, root, &mut leads, at, claims) {
             Ok(()) => {}
             Err(fault) => return Err(fault),
         }
@@ -66,8 +69,8 @@ fn follow_all<B: Blocks>(
 
 /// Goes over all nodes of a volume, the root at this block first: each inode with its stream, name and parent, and the rows of each
 /// directory. Their blocks are claimed. Answers the rows in the order in which they were followed, which is by their distance from
-/// the root; or what is wrong, or a block that is claimed already: a node that two rows name is found so. It takes the memory of all
-/// rows, and beside that of one node. The attributes aren't looked at.
+/// the root; or what is wrong, which may be a block that two nodes share, as where two rows name one; or a block of a node that was claimed
+/// before all. It takes the memory of all rows, and beside that of one node. The attributes aren't looked at.
 pub fn walk_nodes<B: Blocks>(
     alloc: Global,
     under: &mut B,
@@ -83,7 +86,7 @@ pub fn walk_nodes<B: Blocks>(
     requires blocks { claims.old.blocks ≡ natural sup.now.num_blocks }
     ensures walked { (m : ℕ → Option (List ℕ)) (xs : List ℕ) → B.told under.old ≡ Some m → AreClaimed claims.old xs → IfOk result (λ all. IsWalked (volume_of sup.now (contents m)) xs claims.new all.items) }
     ensures wrong { (m : ℕ → Option (List ℕ)) (xs : List ℕ) → B.told under.old ≡ Some m → AreClaimed claims.old xs → IfErr result (IsTrueOf (volume_of sup.now (contents m))) }
-    ensures taken { (m : ℕ → Option (List ℕ)) (xs : List ℕ) → B.told under.old ≡ Some m → AreClaimed claims.old xs → IfErr result (IsTakenTwice (volume_of sup.now (contents m)) xs) }
+    ensures taken { (m : ℕ → Option (List ℕ)) (xs : List ℕ) → B.told under.old ≡ Some m → AreClaimed claims.old xs → IfErr result (IsTakenFirst IsNodeWay (volume_of sup.now (contents m)) xs) }
     ensures inside { IfOk result (λ all. AreInside (natural sup.now.num_blocks) all.items) }
     ensures blocks { claims.new.blocks ≡ claims.old.blocks }
     ensures told { B.told under.new ≡ B.told under.old }
@@ -98,7 +101,7 @@ pub fn walk_nodes<B: Blocks>(
         Ok(leads) => leads,
         Err(fault) => return Err(fault),
     };
-    match follow_all(alloc, under, sup, leads, claims) {
+    match follow_all(alloc, under, sup, root, leads, claims) {
         Ok(all) => Ok(all),
         Err(fault) => Err(fault),
     }

@@ -1,4 +1,3 @@
 pub mod Tours
 pub mod Pairs
-pub mod Shared
 pub mod Touring

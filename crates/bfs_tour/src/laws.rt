@@ -1,6 +1,5 @@
 // Laws of a tour over the nodes of a volume: each is the contract of a function that does nothing.
 ghost use Rattle.bfs_tour.specs.Pairs.{GatheredAreListed, PairsAreListed};
-ghost use Rattle.bfs_tour.specs.Shared.{TakenIsShared};
 ghost use Rattle.bfs_tour.specs.Touring.{RoundEnds, TourBegins, TourEnds, TourGoesOn};
 ghost use Rattle.bfs_tour.specs.Tours.{TourReaches, TourStands, RoundIsUnbroken};
 
@@ -32,11 +31,6 @@ pub fn tour_reaches()
 /// Where no block was claimed twice and none outside of the volume, the tree that was toured stands on the volume.
 pub fn tour_stands()
     ensures { TourStands }
-{}
-
-/// A block that is claimed a second time on a tour is shared.
-pub fn taken_is_shared()
-    ensures { TakenIsShared }
 {}
 
 /// Pairs that rise and are those of the nodes that were visited are what the tree lists.

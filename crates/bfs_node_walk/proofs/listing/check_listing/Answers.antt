@@ -1,5 +1,4 @@
-use Rattle.std.proofs.Common.{rules, ◌≡◌, List, ℕ, w64, to_z, of_z}
-use Rattle.bfs_node.specs.Page.{Row}
+use Rattle.std.proofs.Common.{rules, ◌≡◌, w64, to_z, of_z}
 use Rattle.bfs_names_walk.specs.Rows.{as_rows}
 use Rattle.bfs_node_walk.proofs.Scanned.{listing, dot_broken, dots_broken, row_broken}
 use Rattle.bfs_node_walk.proofs.listing.check_listing.Goals as goal

@@ -1,4 +1,4 @@
-use Rattle.std.proofs.Common.{◌≡◌, ◌∙◌, inl, List, ℕ, Option, Some, refl, sym, ap, subst}
+use Rattle.std.proofs.Common.{inl, List, ℕ, Option, refl, sym, ap, subst}
 use Rattle.std.specs.Prelude.{IsSome}
 use Rattle.std.specs.Option.{option_map}
 use Rattle.bfs_base.specs.declared.kind.KeyKind.TheVariants.{Text}

@@ -1,4 +1,4 @@
-use Rattle.std.proofs.Common.{◌≡◌, ◌∙◌, ◌%◌, inl, List, ℕ, length, pos, refl, sym, ap, subst}
+use Rattle.std.proofs.Common.{◌≡◌, ◌∙◌, ◌%◌, inl, List, ℕ, length, pos, refl, sym, ap}
 use Rattle.bfs_inode.specs.Inode.{stream_at}
 use Rattle.bfs_super.specs.Conditions.{natural}
 use Rattle.bfs_stream.specs.Sizes.{Sizes, sizes_of}

@@ -1,9 +1,8 @@
-use Rattle.std.proofs.Common.{◌≡◌, ◌∙◌, List, ℕ, Some, drop, refl, sym, ap, subst}
+use Rattle.std.proofs.Common.{◌∙◌, List, ℕ, drop, refl, sym, ap, subst}
 use Rattle.std.specs.Prelude.{IsSome}
 use Rattle.bfs_bytes.specs.Fields.{run_in}
 use Rattle.bfs_inode.specs.Refusals.{Names}
 use Rattle.bfs_smalldata.specs.Items.{items_of}
-use Rattle.bfs_sound.specs.Volumes.{Volume}
 use Rattle.bfs_sound.specs.Whole.{volume_of}
 use Rattle.bfs_node_walk.proofs.node.check_named.Goals as goal
 

@@ -1,4 +1,4 @@
-use Rattle.std.proofs.Common.{◌≡◌, ◌∙◌, List, ℕ, true, false, sym}
+use Rattle.std.proofs.Common.{◌≡◌, ◌∙◌, false, sym}
 use Rattle.std.proofs.lemmas.Bool.{true≢false}
 use Rattle.bfs_stream.specs.Told.{contents}
 use Rattle.bfs_tree.specs.declared.call.Kind.TheVariants.{Dir}

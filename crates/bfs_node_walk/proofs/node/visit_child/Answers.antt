@@ -1,10 +1,10 @@
-use Rattle.std.proofs.Common.{◌≡◌, ◌≤◌, ◌∙◌, inr, List, ℕ, length, true, refl, sym, subst}
+use Rattle.std.proofs.Common.{◌≤◌, ◌∙◌, inr, List, ℕ, length, refl, sym, subst}
 use Rattle.bfs_stream.specs.Told.{contents}
-use Rattle.bfs_sound.specs.Volumes.{Volume}
 use Rattle.bfs_sound.specs.Whole.{volume_of}
 use Rattle.bfs_finding.specs.Ways.{to_child}
 use Rattle.bfs_node_check.specs.declared.role.Role.TheVariants as roles
 use Rattle.bfs_node_walk.proofs.Known.{dir_stream}
+use Rattle.bfs_inode_walk.proofs.Claiming.{untaken_taken}
 use Rattle.bfs_node_walk.proofs.node.visit_child.Goals as goal
 
 pub returns-in-Err-clause-wrong : goal.returns-in-Err-clause-wrong
@@ -54,7 +54,7 @@ returns-in-Err-check_named-clause-wrong g c m told arrives =
     c.in-Err-check_named.ensures.wrong (volume_of c.args.sup.now (contents m)) (sym (c.deref.ensures.value ∙ c.in-Ok.ensures.read m told)) refl arrives
 
 pub returns-in-Err-check_named-clause-taken : goal.returns-in-Err-check_named-clause-taken
-returns-in-Err-check_named-clause-taken g c m xs told a = c.in-Err-check_named.ensures.other xs _
+returns-in-Err-check_named-clause-taken g c m xs told a = untaken_taken xs _ c.args.id c.in-Err-check_named.fault c.in-Err-check_named.ensures.untaken
 
 pub returns-in-Err-check_named-clause-cause : goal.returns-in-Err-check_named-clause-cause
 returns-in-Err-check_named-clause-cause g c = c.in-Err-check_named.ensures.cause (g.B.Blocks.counts c.args.under.now) (g.B.Blocks.counts c.visit_inode.new.under)
@@ -63,4 +63,4 @@ pub returns-in-Err-finish-clause-wrong : goal.returns-in-Err-finish-clause-wrong
 returns-in-Err-finish-clause-wrong g c m told arrives = c.in-Err-finish.ensures.wrong m (c.in-Ok.ensures.told ∙ told) (inr (c.args.row.now, arrives))
 
 pub returns-in-Err-finish-clause-taken : goal.returns-in-Err-finish-clause-taken
-returns-in-Err-finish-clause-taken g c m xs told a = c.in-Err-finish.ensures.other xs _
+returns-in-Err-finish-clause-taken g c m xs told a = untaken_taken xs _ c.args.id c.in-Err-finish.fault c.in-Err-finish.ensures.untaken

@@ -1,10 +1,10 @@
-use Rattle.std.proofs.Common.{◌≡◌, ◌∙◌, inl, List, ℕ, true, refl, sym}
+use Rattle.std.proofs.Common.{◌∙◌, inl, refl, sym}
 use Rattle.bfs_stream.specs.Told.{contents}
-use Rattle.bfs_sound.specs.Volumes.{Volume}
 use Rattle.bfs_sound.specs.Whole.{volume_of}
 use Rattle.bfs_finding.specs.Ways.{to_root}
 use Rattle.bfs_node_check.specs.declared.role.Role.TheVariants as roles
 use Rattle.bfs_node_walk.proofs.Known.{dir_stream}
+use Rattle.bfs_inode_walk.proofs.Claiming.{untaken_taken}
 use Rattle.bfs_node_walk.proofs.node.visit_root.Goals as goal
 
 pub returns-in-Err-clause-wrong : goal.returns-in-Err-clause-wrong
@@ -42,4 +42,4 @@ pub returns-in-Err-finish-clause-wrong : goal.returns-in-Err-finish-clause-wrong
 returns-in-Err-finish-clause-wrong g c m told = c.in-Err-finish.ensures.wrong m (c.in-Ok.ensures.told ∙ told) (inl (c.requires.root, c.requires.root))
 
 pub returns-in-Err-finish-clause-taken : goal.returns-in-Err-finish-clause-taken
-returns-in-Err-finish-clause-taken g c m xs told a = c.in-Err-finish.ensures.other xs _
+returns-in-Err-finish-clause-taken g c m xs told a = untaken_taken xs _ c.args.id c.in-Err-finish.fault c.in-Err-finish.ensures.untaken

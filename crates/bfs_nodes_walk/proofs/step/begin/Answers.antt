@@ -5,7 +5,7 @@ use Rattle.bfs_sound.specs.Whole.{volume_of}
 use Rattle.bfs_names_walk.specs.declared.row.NameRow.{NameRow}
 use Rattle.bfs_nodes_walk.specs.declared.lead.NodeLead.{NodeLead}
 use Rattle.bfs_nodes_walk.specs.Leads.{leads_in}
-use Rattle.bfs_nodes_walk.proofs.Walking.{begun, taken_first}
+use Rattle.bfs_nodes_walk.proofs.Walking.{begun, taken_first, untaken_first}
 use Rattle.bfs_nodes_walk.proofs.step.begin.Goals as goal
 
 pub returns-in-Err-clause-taken : goal.returns-in-Err-clause-taken
@@ -25,7 +25,7 @@ pub returns-clause-wrong : goal.returns-clause-wrong
 returns-clause-wrong g c m told = c.in-Err-push_leads.ensures.wrong (volume_of c.args.sup.now (contents m))
 
 pub returns-clause-taken : goal.returns-clause-taken
-returns-clause-taken g c m xs told a = c.in-Err-push_leads.ensures.other (volume_of c.args.sup.now (contents m)) xs
+returns-clause-taken g c m xs told a = untaken_first (volume_of c.args.sup.now (contents m)) xs c.in-Err-push_leads.fault c.in-Err-push_leads.ensures.untaken
 
 pub returns-clause-cause : goal.returns-clause-cause
 returns-clause-cause g c = c.in-Err-push_leads.ensures.cause (g.B.Blocks.counts c.args.under.now) (g.B.Blocks.counts c.visit_root.new.under)

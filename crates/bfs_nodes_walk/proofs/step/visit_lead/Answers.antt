@@ -4,14 +4,14 @@ use Rattle.bfs_sound.specs.Volumes.{Volume}
 use Rattle.bfs_sound.specs.Whole.{volume_of}
 use Rattle.bfs_finding.specs.Ways.{Arrives, to_child}
 use Rattle.bfs_node_walk.specs.Nodes.{IsNamedBy}
-use Rattle.bfs_nodes_walk.proofs.Walking.{taken_named, arrives_by}
+use Rattle.bfs_nodes_walk.proofs.Walking.{taken_named, untaken_by, arrives_by}
 use Rattle.bfs_nodes_walk.proofs.step.visit_lead.Goals as goal
 
 pub returns-in-Err-clause-wrong : goal.returns-in-Err-clause-wrong
 returns-in-Err-clause-wrong g c m told row = c.in-Err.ensures.wrong (volume_of c.args.sup.now (contents m)) (sym c.blocks_in.ensures) row
 
 pub returns-in-Err-clause-taken : goal.returns-in-Err-clause-taken
-returns-in-Err-clause-taken g c m xs told a = c.in-Err.ensures.other (volume_of c.args.sup.now (contents m)) xs
+returns-in-Err-clause-taken g c m xs told a = untaken_by (volume_of c.args.sup.now (contents m)) xs c.args.lead.now c.in-Err.fault c.in-Err.ensures.untaken
 
 pub returns-in-Err-clause-cause : goal.returns-in-Err-clause-cause
 returns-in-Err-clause-cause g c = c.in-Err.ensures.cause (g.B.Blocks.counts c.args.under.now) (g.B.Blocks.counts c.args.under.now)

@@ -29,7 +29,7 @@ loop-at-preserved g c = record {
   frame = c.in-Ok.ensures.frame ∙ c.loop-at.invariant.frame;
   later = later-twice c.loop-at.invariant.later c.in-Ok.ensures.later;
   blocks = c.in-Ok.ensures.blocks ∙ c.loop-at.invariant.blocks;
-  inside = c.in-Ok.ensures.inside c.loop-at.invariant.inside;
+  inside = c.in-Ok.ensures.inside;
   walked = λ m xs told w. c.in-Ok.ensures.on m xs (c.loop-at.invariant.told ∙ told) (c.loop-at.invariant.walked m xs told w);
 }
 

@@ -1,12 +1,13 @@
 -- Rows that name attributes, one after the other.
-use Rattle.std.proofs.Common.{◌≡◌, ◌≤◌, ◌<◌, ◌+◌, ◌∙◌, inl, inr, ℕ, ℤ, zero, suc, pos, List, [], ◌∷◌, ◌++◌, length, take, drop, get_or, map, Bool, true, false, cond, refl, sym, ap, subst, arith, append_assoc, append-nil}
+use Rattle.std.proofs.Common.{◌≡◌, ◌≤◌, ◌<◌, ◌+◌, ◌∙◌, inl, inr, ℕ, ℤ, zero, suc, pos, List, [], ◌∷◌, ◌++◌, length, take, drop, get_or, map, Some, Bool, true, false, cond, refl, sym, ap, subst, arith, append_assoc, append-nil}
 use Rattle.std.specs.List.{AllByRecursion, flat_map}
 use Rattle.std.proofs.lemmas.List.{take_more, drop_more, take-append-drop, take_all}
+use Rattle.bfs_base.specs.Lists.{Has}
 use Rattle.bfs_node.specs.Page.{Row}
 use Rattle.bfs_super.specs.Conditions.{natural}
 use Rattle.bfs_sound.specs.Volumes.{Volume}
 use Rattle.bfs_sound.specs.Attributes.{attribute_directory}
-use Rattle.bfs_sound.specs.Inodes.{is_proper, id_of, inode_blocks, rows_of}
+use Rattle.bfs_sound.specs.Inodes.{is_proper, id_of, inode_blocks, content, rows_of}
 use Rattle.bfs_sound.specs.Owners.{In}
 use Rattle.bfs_finding.proofs.Rows.{all_in}
 use Rattle.bfs_finding.specs.Ways.{IsReached, Arrives, to_attribute}
@@ -15,7 +16,7 @@ use Rattle.bfs_node_check.specs.declared.role.Role.TheVariants as roles
 use Rattle.bfs_inode_walk.specs.Visited.{role_blocks, IsSoundIn, IsTaken}
 use Rattle.bfs_inode_walk.specs.declared.fault.VisitFault.{VisitFault}
 use Rattle.bfs_inode_walk.specs.declared.fault.VisitFault.TheVariants.{Wrong, Taken, Block}
-use Rattle.bfs_names_walk.specs.Rows.{as_rows}
+use Rattle.bfs_names_walk.specs.Rows.{as_rows, AreNames}
 use Rattle.bfs_names_walk.specs.declared.row.NameRow.{NameRow}
 use Rattle.bfs_node_walk.specs.Listed.{proper, NamesBlock}
 use Rattle.bfs_attr_walk.specs.Attributed.{row_blocks, AreSoundRows, IsTakenIn, IsTakenBy}
@@ -41,6 +42,25 @@ named_row blocks rows i row inside item all p = all_in (NamesBlock blocks) (prop
 pub row_there : (rows : List NameRow) (others : List Row) (i : ℕ) (row : NameRow) → i < length rows → row ≡ get_or rows i row → proper (as_rows rows) ≡ others → is_proper row.name ≡ true → In (row.name, row.value) others
 row_there rows others i row inside item same p = subst (λ (l : List Row). In (as_row row) l) same (in_rows rows i row inside item p)
 
+pub row_parts : (rows : List NameRow) (i : ℕ) (row : NameRow) → i < length rows → row ≡ get_or rows i row → rows ≡ take i rows ++ (row ∷ drop (i + 1) rows)
+row_parts rows i row inside item =
+    sym (take-append-drop i rows) ∙ ap (λ (x : List NameRow). take i rows ++ x) (drop_more rows i row inside ∙ ap (λ (x : NameRow). x ∷ drop (i + 1) rows) (sym item))
+
+-- rows of a directory are those of the node whose directory it is
+pub rows_at : (v : Volume) (id d : ℕ) (rows : List NameRow) → AreNames (content v d) rows → attribute_directory v id ≡ Some d → proper (as_rows rows) ≡ rows_of v (attribute_directory v id)
+rows_at v id d rows names dir = ap proper names.are ∙ ap (rows_of v) (sym dir)
+
+-- the rows before one name blocks where all do
+pub all_before : (blocks : ℕ) (rows : List NameRow) (i : ℕ) → AllByRecursion (NamesBlock blocks) (proper (as_rows rows)) → AllByRecursion (NamesBlock blocks) (proper (as_rows (take i rows)))
+all_before blocks rows zero all = tt
+all_before blocks [] (suc i) all = tt
+all_before blocks (r ∷ rs) (suc i) all = by_test (is_proper r.name) (all_before blocks rs i) all
+  where
+    by_test : (c : Bool) → (AllByRecursion (NamesBlock blocks) (proper (as_rows rs)) → AllByRecursion (NamesBlock blocks) (proper (as_rows (take i rs))))
+        → AllByRecursion (NamesBlock blocks) (cond c (as_row r ∷ proper (as_rows rs)) (proper (as_rows rs))) → AllByRecursion (NamesBlock blocks) (cond c (as_row r ∷ proper (as_rows (take i rs))) (proper (as_rows (take i rs))))
+    by_test true ih a = (a.0, ih a.1)
+    by_test false ih a = ih a
+
 -- the number of the inode that a row names
 value_is : (blocks : ℕ) (row : NameRow) → NamesBlock blocks (row.name, row.value) → row.value ≡ pos (natural row.value)
 value_is blocks row n = n.1 ∙ ap pos (sym (ap natural n.1))
@@ -50,6 +70,10 @@ below blocks row id is n = subst (λ (k : ℕ). k < blocks) (sym (is ∙ ap natu
 
 pub arrives_at : (v : Volume) (id blocks : ℕ) (row : NameRow) (b : ℕ) → b ≡ natural row.value → NamesBlock blocks (row.name, row.value) → IsReached v id → In (row.name, row.value) (rows_of v (attribute_directory v id)) → Arrives v (to_attribute id row.name) b
 arrives_at v id blocks row b is n reached i = (reached, subst (λ (z : ℤ). In (row.name, z) (rows_of v (attribute_directory v id))) (value_is blocks row n ∙ ap pos (sym is)) i)
+
+in_middle : (x : NameRow) (front back : List NameRow) → In x (front ++ (x ∷ back))
+in_middle x [] back = inl refl
+in_middle x (y ∷ ys) back = inr (in_middle x ys back)
 
 module _ (v : Volume) where
   -- one row
@@ -69,11 +93,9 @@ module _ (v : Volume) where
   pub no_claims : (c : Claimed) (xs : List ℕ) (row : NameRow) → is_proper row.name ≡ false → AreClaimed c xs → AreClaimed c (xs ++ row_blocks v (row ∷ []))
   no_claims c xs row e a = subst (λ (l : List ℕ). AreClaimed c (xs ++ l)) (sym (ap (blocks_if row) e)) (subst (AreClaimed c) (sym (append-nil xs)) a)
 
-  pub taken_one : (xs : List ℕ) (row : NameRow) (b : ℕ) (fault : VisitFault) → is_proper row.name ≡ true → b ≡ natural row.value → IsTaken xs (role_blocks v roles.Attribute b) fault → IsTakenIn v xs row fault
+  pub taken_one : (xs : List ℕ) (row : NameRow) (b : ℕ) (fault : VisitFault) → is_proper row.name ≡ true → b ≡ natural row.value → IsTaken xs (role_blocks v roles.Attribute b) b fault → IsTakenIn v xs row fault
   taken_one xs row b (Wrong finding) p is t = tt
-  taken_one xs row b (Taken block) p is t =
-      let here : IsTaken xs (inode_blocks v (natural row.value)) (Taken block) = subst (λ (k : ℕ). IsTaken xs (inode_blocks v k) (Taken block)) is t in
-      (p, here.0, here.1)
+  taken_one xs row b (Taken block owner) p is t = (p, t.0 ∙ is, subst (λ (k : ℕ). Has (inode_blocks v k) block) (sym t.0) t.1, t.2)
   taken_one xs row b (Block fault) p is t = tt
 
   -- rows behind others
@@ -107,15 +129,10 @@ module _ (v : Volume) where
         subst (AreClaimed c)
         (append_assoc xs (row_blocks v (take i rows)) (row_blocks v (row ∷ [])) ∙ ap (λ (l : List ℕ). xs ++ l) (sym (rows_more (take i rows) (row ∷ [])) ∙ ap (row_blocks v) (sym next))) a
 
-    pub taken_next : (xs : List ℕ) (fault : VisitFault) → IsTakenIn v (xs ++ row_blocks v (take i rows)) row fault → IsTakenBy v xs rows fault
+    pub taken_next : (xs : List ℕ) (fault : VisitFault) → IsTakenIn v xs row fault → IsTakenBy v xs rows fault
     taken_next xs (Wrong finding) t = tt
-    taken_next xs (Taken block) t = record {
-      front = take i rows;
-      row = row;
-      back = drop (i + 1) rows;
-      parts = sym (take-append-drop i rows) ∙ ap (λ (x : List NameRow). take i rows ++ x) (drop_more rows i row inside ∙ ap (λ (x : NameRow). x ∷ drop (i + 1) rows) (sym item));
-      twice = t;
-    }
+    taken_next xs (Taken block owner) t =
+        (row, subst (In row) (sym (row_parts rows i row inside item)) (in_middle row (take i rows) (drop (i + 1) rows)), t)
     taken_next xs (Block fault) t = tt
 
   pub sound_all : (rows : List NameRow) (i : ℕ) → length rows ≤ i → AreSoundRows v (take i rows) → AreSoundRows v rows

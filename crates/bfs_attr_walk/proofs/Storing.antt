@@ -1,13 +1,13 @@
 -- An attribute directory stands with what it names.
-use Rattle.std.proofs.Common.{◌≡◌, ◌∙◌, ℕ, pos, List, [], ◌∷◌, ◌++◌, Some, refl, sym, ap, subst, append_assoc, map}
+use Rattle.std.proofs.Common.{◌∙◌, ℕ, pos, List, [], ◌∷◌, ◌++◌, Some, refl, sym, ap, subst, append_assoc, map}
 use Rattle.std.specs.List.{AllByRecursion, flat_map}
 use Rattle.bfs_bytes.specs.Fields.{run_in}
 use Rattle.bfs_inode.specs.Refusals.{Names}
 use Rattle.bfs_node.specs.Page.{Row}
 use Rattle.bfs_super.specs.Conditions.{natural}
 use Rattle.bfs_sound.specs.Volumes.{Volume}
-use Rattle.bfs_sound.specs.Attributes.{attribute_directory, attribute_inodes, IsAttributeRow, IsAttributeDirectory}
-use Rattle.bfs_sound.specs.Inodes.{id_of, inode_blocks, content, rows_of}
+use Rattle.bfs_sound.specs.Attributes.{attribute_inodes, IsAttributeRow, IsAttributeDirectory}
+use Rattle.bfs_sound.specs.Inodes.{id_of, inode_blocks, content}
 use Rattle.bfs_claims.specs.Claims.{Claimed, AreClaimed}
 use Rattle.bfs_node_check.specs.declared.role.Role.TheVariants as roles
 use Rattle.bfs_inode_walk.specs.Visited.{IsSoundIn}
@@ -36,6 +36,3 @@ module _ (v : Volume) (d : ℕ) (rows : List NameRow) (names : AreNames (content
   claimed_stored c xs a =
       subst (AreClaimed c)
       (append_assoc xs (inode_blocks v d) (row_blocks v rows) ∙ ap (λ (l : List Row). xs ++ (inode_blocks v d ++ flat_map (inode_blocks v) (map id_of (proper l)))) names.are) a
-
-  pub rows_stored : (id : ℕ) (found : List NameRow) → found ≡ rows → attribute_directory v id ≡ Some d → proper (as_rows found) ≡ rows_of v (attribute_directory v id)
-  rows_stored id found same dir = ap (λ (l : List NameRow). proper (as_rows l)) same ∙ ap proper names.are ∙ ap (rows_of v) (sym dir)

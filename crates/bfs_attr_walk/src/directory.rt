@@ -12,7 +12,7 @@ ghost use Rattle.bfs_sound.specs.Whole.{volume_of};
 ghost use Rattle.bfs_finding.specs.Ways.{Arrives, to_directory, HasNames};
 ghost use Rattle.bfs_claims.specs.Claims.{AreClaimed};
 ghost use Rattle.bfs_node_check.specs.declared.role.Role.TheVariants as roles;
-ghost use Rattle.bfs_inode_walk.specs.Visited.{role_blocks, IsSoundIn, IsTrueOf, IsTaken, IsVisitCause};
+ghost use Rattle.bfs_inode_walk.specs.Visited.{role_blocks, IsSoundIn, IsTrueOf, IsTaken, IsUntaken, IsVisitCause};
 ghost use Rattle.bfs_names_walk.specs.Rows.{AreNames, as_rows};
 ghost use Rattle.bfs_node_walk.specs.Listed.{proper, NamesBlock};
 
@@ -25,17 +25,6 @@ use bfs_node_walk::{check_rows, read_names};
 use bfs_super::Super;
 use bfs_txn::Blocks;
 use std::alloc::Global;
-
-/// The number of a volume's blocks.
-fn blocks_in(sup: Super) -> u64
-    ensures { result ≡ natural sup.num_blocks }
-{
-    if sup.num_blocks < 0 {
-        0
-    } else {
-        sup.num_blocks as u64
-    }
-}
 
 /// The rows of the tree of names in the stream of an inode with these bytes, which was found to keep its format. Each but `.` and `..`
 /// names a block.
@@ -56,7 +45,7 @@ pub fn rows_in<B: Blocks>(
     ensures names { (m : ℕ → Option (List ℕ)) → B.told under.old ≡ Some m → IfOk result (λ rows. AreNames (content (volume_of sup.now (contents m)) id) rows.items) }
     ensures inside { IfOk result (λ rows. AllByRecursion (NamesBlock (natural sup.now.num_blocks)) (proper (as_rows rows.items))) }
     ensures wrong { (m : ℕ → Option (List ℕ)) → B.told under.old ≡ Some m → HasNames (volume_of sup.now (contents m)) id → IfErr result (IsTrueOf (volume_of sup.now (contents m))) }
-    ensures other { (xs own : List ℕ) → IfErr result (IsTaken xs own) }
+    ensures untaken { IfErr result IsUntaken }
     ensures told { B.told under.new ≡ B.told under.old }
     ensures changed { B.changed under.new ≡ B.changed under.old }
     ensures pairs { B.pairs under.new ≡ B.pairs under.old }
@@ -69,7 +58,7 @@ pub fn rows_in<B: Blocks>(
         Ok(rows) => rows,
         Err(fault) => return Err(fault),
     };
-    match check_rows(&rows, blocks_in(*sup)) {
+    match check_rows(&rows, sup.geometry().blocks) {
         Ok(()) => Ok(rows),
         Err(value) => Err(VisitFault::Wrong(Finding::Row { owner: id, value })),
     }
@@ -94,7 +83,7 @@ pub fn visit_directory<B: Blocks>(
     ensures inside { IfOk result (λ rows. AllByRecursion (NamesBlock (natural sup.now.num_blocks)) (proper (as_rows rows.items))) }
     ensures claimed { (m : ℕ → Option (List ℕ)) (xs : List ℕ) → B.told under.old ≡ Some m → AreClaimed claims.old xs → OnOk result (AreClaimed claims.new (xs ++ role_blocks (volume_of sup.now (contents m)) roles.AttributeDirectory directory)) }
     ensures wrong { (m : ℕ → Option (List ℕ)) (id : ℕ) → B.told under.old ≡ Some m → Arrives (volume_of sup.now (contents m)) (to_directory id) directory → IfErr result (IsTrueOf (volume_of sup.now (contents m))) }
-    ensures taken { (m : ℕ → Option (List ℕ)) (xs : List ℕ) → B.told under.old ≡ Some m → AreClaimed claims.old xs → IfErr result (IsTaken xs (role_blocks (volume_of sup.now (contents m)) roles.AttributeDirectory directory)) }
+    ensures taken { (m : ℕ → Option (List ℕ)) (xs : List ℕ) → B.told under.old ≡ Some m → AreClaimed claims.old xs → IfErr result (IsTaken xs (role_blocks (volume_of sup.now (contents m)) roles.AttributeDirectory directory) directory) }
     ensures more { OnOk result (claims.old.count < claims.new.count) }
     ensures blocks { claims.new.blocks ≡ claims.old.blocks }
     ensures told { B.told under.new ≡ B.told under.old }

@@ -5,11 +5,15 @@
 mod address;
 mod attribute;
 mod directory;
+mod owner;
+mod places;
 mod stored;
 
 pub use address::directory_of;
 pub use attribute::{is_proper_name, number_of, visit_rows};
 pub use directory::{rows_in, visit_directory};
+pub use owner::find_stored;
+pub use places::push_places;
 pub use stored::visit_stored;
 
 #[cfg(test)]

@@ -54,11 +54,12 @@ pub fn visit_stored<B: Blocks>(
     ensures later { AreLater (B.counts under.old) (B.counts under.new) }
     ensures cause { IfErr result (IsVisitCause (B.counts under.old) (B.counts under.new)) }
 {
+    let _ = claims.count();
     let rows = match visit_directory(alloc, under, sup, directory, claims) {
         Ok(rows) => rows,
         Err(fault) => return Err(fault),
     };
-    match visit_rows(alloc, under, sup, &rows, claims) {
+    match visit_rows(alloc, under, sup, directory, &rows, claims) {
         Ok(()) => Ok(rows),
         Err(fault) => Err(fault),
     }

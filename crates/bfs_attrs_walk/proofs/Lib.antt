@@ -3,5 +3,9 @@ pub mod Found
 pub mod Among
 pub mod Others
 pub mod Visiting
+pub mod Nodes
+pub mod Stored
 pub mod Passing
 pub mod Sharing
+pub mod Searched
+pub mod Telling

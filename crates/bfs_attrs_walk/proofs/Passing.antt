@@ -1,30 +1,29 @@
 -- The attributes of nodes, one after the other.
-use Rattle.std.proofs.Common.{◌≡◌, ◌≤◌, ◌<◌, ◌+◌, ◌∙◌, ◌⊎◌, inl, inr, ℕ, List, [], ◌∷◌, ◌++◌, length, length-append, take, drop, get_or, refl, sym, ap, subst, arith, append_assoc, append-nil}
-use Rattle.std.specs.List.{AllByRecursion, flat_map}
+use Rattle.std.proofs.Common.{◌≡◌, ◌≤◌, ◌<◌, ◌+◌, ◌∙◌, inl, inr, ℕ, zero, suc, List, [], ◌∷◌, ◌++◌, length, length-append, take, drop, get_or, refl, sym, ap, subst, arith, append_assoc, append-nil}
+use Rattle.std.specs.List.{flat_map}
 use Rattle.std.proofs.lemmas.List.{take_more, drop_more, take-append-drop, take_all}
 use Rattle.bfs_base.specs.Lists.{times}
 use Rattle.bfs_super.specs.Conditions.{natural}
 use Rattle.bfs_sound.specs.Volumes.{Volume}
-use Rattle.bfs_sound.specs.Attributes.{attribute_directory}
 use Rattle.bfs_sound.specs.Owners.{In, own_blocks, node_blocks}
-use Rattle.bfs_finding.specs.Ways.{IsReached, root_reached, row_reached}
+use Rattle.bfs_finding.specs.Ways.{IsReached, root_reached}
 use Rattle.bfs_claims.specs.Claims.{Claimed, AreClaimed}
 use Rattle.bfs_claims.proofs.Claiming.{times_append}
-use Rattle.bfs_inode_walk.specs.declared.fault.VisitFault.{VisitFault}
 use Rattle.bfs_node_walk.specs.Listed.{NamesBlock}
 use Rattle.bfs_tour.specs.Tours.{Visit}
 use Rattle.bfs_tour.specs.Touring.{Lead}
 use Rattle.bfs_nodes_walk.specs.declared.lead.NodeLead.{NodeLead}
-use Rattle.bfs_nodes_walk.specs.Leads.{as_lead, as_leads, leads_of, AreInside}
+use Rattle.bfs_nodes_walk.specs.Leads.{as_leads, leads_of, AreInside}
 use Rattle.bfs_nodes_walk.specs.Walks.{HasAttributes, HaveAttributes, blocks_of_visits, IsWalked}
-use Rattle.bfs_nodes_walk.proofs.Leading.{in_parts, in_behind, of_all, lead_of, visit_met, row_met}
-use Rattle.bfs_attrs_walk.specs.Passes.{id_of, attribute_blocks, blocks_of_leads, AreReached, HaveThose, IsTakenIn, IsTakenOf, IsWhole}
+use Rattle.bfs_nodes_walk.proofs.Leading.{in_behind, of_all, lead_of, visit_met, row_met}
+use Rattle.bfs_attrs_walk.specs.Passes.{id_of, attribute_blocks, blocks_of_leads, AreReached, HaveThose, IsWhole}
+use Rattle.bfs_attrs_walk.proofs.Nodes.{reached_by}
 
 module _ (leads : List NodeLead) (i : ℕ) (l : NodeLead) (inside : i < length leads) (item : l ≡ get_or leads i l) where
-  parts : leads ≡ take i leads ++ (l ∷ drop (i + 1) leads)
+  pub parts : leads ≡ take i leads ++ (l ∷ drop (i + 1) leads)
   parts = sym (take-append-drop i leads) ∙ ap (λ (x : List NodeLead). take i leads ++ x) (drop_more leads i l inside ∙ ap (λ (x : NodeLead). x ∷ drop (i + 1) leads) (sym item))
 
-  there : In l leads
+  pub there : In l leads
   there = subst (In l) (sym parts) (in_behind l (take i leads) (l ∷ drop (i + 1) leads) (inl refl))
 
   next : take (i + 1) leads ≡ take i leads ++ (l ∷ [])
@@ -48,12 +47,16 @@ module _ (leads : List NodeLead) (i : ℕ) (l : NodeLead) (inside : i < length l
     more_blocks [] = append-nil (attribute_blocks v (id_of l))
     more_blocks (x ∷ xs) = ap (λ (k : List ℕ). attribute_blocks v (id_of x) ++ k) (more_blocks xs) ∙ sym (append_assoc (attribute_blocks v (id_of x)) (blocks_of_leads v xs) (attribute_blocks v (id_of l)))
 
+    pub none_next : (block : ℕ) → times block (blocks_of_leads v (take i leads)) ≡ 0 → times block (attribute_blocks v (id_of l)) ≡ 0 → times block (blocks_of_leads v (take (i + 1) leads)) ≡ 0
+    none_next block before here =
+        let all : times block (blocks_of_leads v (take i leads) ++ attribute_blocks v (id_of l)) ≡ times block (blocks_of_leads v (take i leads)) + times block (attribute_blocks v (id_of l)) =
+        times_append block (blocks_of_leads v (take i leads)) (attribute_blocks v (id_of l)) in
+        let sum : times block (blocks_of_leads v (take i leads) ++ attribute_blocks v (id_of l)) ≡ 0 = omega (arith, all, before, here) in
+        ap (λ (k : List NodeLead). times block (blocks_of_leads v k)) next ∙ ap (times block) (more_blocks (take i leads)) ∙ sum
+
     pub claimed_next : (c : Claimed) (xs : List ℕ) → AreClaimed c ((xs ++ blocks_of_leads v (take i leads)) ++ attribute_blocks v (id_of l)) → AreClaimed c (xs ++ blocks_of_leads v (take (i + 1) leads))
     claimed_next c xs a =
         subst (AreClaimed c) (append_assoc xs (blocks_of_leads v (take i leads)) (attribute_blocks v (id_of l)) ∙ ap (λ (k : List ℕ). xs ++ k) (sym (more_blocks (take i leads)) ∙ ap (blocks_of_leads v) (sym next))) a
-
-    pub taken_next : (xs : List ℕ) (fault : VisitFault) → HaveThose v (take i leads) → IsTakenIn v (xs ++ blocks_of_leads v (take i leads)) (attribute_directory v (id_of l)) fault → IsTakenOf v xs leads fault
-    taken_next xs fault all t = record { front = take i leads; lead = l; back = drop (i + 1) leads; parts = parts; right = all; taken = t }
 
 module _ (v : Volume) (leads : List NodeLead) (i : ℕ) (past : length leads ≤ i) where
   pub have_all : HaveThose v (take i leads) → HaveThose v leads
@@ -61,6 +64,12 @@ module _ (v : Volume) (leads : List NodeLead) (i : ℕ) (past : length leads ≤
 
   pub claimed_all : (c : Claimed) (xs : List ℕ) → AreClaimed c (xs ++ blocks_of_leads v (take i leads)) → AreClaimed c (xs ++ blocks_of_leads v leads)
   claimed_all c xs a = subst (λ (l : List NodeLead). AreClaimed c (xs ++ blocks_of_leads v l)) (take_all i leads past) a
+
+-- the rows before one name blocks where all do
+pub inside_before : (blocks : ℕ) (leads : List NodeLead) (i : ℕ) → AreInside blocks leads → AreInside blocks (take i leads)
+inside_before blocks leads zero all = tt
+inside_before blocks [] (suc i) all = tt
+inside_before blocks (l ∷ ls) (suc i) all = (all.0, inside_before blocks ls i all.1)
 
 -- one row
 pub named_id : (blocks : ℕ) (l : NodeLead) (id : ℕ) → id ≡ id_of l → NamesBlock blocks (l.row.name, l.row.value) → id < blocks
@@ -153,30 +162,5 @@ module _ (v : Volume) (first : List ℕ) (c : Claimed) (leads : List NodeLead) (
   pub top_reached : IsReached v root
   top_reached = subst (IsReached v) (sym is) root_reached
 
-  -- a row that was followed names a visit
-  met_visit : (es : List Visit) (x : Lead) → In x (leads_of es) → (e : Visit) × In e es × (x ≡ lead_of e)
-  met_visit [] x i = absurd i
-  met_visit (e ∷ es) x i = by_side (in_parts x (leads_of es) (lead_of e ∷ []) i) (met_visit es x)
-    where
-      by_side : In x (leads_of es) ⊎ In x (lead_of e ∷ []) → (In x (leads_of es) → (y : Visit) × In y es × (x ≡ lead_of y)) → (y : Visit) × In y (e ∷ es) × (x ≡ lead_of y)
-      by_side (inl j) ih = let r = ih j in (r.0, inr r.1, r.2)
-      by_side (inr (inl same)) ih = (e, inl refl, same)
-      by_side (inr (inr j)) ih = absurd j
-
-  in_leads : (ls : List NodeLead) (l : NodeLead) → In l ls → In (as_lead l) (as_leads ls)
-  in_leads [] l i = absurd i
-  in_leads (x ∷ xs) l (inl same) = inl (ap as_lead same)
-  in_leads (x ∷ xs) l (inr i) = inr (in_leads xs l i)
-
   pub row_is_reached : (l : NodeLead) → In l leads → IsReached v (id_of l)
-  row_is_reached l i =
-      let m = met_visit w.visits (as_lead l) (subst (λ (x : List Lead). In (as_lead l) x) (sym w.followed) (in_leads leads l i)) in
-      let way = (w.ways.rows m.0 m.1).0 in
-      subst (IsReached v) (sym (ap (λ (x : Lead). x.id) m.2)) (row_reached m.0.1.parent m.0.1.name m.0.0 way.0 way.1 way.2)
-
-  all_from : (P : NodeLead → Type 0) (ls : List NodeLead) → ((l : NodeLead) → In l ls → P l) → AllByRecursion P ls
-  all_from P [] h = tt
-  all_from P (x ∷ xs) h = (h x (inl refl), all_from P xs (λ l i. h l (inr i)))
-
-  pub all_reached : AreReached v leads
-  all_reached = all_from (λ (l : NodeLead). IsReached v (id_of l)) leads row_is_reached
+  row_is_reached = reached_by v w.top w.visits w.ways leads w.followed

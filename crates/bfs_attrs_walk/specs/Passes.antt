@@ -1,17 +1,16 @@
 -- The attributes of all nodes that were gone over.
-use Rattle.std.specs.Prelude.{◌≡◌, ◌≤◌, ◌⊎◌, ℕ, List, [], ◌∷◌, ◌++◌, Option, Some, map}
+use Rattle.std.specs.Prelude.{◌≡◌, ◌⊎◌, ℕ, List, [], ◌∷◌, ◌++◌, Option, Some, None, map}
 use Rattle.std.specs.List.{flat_map, AllByRecursion}
 use Rattle.bfs_base.specs.Lists.{times, Has}
 use Rattle.bfs_super.specs.Conditions.{natural}
 use Rattle.bfs_sound.specs.Volumes.{Volume}
-use Rattle.bfs_sound.specs.Attributes.{attribute_directory, attribute_inodes}
+use Rattle.bfs_sound.specs.Attributes.{attribute_directory, attribute_inodes, HasDirectory}
 use Rattle.bfs_sound.specs.Inodes.{inode_blocks}
-use Rattle.bfs_sound.specs.Owners.{node_blocks}
+use Rattle.bfs_sound.specs.Owners.{In, node_blocks}
 use Rattle.bfs_finding.specs.Ways.{Way, to_directory, to_attribute, IsReached, Arrives, blocks_by}
 use Rattle.bfs_claims.specs.Claims.{Claimed, AreClaimed}
 use Rattle.bfs_inode_walk.specs.declared.fault.VisitFault.{VisitFault}
 use Rattle.bfs_inode_walk.specs.declared.fault.VisitFault.TheVariants.{Wrong, Taken, Block}
-use Rattle.bfs_tour.specs.Shared.{AreOfOthers}
 use Rattle.bfs_tour.specs.Tours.{Visit}
 use Rattle.bfs_tour.specs.Touring.{IsTouring}
 use Rattle.bfs_nodes_walk.specs.declared.lead.NodeLead.{NodeLead}
@@ -23,11 +22,11 @@ use Rattle.bfs_attr_walk.specs.Attributed.{IsTakenAt}
 abbrev pub attribute_blocks : Volume → ℕ → List ℕ
 attribute_blocks v id = flat_map (inode_blocks v) (attribute_inodes v (attribute_directory v id))
 
--- a block that is said to be taken is one of the attribute directory or of what its rows name, and is there a second time; the other
--- faults say nothing of claims
+-- a block that is said to be taken is one of the attribute directory or of what its rows name, and is among those that were claimed before; the
+-- other faults say nothing of claims
 abbrev pub IsTakenIn : Volume → List ℕ → Option ℕ → VisitFault → Type 0
 IsTakenIn v before found (Wrong finding) = Unit {0}
-IsTakenIn v before found (Taken block) = (d : ℕ) × (found ≡ Some d) × IsTakenAt v before d (Taken block)
+IsTakenIn v before found (Taken block owner) = (d : ℕ) × (found ≡ Some d) × IsTakenAt v before d (Taken block owner)
 IsTakenIn v before found (Block fault) = Unit {0}
 
 -- the number of the node that a row names
@@ -46,20 +45,6 @@ AreReached v leads = AllByRecursion (λ (l : NodeLead). IsReached v (id_of l)) l
 abbrev pub HaveThose : Volume → List NodeLead → Type 0
 HaveThose v leads = AllByRecursion (λ (l : NodeLead). HasAttributes v (id_of l)) leads
 
--- a block that is said to be taken is one of the attributes of a node that one of the rows names, and is there a second time among those
--- before, those of the attributes of the nodes in front of it, which are right, and its own
-pub record IsTakenOf (v : Volume) (before : List ℕ) (leads : List NodeLead) (fault : VisitFault) : Type 0 where
-  pub front : List NodeLead
-  pub lead : NodeLead
-  pub back : List NodeLead
-  pub parts : leads ≡ front ++ (lead ∷ back)
-  pub right : HaveThose v front
-  pub taken : IsTakenIn v (before ++ blocks_of_leads v front) (attribute_directory v (id_of lead)) fault
-
--- a block that is said to be taken is one of the attributes of the root, or of a node that one of the rows names
-abbrev pub IsTakenFrom : Volume → List ℕ → ℕ → List NodeLead → VisitFault → Type 0
-IsTakenFrom v before root leads fault = IsTakenIn v before (attribute_directory v root) fault ⊎ (HasAttributes v root × IsTakenOf v (before ++ attribute_blocks v root) leads fault)
-
 -- All nodes were gone over with their attributes: the root and what these rows name are a tour, and their blocks are claimed with those
 -- of their attributes, besides what was claimed at first.
 pub record IsWhole (v : Volume) (first : List ℕ) (claims : Claimed) (leads : List NodeLead) : Type 0 where
@@ -76,20 +61,33 @@ IsAttributeWay (to_directory id) = Unit {0}
 IsAttributeWay (to_attribute id name) = Unit {0}
 IsAttributeWay _ = ⊥
 
--- A block of an attribute directory or of an attribute is there a second time: among those that were claimed at first, those of other
--- inodes that were claimed since, and its own.
-pub record IsTwice (v : Volume) (first : List ℕ) (block : ℕ) : Type 0 where
-  pub before : List ℕ
-  pub way : Way
-  pub attribute : IsAttributeWay way
-  pub id : ℕ
-  pub arrives : Arrives v way id
-  pub here : Has (blocks_by v way id) block
-  pub twice : 2 ≤ times block ((first ++ before) ++ blocks_by v way id)
-  pub others : AreOfOthers v way before
+-- it is a way to the attribute directory of this node, or by a row of that
+abbrev pub IsWayFrom : ℕ → Way → Type 0
+IsWayFrom id (to_directory n) = n ≡ id
+IsWayFrom id (to_attribute n name) = n ≡ id
+IsWayFrom id _ = ⊥
 
--- a block that is said to be taken is there twice; the other faults say nothing of claims
-abbrev pub IsTakenTwice : Volume → List ℕ → VisitFault → Type 0
-IsTakenTwice v first (Wrong finding) = Unit {0}
-IsTakenTwice v first (Taken block) = IsTwice v first block
-IsTakenTwice v first (Block fault) = Unit {0}
+-- it is such a way of one of the nodes that rows name
+abbrev pub IsWayFromSome : List NodeLead → Way → Type 0
+IsWayFromSome leads way = (l : NodeLead) × In l leads × IsWayFrom (id_of l) way
+
+-- it is such a way of the root, or of one of those nodes
+abbrev pub IsWayFromAny : ℕ → List NodeLead → Way → Type 0
+IsWayFromAny root leads way = IsWayFrom root way ⊎ IsWayFromSome leads way
+
+-- a way of this kind leads to the inode, which has the block
+abbrev pub IsOwnerBy : (Way → Type 0) → Volume → ℕ → ℕ → Type 0
+IsOwnerBy IsWay v block owner = (way : Way) × IsWay way × Arrives v way owner × Has (blocks_by v way owner) block
+
+-- the inode that is told is such an owner of the block; where none is told, the block is none of these
+abbrev pub IsOwnerFound : (Way → Type 0) → Volume → List ℕ → ℕ → Option ℕ → Type 0
+IsOwnerFound IsWay v blocks block (Some owner) = IsOwnerBy IsWay v block owner
+IsOwnerFound IsWay v blocks block None = times block blocks ≡ 0
+
+-- the attribute directories of the nodes that rows name keep their format
+abbrev pub HaveDirectories : Volume → List NodeLead → Type 0
+HaveDirectories v leads = AllByRecursion (λ (l : NodeLead). HasDirectory v (id_of l) (attribute_directory v (id_of l))) leads
+
+-- all nodes were gone over with their attributes, besides some blocks
+abbrev pub IsWholeOf : Volume → List NodeLead → Type 0
+IsWholeOf v leads = (first : List ℕ) × (claims : Claimed) × IsWhole v first claims leads

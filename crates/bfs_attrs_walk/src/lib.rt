@@ -5,10 +5,13 @@
 mod items;
 mod names;
 mod node;
+mod owners;
 mod pass;
+mod told;
 
 pub use names::check_names;
 pub use node::visit_attributes;
+pub use owners::{find_attribute, find_before, find_node, find_owner_in};
 pub use pass::visit_all;
 
 #[cfg(test)]

@@ -1,5 +1,5 @@
 // The attributes of all nodes.
-ghost use Rattle.std.specs.Prelude.{◌≡◌, ◌<◌, ◌++◌, ℕ, List, Option, Some, OnOk, IfErr};
+ghost use Rattle.std.specs.Prelude.{◌≡◌, ◌<◌, ◌++◌, ◌∷◌, ℕ, List, Option, Some, OnOk, IfErr};
 ghost use Rattle.bfs_super.specs.Conditions.{IsValid, natural, block_of_run};
 ghost use Rattle.bfs_txn.specs.Faults.{AreLater};
 ghost use Rattle.bfs_stream.specs.Sizes.{sizes_of};
@@ -8,27 +8,22 @@ ghost use Rattle.bfs_stream_check.specs.Known.{IsAllTold};
 ghost use Rattle.bfs_sound.specs.Attributes.{attribute_directory};
 ghost use Rattle.bfs_sound.specs.Whole.{volume_of};
 ghost use Rattle.bfs_finding.specs.Ways.{IsReached};
-ghost use Rattle.bfs_claims.specs.Claims.{AreClaimed};
-ghost use Rattle.bfs_inode_walk.specs.Visited.{IsTrueOf, IsVisitCause};
+ghost use Rattle.bfs_claims.specs.Claims.{Claimed, AreClaimed};
+ghost use Rattle.bfs_inode_walk.specs.Visited.{IsTrueOf, IsTakenFirst, IsVisitCause};
 ghost use Rattle.bfs_node_walk.specs.Listed.{NamesBlock};
 ghost use Rattle.bfs_nodes_walk.specs.Leads.{AreInside};
-ghost use Rattle.bfs_nodes_walk.specs.Walks.{HasAttributes, IsWalked};
-ghost use Rattle.bfs_attrs_walk.specs.Passes.{id_of, attribute_blocks, blocks_of_leads, AreReached, HaveThose, IsTakenIn, IsTakenOf, IsWhole, IsTakenTwice};
+ghost use Rattle.bfs_nodes_walk.specs.Walks.{HasAttributes, blocks_of_visits, IsWalked};
+ghost use Rattle.bfs_attrs_walk.specs.Passes.{id_of, attribute_blocks, blocks_of_leads, HaveThose, IsTakenIn, IsWhole, IsAttributeWay};
 
 use crate::node::visit_attributes;
+use crate::told::{tell_owner, tell_root};
+use bfs_attr_walk::number_of;
 use bfs_claims::Claims;
 use bfs_inode_walk::VisitFault;
 use bfs_nodes_walk::NodeLead;
 use bfs_super::Super;
 use bfs_txn::Blocks;
 use std::alloc::Global;
-
-/// The number of a row's inode.
-fn number_of(value: i64) -> u64
-    ensures { result ≡ natural value }
-{
-    if value < 0 { 0 } else { value as u64 }
-}
 
 /// Goes over the attributes of the node that a row names.
 fn visit_lead<B: Blocks>(
@@ -60,23 +55,28 @@ fn visit_lead<B: Blocks>(
     visit_attributes(alloc, under, sup, id, claims)
 }
 
-/// Goes over the attributes of the nodes that rows name, one after the other.
+/// Goes over the attributes of the nodes that rows name, one after the other, where the nodes and the attributes of the root were gone over. Where one
+/// of their blocks is taken, these and the attributes before are looked at a second time.
 fn visit_leads<B: Blocks>(
     alloc: Global,
     under: &mut B,
     sup: &Super,
+    root: u64,
     leads: &[NodeLead],
     claims: &mut Claims,
 ) -> Result<(), VisitFault>
     requires valid { IsValid sup.now }
+    requires root { root ≡ block_of_run sup.now sup.now.root_dir }
+    requires root_inside { root < natural sup.now.num_blocks }
     requires inside { AreInside (natural sup.now.num_blocks) leads.now }
     requires size { B.size under.old ≡ sup.now.block_size }
     requires all { (m : ℕ → Option (List ℕ)) → B.told under.old ≡ Some m → IsAllTold (sizes_of sup.now) m }
+    requires have { (m : ℕ → Option (List ℕ)) → B.told under.old ≡ Some m → HasAttributes (volume_of sup.now (contents m)) root }
     requires blocks { claims.old.blocks ≡ natural sup.now.num_blocks }
     ensures right { (m : ℕ → Option (List ℕ)) → B.told under.old ≡ Some m → OnOk result (HaveThose (volume_of sup.now (contents m)) leads.now) }
     ensures claimed { (m : ℕ → Option (List ℕ)) (xs : List ℕ) → B.told under.old ≡ Some m → AreClaimed claims.old xs → OnOk result (AreClaimed claims.new (xs ++ blocks_of_leads (volume_of sup.now (contents m)) leads.now)) }
-    ensures wrong { (m : ℕ → Option (List ℕ)) → B.told under.old ≡ Some m → AreReached (volume_of sup.now (contents m)) leads.now → IfErr result (IsTrueOf (volume_of sup.now (contents m))) }
-    ensures taken { (m : ℕ → Option (List ℕ)) (xs : List ℕ) → B.told under.old ≡ Some m → AreClaimed claims.old xs → IfErr result (IsTakenOf (volume_of sup.now (contents m)) xs leads.now) }
+    ensures wrong { (m : ℕ → Option (List ℕ)) (xs : List ℕ) (c : Claimed) (w : IsWalked (volume_of sup.now (contents m)) xs c leads.now) → B.told under.old ≡ Some m → AreClaimed claims.old ((xs ++ blocks_of_visits (volume_of sup.now (contents m)) (w.top ∷ w.visits)) ++ attribute_blocks (volume_of sup.now (contents m)) root) → IfErr result (IsTrueOf (volume_of sup.now (contents m))) }
+    ensures taken { (m : ℕ → Option (List ℕ)) (xs : List ℕ) (c : Claimed) (w : IsWalked (volume_of sup.now (contents m)) xs c leads.now) → B.told under.old ≡ Some m → AreClaimed claims.old ((xs ++ blocks_of_visits (volume_of sup.now (contents m)) (w.top ∷ w.visits)) ++ attribute_blocks (volume_of sup.now (contents m)) root) → IfErr result (IsTakenFirst IsAttributeWay (volume_of sup.now (contents m)) xs) }
     ensures blocks { claims.new.blocks ≡ claims.old.blocks }
     ensures told { B.told under.new ≡ B.told under.old }
     ensures changed { B.changed under.new ≡ B.changed under.old }
@@ -89,14 +89,17 @@ fn visit_leads<B: Blocks>(
     for i in 0..leads.len() {
         match visit_lead(alloc, under, sup, &leads[i], claims) {
             Ok(()) => {}
-            Err(fault) => return Err(fault),
+            Err(fault) => {
+                return Err(tell_owner(alloc, under, sup, root, leads, &leads[..i], fault));
+            }
         }
     }
     Ok(())
 }
 
 /// Goes over the attributes of all nodes: of the root at this block, and of those that rows name which were followed. Their blocks are
-/// claimed. It takes the memory of one node with the rows of its attribute directory.
+/// claimed. Where one of them is taken by a node or by attributes that were gone over, this is found. It takes the memory of one node with the rows of
+/// its attribute directory, and there of a place for each node.
 pub fn visit_all<B: Blocks>(
     alloc: Global,
     under: &mut B,
@@ -114,7 +117,7 @@ pub fn visit_all<B: Blocks>(
     requires blocks { claims.old.blocks ≡ natural sup.now.num_blocks }
     ensures whole { (m : ℕ → Option (List ℕ)) (xs : List ℕ) → B.told under.old ≡ Some m → IsWalked (volume_of sup.now (contents m)) xs claims.old leads.now → OnOk result (IsWhole (volume_of sup.now (contents m)) xs claims.new leads.now) }
     ensures wrong { (m : ℕ → Option (List ℕ)) (xs : List ℕ) → B.told under.old ≡ Some m → IsWalked (volume_of sup.now (contents m)) xs claims.old leads.now → IfErr result (IsTrueOf (volume_of sup.now (contents m))) }
-    ensures taken { (m : ℕ → Option (List ℕ)) (xs : List ℕ) → B.told under.old ≡ Some m → IsWalked (volume_of sup.now (contents m)) xs claims.old leads.now → IfErr result (IsTakenTwice (volume_of sup.now (contents m)) xs) }
+    ensures taken { (m : ℕ → Option (List ℕ)) (xs : List ℕ) → B.told under.old ≡ Some m → IsWalked (volume_of sup.now (contents m)) xs claims.old leads.now → IfErr result (IsTakenFirst IsAttributeWay (volume_of sup.now (contents m)) xs) }
     ensures blocks { claims.new.blocks ≡ claims.old.blocks }
     ensures told { B.told under.new ≡ B.told under.old }
     ensures changed { B.changed under.new ≡ B.changed under.old }
@@ -126,9 +129,9 @@ pub fn visit_all<B: Blocks>(
 {
     match visit_attributes(alloc, under, sup, root, claims) {
         Ok(()) => {}
-        Err(fault) => return Err(fault),
+        Err(fault) => return Err(tell_root(alloc, under, sup, root, leads, fault)),
     }
-    match visit_leads(alloc, under, sup, leads, claims) {
+    match visit_leads(alloc, under, sup, root, leads, claims) {
         Ok(()) => Ok(()),
         Err(fault) => Err(fault),
     }

@@ -24,7 +24,7 @@ pub record IsKnown (v : Volume) (id : ℕ) (n : Node) : Type 0 where
 -- a block could not be had: nothing is said of the volume
 abbrev pub IsUnread : VisitFault → Type 0
 IsUnread (Wrong finding) = ⊥
-IsUnread (Taken block) = ⊥
+IsUnread (Taken block owner) = ⊥
 IsUnread (Block fault) = Unit {0}
 
 -- the row names this node, which is known and isn't the root

@@ -4,6 +4,7 @@ use Rattle.bfs_sound.specs.Whole.{volume_of}
 use Rattle.bfs_finding.specs.Ways.{to_directory, of_attributes}
 use Rattle.bfs_node_check.specs.declared.role.Role.TheVariants as roles
 use Rattle.bfs_inode_walk.specs.Visited.{role_blocks}
+use Rattle.bfs_inode_walk.proofs.Claiming.{untaken_taken}
 use Rattle.bfs_attr_walk.proofs.directory.visit_directory.Goals as goal
 
 pub returns-in-Err-clause-wrong : goal.returns-in-Err-clause-wrong
@@ -34,4 +35,5 @@ pub returns-clause-wrong : goal.returns-clause-wrong
 returns-clause-wrong g c m id told arrives = c.in-Err-rows_in.ensures.wrong m (c.in-Ok.ensures.told ∙ told) (of_attributes id c.args.directory arrives)
 
 pub returns-clause-taken : goal.returns-clause-taken
-returns-clause-taken g c m xs told a = c.in-Err-rows_in.ensures.other xs (role_blocks (volume_of c.args.sup.now (contents m)) roles.AttributeDirectory c.args.directory)
+returns-clause-taken g c m xs told a =
+    untaken_taken xs (role_blocks (volume_of c.args.sup.now (contents m)) roles.AttributeDirectory c.args.directory) c.args.directory c.in-Err-rows_in.fault c.in-Err-rows_in.ensures.untaken

@@ -1,16 +1,16 @@
-use Rattle.std.proofs.Common.{◌∙◌, ◌++◌, inl, inr, List, sym, subst}
+use Rattle.std.proofs.Common.{◌∙◌, ◌++◌, inl, inr, ℕ, List, sym, subst}
 use Rattle.std.specs.List.{AllByRecursion}
 use Rattle.bfs_super.specs.Conditions.{natural}
 use Rattle.bfs_stream.specs.Told.{contents}
 use Rattle.bfs_sound.specs.Volumes.{Volume}
-use Rattle.bfs_sound.specs.Inodes.{inode_blocks}
+use Rattle.bfs_sound.specs.Inodes.{content, inode_blocks}
 use Rattle.bfs_sound.specs.Whole.{volume_of}
 use Rattle.bfs_claims.specs.Claims.{AreClaimed}
-use Rattle.bfs_names_walk.specs.Rows.{as_rows}
+use Rattle.bfs_names_walk.specs.Rows.{as_rows, AreNames}
 use Rattle.bfs_names_walk.specs.declared.row.NameRow.{NameRow}
 use Rattle.bfs_node_walk.specs.Listed.{proper, NamesBlock}
 use Rattle.bfs_attr_walk.specs.Attributed.{row_blocks, AreSoundRows, IsTakenBy}
-use Rattle.bfs_attr_walk.proofs.Storing.{stands, claimed_stored, rows_stored}
+use Rattle.bfs_attr_walk.proofs.Storing.{stands, claimed_stored}
 use Rattle.bfs_attr_walk.proofs.stored.visit_stored.Goals as goal
 
 pub visit_rows-requires-clause-rows : goal.visit_rows-requires-clause-rows
@@ -42,7 +42,11 @@ returns-in-Ok-visit_rows-clause-claimed g c m xs told a =
 pub returns-in-Err-visit_rows-clause-wrong : goal.returns-in-Err-visit_rows-clause-wrong
 returns-in-Err-visit_rows-clause-wrong g c m id told reached dir =
     let v : Volume = volume_of c.args.sup.now (contents m) in
-    c.in-Err-visit_rows.ensures.wrong m id (c.in-Ok.ensures.told ∙ told) reached (rows_stored v c.args.directory c.in-Ok.rows.items (c.in-Ok.ensures.names m told) id c.deref.result.now c.deref.ensures.value dir)
+    let listed = c.count.ensures.listed in
+    let xs : List ℕ = listed.0 in
+    let a : AreClaimed c.args.claims.now xs = listed.1 in
+    c.in-Err-visit_rows.ensures.wrong m id (xs ++ inode_blocks v c.args.directory) (c.in-Ok.ensures.told ∙ told) (c.in-Ok.ensures.claimed m xs told a) reached dir
+    (subst (AreNames (content v c.args.directory)) (sym c.deref.ensures.value) (c.in-Ok.ensures.names m told))
 
 pub returns-in-Err-visit_rows-clause-taken : goal.returns-in-Err-visit_rows-clause-taken
 returns-in-Err-visit_rows-clause-taken g c m xs told a =
@@ -51,6 +55,5 @@ returns-in-Err-visit_rows-clause-taken g c m xs told a =
       c.in-Ok.rows.items,
       c.in-Ok.ensures.names m told,
       c.in-Ok.ensures.inside,
-      subst (λ (l : List NameRow). IsTakenBy v (xs ++ inode_blocks v c.args.directory) l c.in-Err-visit_rows.fault) c.deref.ensures.value
-          (c.in-Err-visit_rows.ensures.taken m (xs ++ inode_blocks v c.args.directory) (c.in-Ok.ensures.told ∙ told) (c.in-Ok.ensures.claimed m xs told a)),
+      subst (λ (l : List NameRow). IsTakenBy v xs l c.in-Err-visit_rows.fault) c.deref.ensures.value (c.in-Err-visit_rows.ensures.taken m xs (c.in-Ok.ensures.told ∙ told) (c.in-Ok.ensures.claimed m xs told a)),
     )

@@ -56,7 +56,7 @@ returns-clause-wrong g c m told reached =
 pub returns-clause-taken : goal.returns-clause-taken
 returns-clause-taken g c m xs told a =
     let v : Volume = volume_of c.args.sup.now (contents m) in
-    never_taken v xs (attribute_directory v c.args.id) c.name_fault.result c.name_fault.ensures.other
+    never_taken v xs (attribute_directory v c.args.id) c.name_fault.result c.name_fault.ensures.untaken
 
 pub returns-clause-cause : goal.returns-clause-cause
 returns-clause-cause g c = c.name_fault.ensures.cause (g.B.Blocks.counts c.args.under.now) (g.B.Blocks.counts c.visit_found.new.under)

@@ -2,5 +2,7 @@ pub mod Unsized
 pub mod Headed
 pub mod Rowing
 pub mod Placed
-pub mod Twice
+pub mod Clashing
+pub mod Placing
+pub mod Owning
 pub mod Standing

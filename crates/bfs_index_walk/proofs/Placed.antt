@@ -56,7 +56,7 @@ rows_there v d is rows names all same = ap (λ (l : List NameRow). proper (as_ro
 
 module _ (v : Volume) (first : List ℕ) (c : Claimed) where
   -- where there is no index directory
-  no_blocks : index_directory v ≡ None → index_blocks v ≡ []
+  pub no_blocks : index_directory v ≡ None → index_blocks v ≡ []
   unfolding index_blocks
   no_blocks none = ap (λ (o : Option ℕ). flat_map (inode_blocks v) (inodes_of v o)) none
 

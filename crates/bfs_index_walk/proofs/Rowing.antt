@@ -1,7 +1,7 @@
 -- Rows that name indices, one after the other.
-use Rattle.std.proofs.Common.{◌≡◌, ◌≤◌, ◌<◌, ◌+◌, ◌∙◌, ℕ, ℤ, pos, List, [], ◌∷◌, ◌++◌, length, take, get_or, map, Bool, true, false, cond, refl, sym, ap, subst}
+use Rattle.std.proofs.Common.{◌≡◌, ◌≤◌, ◌<◌, ◌+◌, ◌∙◌, ℕ, ℤ, pos, List, [], ◌∷◌, ◌++◌, length, take, drop, get_or, map, Bool, true, false, cond, refl, sym, ap, subst}
 use Rattle.std.specs.List.{AllByRecursion}
-use Rattle.std.proofs.lemmas.List.{take_more, take_all, map-append}
+use Rattle.std.proofs.lemmas.List.{take_more, drop_more, take-append-drop, take_all, map-append}
 use Rattle.bfs_base.specs.Keys.{IsTreeKind}
 use Rattle.bfs_base.specs.declared.kind.KeyKind.{KeyKind}
 use Rattle.bfs_node.specs.Page.{Row}
@@ -29,6 +29,23 @@ passed_over (x ∷ xs) row e = by_test (is_proper x.name) (passed_over xs row e)
         → cond c ((x.name, x.value) ∷ proper (as_rows (xs ++ (row ∷ [])))) (proper (as_rows (xs ++ (row ∷ [])))) ≡ cond c ((x.name, x.value) ∷ proper (as_rows xs)) (proper (as_rows xs))
     by_test true ih = ap (λ (l : List Row). (x.name, x.value) ∷ l) ih
     by_test false ih = ih
+
+-- what holds of all rows holds of the first
+front_all : (P : Row → Type 0) (xs ys : List NameRow) → AllByRecursion P (proper (as_rows (xs ++ ys))) → AllByRecursion P (proper (as_rows xs))
+front_all P [] ys all = tt
+front_all P (x ∷ xs) ys all = by_test (is_proper x.name) (front_all P xs ys) all
+  where
+    by_test : (c : Bool) → (AllByRecursion P (proper (as_rows (xs ++ ys))) → AllByRecursion P (proper (as_rows xs)))
+        → AllByRecursion P (cond c ((x.name, x.value) ∷ proper (as_rows (xs ++ ys))) (proper (as_rows (xs ++ ys)))) → AllByRecursion P (cond c ((x.name, x.value) ∷ proper (as_rows xs)) (proper (as_rows xs)))
+    by_test true ih a = (a.0, ih a.1)
+    by_test false ih a = ih a
+
+pub first_all : (P : Row → Type 0) (rows : List NameRow) (i : ℕ) → AllByRecursion P (proper (as_rows rows)) → AllByRecursion P (proper (as_rows (take i rows)))
+first_all P rows i all = front_all P (take i rows) (drop i rows) (subst (λ (l : List NameRow). AllByRecursion P (proper (as_rows l))) (sym (take-append-drop i rows)) all)
+
+-- the rows before a row, the row and those behind it
+pub row_parts : (rows : List NameRow) (i : ℕ) (row : NameRow) → i < length rows → row ≡ get_or rows i row → rows ≡ take i rows ++ (row ∷ drop (i + 1) rows)
+row_parts rows i row inside item = sym (take-append-drop i rows) ∙ ap (λ (x : List NameRow). take i rows ++ x) (drop_more rows i row inside ∙ ap (λ (x : NameRow). x ∷ drop (i + 1) rows) (sym item))
 
 -- the number of a row's index
 pub number_is : (blocks : ℕ) (row : NameRow) (id : ℕ) → id ≡ natural row.value → NamesBlock blocks (row.name, row.value) → row.value ≡ pos id

@@ -44,7 +44,7 @@ pub(crate) fn visit_directory<B: Blocks>(
     ensures inside { IfOk result (λ rows. AllByRecursion (NamesBlock (natural sup.now.num_blocks)) (proper (as_rows rows.items))) }
     ensures claimed { (m : ℕ → Option (List ℕ)) (xs : List ℕ) → B.told under.old ≡ Some m → AreClaimed claims.old xs → OnOk result (AreClaimed claims.new (xs ++ inode_blocks (volume_of sup.now (contents m)) directory)) }
     ensures wrong { (m : ℕ → Option (List ℕ)) → B.told under.old ≡ Some m → Arrives (volume_of sup.now (contents m)) to_indices directory → IfErr result (IsTrueOf (volume_of sup.now (contents m))) }
-    ensures taken { (m : ℕ → Option (List ℕ)) (xs : List ℕ) → B.told under.old ≡ Some m → AreClaimed claims.old xs → IfErr result (IsTaken xs (inode_blocks (volume_of sup.now (contents m)) directory)) }
+    ensures taken { (m : ℕ → Option (List ℕ)) (xs : List ℕ) → B.told under.old ≡ Some m → AreClaimed claims.old xs → IfErr result (IsTaken xs (inode_blocks (volume_of sup.now (contents m)) directory) directory) }
     ensures blocks { claims.new.blocks ≡ claims.old.blocks }
     ensures told { B.told under.new ≡ B.told under.old }
     ensures changed { B.changed under.new ≡ B.changed under.old }

@@ -17,7 +17,7 @@ ghost use Rattle.bfs_sound.specs.Whole.{volume_of};
 ghost use Rattle.bfs_finding.specs.Findings.{IsStreamOf};
 ghost use Rattle.bfs_finding.specs.TreeFaults.{IsHeaderFault};
 ghost use Rattle.bfs_finding.specs.Ways.{IsListed};
-ghost use Rattle.bfs_inode_walk.specs.Visited.{IsTrueOf, IsTaken, IsVisitCause};
+ghost use Rattle.bfs_inode_walk.specs.Visited.{IsTrueOf, IsUntaken, IsVisitCause};
 
 use bfs_finding::{Finding, PagePart};
 use bfs_inode_walk::VisitFault;
@@ -52,7 +52,7 @@ fn kind_over<B: Blocks, L: Ledger>(
     ensures kind { IfOk result IsTreeKind }
     ensures code { (m : ℕ → Option (List ℕ)) → B.told pages.old.under.now ≡ Some m → IfOk result (λ kind. (header_in (stream_of pages.old.backing m)).data_type ≡ code_of kind) }
     ensures wrong { (v : Volume) (m : ℕ → Option (List ℕ)) → B.told pages.old.under.now ≡ Some m → content v owner ≡ stream_of pages.old.backing m → IsListed v owner → IsStreamOf v owner → IfErr result (IsTrueOf v) }
-    ensures other { (xs own : List ℕ) → IfErr result (IsTaken xs own) }
+    ensures untaken { IfErr result IsUntaken }
     ensures told { B.told pages.new.under.now ≡ B.told pages.old.under.now }
     ensures changed { B.changed pages.new.under.now ≡ B.changed pages.old.under.now }
     ensures pairs { B.pairs pages.new.under.now ≡ B.pairs pages.old.under.now }
@@ -105,7 +105,7 @@ fn kind_with<B: Blocks, L: Ledger>(
     ensures kind { IfOk result IsTreeKind }
     ensures code { (m : ℕ → Option (List ℕ)) → B.told under.old ≡ Some m → IfOk result (λ kind. (header_in (content (volume_of sup.now (contents m)) id)).data_type ≡ code_of kind) }
     ensures wrong { (m : ℕ → Option (List ℕ)) → B.told under.old ≡ Some m → IsListed (volume_of sup.now (contents m)) id → IsStreamOf (volume_of sup.now (contents m)) id → IfErr result (IsTrueOf (volume_of sup.now (contents m))) }
-    ensures other { (xs own : List ℕ) → IfErr result (IsTaken xs own) }
+    ensures untaken { IfErr result IsUntaken }
     ensures told { B.told under.new ≡ B.told under.old }
     ensures changed { B.changed under.new ≡ B.changed under.old }
     ensures pairs { B.pairs under.new ≡ B.pairs under.old }
@@ -138,7 +138,7 @@ pub fn find_kind<B: Blocks>(
     ensures kind { IfOk result IsTreeKind }
     ensures code { (m : ℕ → Option (List ℕ)) → B.told under.old ≡ Some m → IfOk result (λ kind. (header_in (content (volume_of sup.now (contents m)) id)).data_type ≡ code_of kind) }
     ensures wrong { (m : ℕ → Option (List ℕ)) → B.told under.old ≡ Some m → IsListed (volume_of sup.now (contents m)) id → IfErr result (IsTrueOf (volume_of sup.now (contents m))) }
-    ensures other { (xs own : List ℕ) → IfErr result (IsTaken xs own) }
+    ensures untaken { IfErr result IsUntaken }
     ensures told { B.told under.new ≡ B.told under.old }
     ensures changed { B.changed under.new ≡ B.changed under.old }
     ensures pairs { B.pairs under.new ≡ B.pairs under.old }

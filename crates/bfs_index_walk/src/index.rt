@@ -13,7 +13,7 @@ ghost use Rattle.bfs_sound.specs.Listings.{IsIndex};
 ghost use Rattle.bfs_sound.specs.Whole.{volume_of};
 ghost use Rattle.bfs_finding.specs.Ways.{Arrives, to_index, IsListed};
 ghost use Rattle.bfs_claims.specs.Claims.{AreClaimed};
-ghost use Rattle.bfs_inode_walk.specs.Visited.{IsTrueOf, IsTaken, IsVisitCause};
+ghost use Rattle.bfs_inode_walk.specs.Visited.{IsTrueOf, IsTaken, IsUntaken, IsVisitCause};
 
 use crate::header::find_kind;
 use crate::values::read_values;
@@ -43,7 +43,7 @@ fn read_tree<B: Blocks>(
     ensures kind { IfOk result IsTreeKind }
     ensures whole { (m : ℕ → Option (List ℕ)) → B.told under.old ≡ Some m → IfOk result (λ kind. IsWholeTree kind (content (volume_of sup.now (contents m)) id)) }
     ensures wrong { (m : ℕ → Option (List ℕ)) → B.told under.old ≡ Some m → IsListed (volume_of sup.now (contents m)) id → IfErr result (IsTrueOf (volume_of sup.now (contents m))) }
-    ensures other { (xs own : List ℕ) → IfErr result (IsTaken xs own) }
+    ensures untaken { IfErr result IsUntaken }
     ensures told { B.told under.new ≡ B.told under.old }
     ensures changed { B.changed under.new ≡ B.changed under.old }
     ensures pairs { B.pairs under.new ≡ B.pairs under.old }
@@ -79,7 +79,7 @@ pub fn visit_index<B: Blocks>(
     ensures index { (m : ℕ → Option (List ℕ)) → B.told under.old ≡ Some m → IfOk result (IsIndex (volume_of sup.now (contents m)) id) }
     ensures claimed { (m : ℕ → Option (List ℕ)) (xs : List ℕ) → B.told under.old ≡ Some m → AreClaimed claims.old xs → OnOk result (AreClaimed claims.new (xs ++ inode_blocks (volume_of sup.now (contents m)) id)) }
     ensures wrong { (m : ℕ → Option (List ℕ)) (name : List ℕ) → B.told under.old ≡ Some m → Arrives (volume_of sup.now (contents m)) (to_index name) id → IfErr result (IsTrueOf (volume_of sup.now (contents m))) }
-    ensures taken { (m : ℕ → Option (List ℕ)) (xs : List ℕ) → B.told under.old ≡ Some m → AreClaimed claims.old xs → IfErr result (IsTaken xs (inode_blocks (volume_of sup.now (contents m)) id)) }
+    ensures taken { (m : ℕ → Option (List ℕ)) (xs : List ℕ) → B.told under.old ≡ Some m → AreClaimed claims.old xs → IfErr result (IsTaken xs (inode_blocks (volume_of sup.now (contents m)) id) id) }
     ensures kind { IfOk result IsTreeKind }
     ensures more { OnOk result (claims.old.count < claims.new.count) }
     ensures blocks { claims.new.blocks ≡ claims.old.blocks }

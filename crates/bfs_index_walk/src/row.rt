@@ -7,20 +7,22 @@ ghost use Rattle.bfs_txn.specs.Faults.{AreLater, Counts};
 ghost use Rattle.bfs_stream.specs.Sizes.{sizes_of};
 ghost use Rattle.bfs_stream.specs.Told.{contents};
 ghost use Rattle.bfs_stream_check.specs.Known.{IsAllTold};
-ghost use Rattle.bfs_sound.specs.Inodes.{is_proper};
+ghost use Rattle.bfs_sound.specs.Inodes.{is_proper, inode_blocks, content};
 ghost use Rattle.bfs_sound.specs.Listings.{index_rows};
 ghost use Rattle.bfs_sound.specs.Owners.{In};
 ghost use Rattle.bfs_sound.specs.Volumes.{Volume};
 ghost use Rattle.bfs_sound.specs.Whole.{volume_of};
+ghost use Rattle.bfs_finding.specs.Ways.{to_indices, Arrives};
 ghost use Rattle.bfs_claims.specs.Claims.{AreClaimed};
-ghost use Rattle.bfs_inode_walk.specs.Visited.{IsTrueOf, IsVisitCause};
-ghost use Rattle.bfs_names_walk.specs.Rows.{as_rows};
+ghost use Rattle.bfs_inode_walk.specs.Visited.{IsTrueOf, IsUntaken, IsVisitCause};
+ghost use Rattle.bfs_names_walk.specs.Rows.{as_rows, AreNames};
 ghost use Rattle.bfs_names_walk.specs.declared.row.NameRow as names;
 ghost use Rattle.bfs_node_walk.specs.Listed.{proper, NamesBlock};
 ghost use Rattle.bfs_attr_walk.specs.Attributed.{row_blocks, IsTakenIn, IsTakenBy};
 ghost use Rattle.bfs_index_walk.specs.Indices.{AreFound, AreInside};
 
 use crate::FoundIndex;
+use crate::clash::refusal;
 use crate::index::visit_index;
 use bfs_attr_walk::{is_proper_name, number_of};
 use bfs_claims::Claims;
@@ -42,7 +44,7 @@ fn push_index(
 ) -> Result<(), VisitFault>
     ensures pushed { OnOk result (found.new.items ≡ found.old.items ++ (record { name = name.now; id = id; kind = kind }) ∷ []) }
     ensures wrong { (v : Volume) → IfErr result (IsTrueOf v) }
-    ensures taken { (v : Volume) (xs : List ℕ) (row : names.NameRow) → IfErr result (IsTakenIn v xs row) }
+    ensures untaken { IfErr result IsUntaken }
     ensures cause { (old new : Counts) → IfErr result (IsVisitCause old new) }
 {
     let name = match Bytes::from_slice(alloc, name) {
@@ -98,15 +100,18 @@ fn visit_row<B: Blocks>(
     }
 }
 
-/// Goes over the indices that the rows of the index directory name, one after the other, and claims their blocks.
+/// Goes over the indices that the rows of the index directory name, one after the other, and claims their blocks, where those of the directory are
+/// claimed. Where one of their blocks is taken, the directory and the indices before are looked at a second time.
 pub(crate) fn visit_rows<B: Blocks>(
     alloc: Global,
     under: &mut B,
     sup: &Super,
+    directory: u64,
     rows: &[NameRow],
     claims: &mut Claims,
 ) -> Result<Vec<FoundIndex>, VisitFault>
     requires valid { IsValid sup.now }
+    requires directory { directory < natural sup.now.num_blocks }
     requires rows { AllByRecursion (NamesBlock (natural sup.now.num_blocks)) (proper (as_rows rows.now)) }
     requires size { B.size under.old ≡ sup.now.block_size }
     requires all { (m : ℕ → Option (List ℕ)) → B.told under.old ≡ Some m → IsAllTold (sizes_of sup.now) m }
@@ -114,8 +119,8 @@ pub(crate) fn visit_rows<B: Blocks>(
     ensures found { (m : ℕ → Option (List ℕ)) → B.told under.old ≡ Some m → IfOk result (λ found. AreFound (volume_of sup.now (contents m)) (proper (as_rows rows.now)) found.items) }
     ensures inside { IfOk result (λ found. AreInside (natural sup.now.num_blocks) found.items) }
     ensures claimed { (m : ℕ → Option (List ℕ)) (xs : List ℕ) → B.told under.old ≡ Some m → AreClaimed claims.old xs → OnOk result (AreClaimed claims.new (xs ++ row_blocks (volume_of sup.now (contents m)) rows.now)) }
-    ensures wrong { (m : ℕ → Option (List ℕ)) → B.told under.old ≡ Some m → proper (as_rows rows.now) ≡ index_rows (volume_of sup.now (contents m)) → IfErr result (IsTrueOf (volume_of sup.now (contents m))) }
-    ensures taken { (m : ℕ → Option (List ℕ)) (xs : List ℕ) → B.told under.old ≡ Some m → AreClaimed claims.old xs → IfErr result (IsTakenBy (volume_of sup.now (contents m)) xs rows.now) }
+    ensures wrong { (m : ℕ → Option (List ℕ)) (xs : List ℕ) → B.told under.old ≡ Some m → AreClaimed claims.old xs → Arrives (volume_of sup.now (contents m)) to_indices directory → AreNames (content (volume_of sup.now (contents m)) directory) rows.now → IfErr result (IsTrueOf (volume_of sup.now (contents m))) }
+    ensures taken { (m : ℕ → Option (List ℕ)) (xs : List ℕ) → B.told under.old ≡ Some m → AreClaimed claims.old (xs ++ inode_blocks (volume_of sup.now (contents m)) directory) → IfErr result (IsTakenBy (volume_of sup.now (contents m)) xs rows.now) }
     ensures blocks { claims.new.blocks ≡ claims.old.blocks }
     ensures told { B.told under.new ≡ B.told under.old }
     ensures changed { B.changed under.new ≡ B.changed under.old }
@@ -129,7 +134,7 @@ pub(crate) fn visit_rows<B: Blocks>(
     for i in 0..rows.len() {
         match visit_row(alloc, under, sup, &rows[i], &mut found, claims) {
             Ok(()) => {}
-            Err(fault) => return Err(fault),
+            Err(fault) => return Err(refusal(alloc, under, sup, directory, &rows[..i], fault)),
         }
     }
     Ok(found)

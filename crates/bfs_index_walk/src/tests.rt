@@ -3,7 +3,7 @@
 ghost use Rattle.std.specs.Prelude.{◌≡◌, ◌≤◌, ◌<◌, ◌+◌, IfOk, length, true};
 ghost use Rattle.bfs_super.specs.Conditions.{IsValid, natural};
 
-use crate::{FoundIndex, visit_indices};
+use crate::{FoundIndex, find_index_owner, visit_indices};
 use bfs_bytes::{Run, put_bytes, put_i64, put_run, put_u16, put_u32};
 use bfs_claims::Claims;
 use bfs_finding::{Finding, InodePart, PagePart};
@@ -180,7 +180,7 @@ fn volume(alloc: Global, size: usize, at: usize, number: i64) -> Result<MemBlock
 }
 
 /// What came of it: how many indices there are, whether they are the three of the volume, and how many blocks are claimed then; a finding;
-/// or a block that is taken.
+/// a block that is taken; or which inode has a block.
 #[derive(Clone, Copy, Debug, PartialEq, Eq)]
 enum Seen {
     Walked(usize, bool, u64),
@@ -188,7 +188,10 @@ enum Seen {
     Row(u64, i64),
     Page(u64, u64, PagePart),
     Link(u64, u64, i64, i64),
-    Taken(u64),
+    Shared(u64, u64, u64),
+    Taken(u64, u64),
+    Owner(u64),
+    Nobody,
     Other,
 }
 
@@ -222,7 +225,14 @@ fn told_by(fault: VisitFault) -> Seen {
                 wanted,
             },
         ) => Seen::Link(owner, page, found, wanted),
-        VisitFault::Taken { block } => Seen::Taken(block),
+        VisitFault::Wrong(
+            Finding::Shared {
+                block,
+                first,
+                second,
+            },
+        ) => Seen::Shared(block, first, second),
+        VisitFault::Taken { block, owner } => Seen::Taken(block, owner),
         _ => Seen::Other,
     }
 }
@@ -238,6 +248,25 @@ fn walk(alloc: Global, sup: &Super, under: &mut Untold) -> Result<Seen, AllocErr
     let _ = claims.claim(0, 1);
     match visit_indices(alloc, under, sup, &mut claims) {
         Ok(found) => Ok(Seen::Walked(found.len(), are_meant(&found), claims.count())),
+        Err(fault) => Ok(told_by(fault)),
+    }
+}
+
+/// Goes over the indices, and finds which of them has a block.
+fn owner_of(alloc: Global, sup: &Super, under: &mut Untold, block: u64) -> Result<Seen, AllocError>
+    requires valid { IsValid sup.now }
+    requires block_size { sup.now.block_size ≡ 1024 }
+    requires size { under.old.blocks.block_size ≡ 1024 }
+    requires blocks { natural sup.now.num_blocks ≡ 20 }
+{
+    let mut claims = Claims::new(alloc, 20)?;
+    let found = match visit_indices(alloc, under, sup, &mut claims) {
+        Ok(found) => found,
+        Err(fault) => return Ok(told_by(fault)),
+    };
+    match find_index_owner(alloc, under, sup, &found, block) {
+        Ok(Some(id)) => Ok(Seen::Owner(id)),
+        Ok(None) => Ok(Seen::Nobody),
         Err(fault) => Ok(told_by(fault)),
     }
 }
@@ -266,16 +295,34 @@ fn walk_with(alloc: Global, indices: Run, at: usize, number: i64) -> Result<Seen
     Ok(walk(alloc, &sup, &mut under)?)
 }
 
+/// Finds which of them has a block in the whole volume, with this run of the index directory.
+fn owner_with(alloc: Global, indices: Run, block: u64) -> Result<Seen, Fail> {
+    let sup = superblock(indices)?;
+    let meant = is_meant(sup);
+    if !meant {
+        return Ok(Seen::Other);
+    }
+    let mut under = Untold {
+        blocks: volume(alloc, 20480, 0, 0)?,
+    };
+    Ok(owner_of(alloc, &sup, &mut under, block)?)
+}
+
 #[test]
 fn three_indices_are_found_or_what_is_wrong_with_one_is(rt: HostRuntime) -> Result<(), Fail> {
     let alloc = rt.alloc();
-    // blocks 0 and 5 to 16; a mode without the bit of the index; no block of the volume; an index named twice; a leaf with a link to
-    // the left; a kind of keys that there isn't; another magic number
-    let table: [(usize, i64, Seen); 7] = [
+    // blocks 0 and 5 to 16; a mode without the bit of the index; no block of the volume; an index named twice; pages of the index at block 9
+    // in that at block 10, and of the directory in that at block 8; block 0 in an index and in the directory; a leaf with a link to the left;
+    // a kind of keys that there isn't; another magic number
+    let table: [(usize, i64, Seen); 11] = [
         (0, 0, Seen::Walked(3, true, 13)),
         (8212, 0x1000081a4, Seen::Inode(8, InodePart::Mode, 0x81a4)),
         (7246, 20, Seen::Row(5, 20)),
-        (7246, 9, Seen::Taken(9)),
+        (7246, 9, Seen::Shared(9, 9, 9)),
+        (10312, 0x2000d00000000, Seen::Shared(13, 9, 10)),
+        (8264, 0x2000600000000, Seen::Shared(6, 5, 8)),
+        (10312, 0x2000000000000, Seen::Taken(0, 10)),
+        (5192, 0x2000000000000, Seen::Taken(0, 5)),
         (14336, 1024, Seen::Link(9, 1024, 1024, -1)),
         (15368, 0x700000001, Seen::Page(10, 0, PagePart::Kind)),
         (15360, 0x40000000000, Seen::Page(10, 0, PagePart::Magic)),
@@ -293,5 +340,23 @@ fn without_an_index_directory_no_index_is_found(rt: HostRuntime) -> Result<(), F
         walk_with(alloc, run(0, 0), 0, 0)?,
         Seen::Walked(0, false, 1)
     );
+    Ok(())
+}
+
+#[test]
+fn the_owner_of_a_block_among_the_indices_is_found(rt: HostRuntime) -> Result<(), Fail> {
+    let alloc = rt.alloc();
+    let table: [(u64, Seen); 6] = [
+        (5, Seen::Owner(5)),
+        (7, Seen::Owner(5)),
+        (12, Seen::Owner(8)),
+        (9, Seen::Owner(9)),
+        (16, Seen::Owner(10)),
+        (17, Seen::Nobody),
+    ];
+    for (block, wanted) in table {
+        assert_eq!(rt; owner_with(alloc, run(5, 1), block)?, wanted);
+    }
+    assert_eq!(rt; owner_with(alloc, run(0, 0), 5)?, Seen::Nobody);
     Ok(())
 }

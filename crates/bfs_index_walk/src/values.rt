@@ -17,7 +17,7 @@ ghost use Rattle.bfs_finding.specs.Findings.{IsStreamOf};
 ghost use Rattle.bfs_finding.specs.TreeFaults.{HasTree};
 ghost use Rattle.bfs_value_walk.specs.Taken.{IsWholeWith};
 ghost use Rattle.bfs_value_walk.specs.Written.{pairs_by};
-ghost use Rattle.bfs_inode_walk.specs.Visited.{IsTrueOf, IsTaken, IsVisitCause};
+ghost use Rattle.bfs_inode_walk.specs.Visited.{IsTrueOf, IsUntaken, IsVisitCause};
 
 use bfs_finding::{Finding, PagePart};
 use bfs_inode_walk::VisitFault;
@@ -44,7 +44,7 @@ fn values_over<B: Blocks, L: Ledger>(
     ensures whole { (m : ℕ → Option (List ℕ)) → B.told pages.old.under.now ≡ Some m → IfOk result (IsWholeWith kind (stream_of pages.old.backing m)) }
     ensures written { (m : ℕ → Option (List ℕ)) → B.told pages.old.under.now ≡ Some m → IfOk result (λ rows. AreWritten (stream_of pages.old.backing m) (rows_in kind (stream_of pages.old.backing m)) (pairs_by rows)) }
     ensures wrong { (v : Volume) (m : ℕ → Option (List ℕ)) → B.told pages.old.under.now ≡ Some m → content v owner ≡ stream_of pages.old.backing m → HasTree v owner kind → IsStreamOf v owner → IfErr result (IsTrueOf v) }
-    ensures other { (xs own : List ℕ) → IfErr result (IsTaken xs own) }
+    ensures untaken { IfErr result IsUntaken }
     ensures told { B.told pages.new.under.now ≡ B.told pages.old.under.now }
     ensures changed { B.changed pages.new.under.now ≡ B.changed pages.old.under.now }
     ensures pairs { B.pairs pages.new.under.now ≡ B.pairs pages.old.under.now }
@@ -82,7 +82,7 @@ fn values_with<B: Blocks, L: Ledger>(
     ensures whole { (m : ℕ → Option (List ℕ)) → B.told under.old ≡ Some m → IfOk result (IsWholeWith kind (content (volume_of sup.now (contents m)) id)) }
     ensures written { (m : ℕ → Option (List ℕ)) → B.told under.old ≡ Some m → IfOk result (λ rows. AreWritten (content (volume_of sup.now (contents m)) id) (rows_in kind (content (volume_of sup.now (contents m)) id)) (pairs_by rows)) }
     ensures wrong { (m : ℕ → Option (List ℕ)) → B.told under.old ≡ Some m → HasTree (volume_of sup.now (contents m)) id kind → IsStreamOf (volume_of sup.now (contents m)) id → IfErr result (IsTrueOf (volume_of sup.now (contents m))) }
-    ensures other { (xs own : List ℕ) → IfErr result (IsTaken xs own) }
+    ensures untaken { IfErr result IsUntaken }
     ensures told { B.told under.new ≡ B.told under.old }
     ensures changed { B.changed under.new ≡ B.changed under.old }
     ensures pairs { B.pairs under.new ≡ B.pairs under.old }
@@ -117,7 +117,7 @@ pub fn read_values<B: Blocks>(
     ensures whole { (m : ℕ → Option (List ℕ)) → B.told under.old ≡ Some m → IfOk result (IsWholeWith kind (content (volume_of sup.now (contents m)) id)) }
     ensures written { (m : ℕ → Option (List ℕ)) → B.told under.old ≡ Some m → IfOk result (λ rows. AreWritten (content (volume_of sup.now (contents m)) id) (rows_in kind (content (volume_of sup.now (contents m)) id)) (pairs_by rows)) }
     ensures wrong { (m : ℕ → Option (List ℕ)) → B.told under.old ≡ Some m → HasTree (volume_of sup.now (contents m)) id kind → IfErr result (IsTrueOf (volume_of sup.now (contents m))) }
-    ensures other { (xs own : List ℕ) → IfErr result (IsTaken xs own) }
+    ensures untaken { IfErr result IsUntaken }
     ensures told { B.told under.new ≡ B.told under.old }
     ensures changed { B.changed under.new ≡ B.changed under.old }
     ensures pairs { B.pairs under.new ≡ B.pairs under.old }

@@ -7,8 +7,8 @@ ghost use Rattle.bfs_stream.specs.Told.{contents};
 ghost use Rattle.bfs_stream_check.specs.Known.{IsAllTold};
 ghost use Rattle.bfs_sound.specs.Whole.{volume_of};
 ghost use Rattle.bfs_claims.specs.Claims.{AreClaimed};
-ghost use Rattle.bfs_inode_walk.specs.Visited.{IsTrueOf, IsVisitCause};
-ghost use Rattle.bfs_index_walk.specs.Indices.{AreInside, AreWalked, IsTakenTwice};
+ghost use Rattle.bfs_inode_walk.specs.Visited.{IsTrueOf, IsTakenFirst, IsVisitCause};
+ghost use Rattle.bfs_index_walk.specs.Indices.{AreInside, AreWalked, IsIndexWay};
 
 use crate::FoundIndex;
 use crate::directory::visit_directory;
@@ -35,8 +35,8 @@ fn visit_there<B: Blocks>(
     requires blocks { claims.old.blocks ≡ natural sup.now.num_blocks }
     ensures walked { (m : ℕ → Option (List ℕ)) (xs : List ℕ) → B.told under.old ≡ Some m → AreClaimed claims.old xs → IfOk result (λ found. AreWalked (volume_of sup.now (contents m)) xs claims.new found.items) }
     ensures inside { IfOk result (λ found. AreInside (natural sup.now.num_blocks) found.items) }
-    ensures wrong { (m : ℕ → Option (List ℕ)) → B.told under.old ≡ Some m → IfErr result (IsTrueOf (volume_of sup.now (contents m))) }
-    ensures taken { (m : ℕ → Option (List ℕ)) (xs : List ℕ) → B.told under.old ≡ Some m → AreClaimed claims.old xs → IfErr result (IsTakenTwice (volume_of sup.now (contents m)) xs) }
+    ensures wrong { (m : ℕ → Option (List ℕ)) (xs : List ℕ) → B.told under.old ≡ Some m → AreClaimed claims.old xs → IfErr result (IsTrueOf (volume_of sup.now (contents m))) }
+    ensures taken { (m : ℕ → Option (List ℕ)) (xs : List ℕ) → B.told under.old ≡ Some m → AreClaimed claims.old xs → IfErr result (IsTakenFirst IsIndexWay (volume_of sup.now (contents m)) xs) }
     ensures blocks { claims.new.blocks ≡ claims.old.blocks }
     ensures told { B.told under.new ≡ B.told under.old }
     ensures changed { B.changed under.new ≡ B.changed under.old }
@@ -50,16 +50,17 @@ fn visit_there<B: Blocks>(
         Ok(rows) => rows,
         Err(fault) => return Err(fault),
     };
-    match visit_rows(alloc, under, sup, &rows, claims) {
+    match visit_rows(alloc, under, sup, directory, &rows, claims) {
         Ok(found) => Ok(found),
         Err(fault) => Err(fault),
     }
 }
 
 /// Goes over the index directory of a volume, where it has one, and over the indices that its rows name: the inode of each with its stream,
-/// and its whole tree. Their blocks are claimed. Answers the indices in the order of their names; or what is wrong, or a block that is
-/// claimed already: an index that two rows name is found so. It takes the memory of the rows, and beside that of one index with all its
-/// keys. What an index has to list isn't looked at.
+/// and its whole tree. Their blocks are claimed. Answers the indices in the order of their names; or what is wrong, such as a block that two of
+/// them have, or one that the directory has too; or a block of them that was claimed at first. An index that two rows name shares its block with
+/// itself. It takes the memory of the rows, and beside that of one index with all its keys, or of as many places as there are rows. What an index
+/// has to list isn't looked at.
 pub fn visit_indices<B: Blocks>(
     alloc: Global,
     under: &mut B,
@@ -73,7 +74,7 @@ pub fn visit_indices<B: Blocks>(
     ensures walked { (m : ℕ → Option (List ℕ)) (xs : List ℕ) → B.told under.old ≡ Some m → AreClaimed claims.old xs → IfOk result (λ found. AreWalked (volume_of sup.now (contents m)) xs claims.new found.items) }
     ensures inside { IfOk result (λ found. AreInside (natural sup.now.num_blocks) found.items) }
     ensures wrong { (m : ℕ → Option (List ℕ)) → B.told under.old ≡ Some m → IfErr result (IsTrueOf (volume_of sup.now (contents m))) }
-    ensures taken { (m : ℕ → Option (List ℕ)) (xs : List ℕ) → B.told under.old ≡ Some m → AreClaimed claims.old xs → IfErr result (IsTakenTwice (volume_of sup.now (contents m)) xs) }
+    ensures taken { (m : ℕ → Option (List ℕ)) (xs : List ℕ) → B.told under.old ≡ Some m → AreClaimed claims.old xs → IfErr result (IsTakenFirst IsIndexWay (volume_of sup.now (contents m)) xs) }
     ensures blocks { claims.new.blocks ≡ claims.old.blocks }
     ensures told { B.told under.new ≡ B.told under.old }
     ensures changed { B.changed under.new ≡ B.changed under.old }
@@ -87,5 +88,6 @@ pub fn visit_indices<B: Blocks>(
     if directory == 0 {
         return Ok(Vec::new(alloc));
     }
+    let _ = claims.count();
     visit_there(alloc, under, sup, directory, claims)
 }

@@ -27,7 +27,7 @@ use Rattle.bfs_finding.specs.TreeFaults.{HasTree}
 use Rattle.bfs_finding.proofs.Rows.{all_in, text_same}
 use Rattle.bfs_tour.specs.Tours.{Visit, toured_tree}
 use Rattle.bfs_nodes_walk.specs.declared.lead.NodeLead.{NodeLead}
-use Rattle.bfs_inode_walk.specs.Visited.{IsTrueOf, IsTaken}
+use Rattle.bfs_inode_walk.specs.Visited.{IsTrueOf, IsUntaken}
 use Rattle.bfs_inode_walk.specs.declared.fault.VisitFault.{VisitFault}
 use Rattle.bfs_inode_walk.specs.declared.fault.VisitFault.TheVariants.{Wrong, Taken, Block}
 use Rattle.bfs_index_check.specs.Compared.{Pair, Ascends, IsDifference}
@@ -72,7 +72,7 @@ module _ (v : Volume) (at : ℕ) (leads : List NodeLead) (found : List FoundInde
       let exact : IsDifference i.name i.kind (listed whole i.name i.kind) in_index finding = subst₂ (λ (ws fs : List Pair). IsDifference i.name i.kind ws fs finding) is written.are told in
       inr (said v whole i.name i.kind i.id (is_at v at leads found top visits w i there) (wanted_sought whole i.name i.kind (inr built) (has_kind v at leads found top visits w i there))
       (pairs_sought i.kind (content v i.id) tree (is_index v at leads found top visits w i there).tree) finding exact)
-  differs wanted rows tree written is built (Taken block) told = absurd told
+  differs wanted rows tree written is built (Taken block owner) told = absurd told
   differs wanted rows tree written is built (Block fault) told = tt
 
   pub has_tree : IsTreeKind i.kind → HasTree v i.id i.kind
@@ -105,10 +105,10 @@ module _ (v : Volume) (at : ℕ) (leads : List NodeLead) (found : List FoundInde
       subst (λ (n : ℕ). AreWritten (content v n) (rows_in kind (content v n)) (listed tree name kind)) id kinded
 
 -- what is said of an index's tree is true of the volume
-pub true_with : (v : Volume) (tree : Tree) (fault : VisitFault) → IsTrueOf v fault → IsTaken [] [] fault → IsTrueWith v tree fault
-true_with v tree (Wrong finding) is taken = inl is
-true_with v tree (Taken block) is taken = let none = taken.0 in absurd (omega (arith, none))
-true_with v tree (Block fault) is taken = tt
+pub true_with : (v : Volume) (tree : Tree) (fault : VisitFault) → IsTrueOf v fault → IsUntaken fault → IsTrueWith v tree fault
+true_with v tree (Wrong finding) is untaken = inl is
+true_with v tree (Taken block owner) is untaken = absurd untaken
+true_with v tree (Block fault) is untaken = tt
 
 -- the next of the indices lists what it has to, and so do those before
 pub more_listed : (v : Volume) (tree : Tree) (xs : List FoundIndex) (x : FoundIndex) → AllListed v tree xs → ListsAll v tree x → AllListed v tree (xs ++ (x ∷ []))

@@ -40,13 +40,13 @@ AllListed v tree found = AllByRecursion (ListsAll v tree) found
 -- what is said of the indices is true of the volume with the tree, and no block is said to be taken
 abbrev pub IsTrueWith : Volume → Tree → VisitFault → Type 0
 IsTrueWith v tree (Wrong finding) = IsBroken v finding ⊎ IsUnlisted v tree finding
-IsTrueWith v tree (Taken block) = ⊥
+IsTrueWith v tree (Taken block owner) = ⊥
 IsTrueWith v tree (Block fault) = Unit {0}
 
 -- what is said of the pairs of an index is true of them; nothing is said for want of memory
 abbrev pub IsToldOf : List ℕ → KeyKind → List Pair → List Pair → VisitFault → Type 0
 IsToldOf index kind wanted found (Wrong finding) = IsDifference index kind wanted found finding
-IsToldOf index kind wanted found (Taken block) = ⊥
+IsToldOf index kind wanted found (Taken block owner) = ⊥
 IsToldOf index kind wanted found (Block fault) = Unit {0}
 
 -- of these indices a built-in one is missing, or has keys of another kind; or nothing is said for want of memory

@@ -15,7 +15,7 @@ ghost use Rattle.bfs_sound.specs.Whole.{volume_of};
 ghost use Rattle.bfs_sound.specs.Owners.{In};
 ghost use Rattle.bfs_finding.specs.TreeFaults.{HasTree};
 ghost use Rattle.bfs_value_walk.specs.Written.{pairs_by};
-ghost use Rattle.bfs_inode_walk.specs.Visited.{IsTrueOf, IsTaken, IsVisitCause};
+ghost use Rattle.bfs_inode_walk.specs.Visited.{IsTrueOf, IsUntaken, IsVisitCause};
 ghost use Rattle.bfs_index_check.specs.Compared.{Pair as Kept, IsTold};
 ghost use Rattle.bfs_nodes_walk.specs.Leads.{AreInside};
 ghost use Rattle.bfs_tour.specs.Tours.{Visit, toured_tree};
@@ -49,7 +49,7 @@ fn rows_of<B: Blocks>(
     requires there { (m : ℕ → Option (List ℕ)) → B.told under.old ≡ Some m → IsIndex (volume_of sup.now (contents m)) index.now.id index.now.kind }
     ensures written { (m : ℕ → Option (List ℕ)) → B.told under.old ≡ Some m → IfOk result (λ rows. AreWritten (content (volume_of sup.now (contents m)) index.now.id) (rows_in index.now.kind (content (volume_of sup.now (contents m)) index.now.id)) (pairs_by rows)) }
     ensures wrong { (m : ℕ → Option (List ℕ)) → B.told under.old ≡ Some m → HasTree (volume_of sup.now (contents m)) index.now.id index.now.kind → IfErr result (IsTrueOf (volume_of sup.now (contents m))) }
-    ensures other { (xs own : List ℕ) → IfErr result (IsTaken xs own) }
+    ensures untaken { IfErr result IsUntaken }
     ensures told { B.told under.new ≡ B.told under.old }
     ensures changed { B.changed under.new ≡ B.changed under.old }
     ensures pairs { B.pairs under.new ≡ B.pairs under.old }

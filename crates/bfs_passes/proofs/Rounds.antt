@@ -11,7 +11,6 @@ use Rattle.bfs_sound.specs.Volumes.{Volume}
 use Rattle.bfs_sound.specs.Owners.{node_blocks, index_blocks, reach}
 use Rattle.bfs_finding.specs.Findings.{IsBuiltIn, IsFindingOf}
 use Rattle.bfs_finding.specs.declared.finding.Finding.TheVariants.{IndexMissing}
-use Rattle.bfs_finding.specs.Ways.{to_indices}
 use Rattle.bfs_tour.specs.Touring.{RoundEnds}
 use Rattle.bfs_tour.specs.Tours.{Visit, claimed, IsRound, RoundIsUnbroken, TourReaches, Toured}
 use Rattle.bfs_nodes_walk.specs.declared.lead.NodeLead.{NodeLead}
@@ -20,10 +19,9 @@ use Rattle.bfs_index_walk.specs.Indices.{kinds_of}
 use Rattle.bfs_index_walk.specs.Laws.{system_blocks, WalkIsTour, WalkStands}
 use Rattle.bfs_index_walk.proofs.Standing.{once, is_there, same_claims, rowless}
 use Rattle.bfs_indices_check.specs.Listed.{IsWalkedWhole}
-use Rattle.bfs_passes.specs.Passed.{AreOwned, IsGoneRound, IsListedRound, IsSoundRound, IsPassed, tree_of}
+use Rattle.bfs_passes.specs.Passed.{IsGoneRound, IsListedRound, IsSoundRound, IsPassed, tree_of}
 use Rattle.bfs_passes.specs.declared.passes.Summary.{Summary}
 use Rattle.bfs_passes.proofs.Counted.{nodes_counted, reach_long, followed_long}
-use Rattle.bfs_passes.proofs.Owning.{owned_both, others_owned, system_owned, nodes_others, indices_owned}
 
 module _ (v : Volume) (c : Claimed) (leads : List NodeLead) (found : List FoundIndex) (gone : IsGoneRound v c leads found) where
   abbrev visits : List Visit
@@ -53,14 +51,6 @@ module _ (v : Volume) (c : Claimed) (leads : List NodeLead) (found : List FoundI
       standing = stands gone.nodes leads found gone.whole gone.indices some;
     }
 
-  claimed_owned : AreOwned v (claimed v visits)
-  claimed_owned =
-      subst (AreOwned v) (same_claims v visits)
-      (owned_both v (system_blocks v ++ flat_map (node_blocks v) visits) (index_blocks v)
-      (owned_both v (system_blocks v) (flat_map (node_blocks v) visits) (system_owned v)
-      (others_owned v to_indices (flat_map (node_blocks v) visits) (nodes_others v (system_blocks v) gone.nodes leads gone.whole to_indices refl)))
-      (indices_owned v (kinds_of found) gone.indices.kinds))
-
   -- with the tour
   module _ (reaches : TourReaches) (tour : Toured v gone.whole.top gone.whole.visits (kinds_of found)) where
     same_blocks : (k : ℕ) → times k (reach v (tree_of v c leads found gone)) ≡ times k (claimed v visits)
@@ -72,8 +62,8 @@ module _ (v : Volume) (c : Claimed) (leads : List NodeLead) (found : List FoundI
     pub reach_claimed : AreClaimed c (reach v (tree_of v c leads found gone))
     reach_claimed = record { each = λ k. same_blocks k ∙ all_claimed.each k; number = all_claimed.number ∙ sym long }
 
-    pub reach_owned : AreOwned v (reach v (tree_of v c leads found gone))
-    reach_owned k h = claimed_owned k (subst (λ (n : ℕ). 0 < n) (same_blocks k) h)
+    pub reach_is_claimed : (k : ℕ) → Has (reach v (tree_of v c leads found gone)) k → Has (claimed v visits) k
+    reach_is_claimed k h = subst (λ (n : ℕ). 0 < n) (same_blocks k) h
 
     pub nodes_number : length (entries (tree_of v c leads found gone).nodes) ≡ length leads + 1
     nodes_number =

@@ -1,17 +1,15 @@
 -- What the passes of a check answer.
-use Rattle.std.specs.Prelude.{◌≡◌, ℕ, List, [], ◌∷◌, ◌++◌, length, ◌+◌}
+use Rattle.std.specs.Prelude.{◌≡◌, List, [], ◌∷◌, ◌++◌, length, ◌+◌}
 use Rattle.std.specs.List.{flat_map}
 use Rattle.std.specs.FinMap.{entries}
-use Rattle.bfs_base.specs.Lists.{Has}
 use Rattle.bfs_super.specs.declared.sup.Super.{Super}
 use Rattle.bfs_txn.specs.Faults.{Counts, IsCauseOf}
 use Rattle.bfs_tree.specs.Trees.{Tree}
-use Rattle.bfs_sound.specs.Volumes.{Volume, IsMarked}
+use Rattle.bfs_sound.specs.Volumes.{Volume}
 use Rattle.bfs_sound.specs.Owners.{reach, node_blocks}
 use Rattle.bfs_sound.specs.Whole.{IsSound, HasSoundIndices}
-use Rattle.bfs_finding.specs.declared.finding.Finding.{Finding}
 use Rattle.bfs_finding.specs.Findings.{IsFindingOf, Standing}
-use Rattle.bfs_finding.specs.Ways.{IsShared, IsOwned}
+use Rattle.bfs_finding.specs.Ways.{IsShared}
 use Rattle.bfs_claims.specs.Claims.{Claimed}
 use Rattle.bfs_inode_walk.specs.declared.fault.VisitFault.{VisitFault}
 use Rattle.bfs_inode_walk.specs.declared.fault.VisitFault.TheVariants as visit
@@ -22,44 +20,23 @@ use Rattle.bfs_index_walk.specs.declared.found.FoundIndex.{FoundIndex}
 use Rattle.bfs_index_walk.specs.Indices.{kinds_of, AreWalked}
 use Rattle.bfs_index_walk.specs.Laws.{system_blocks}
 use Rattle.bfs_passes.specs.declared.fault.PassFault.{PassFault}
-use Rattle.bfs_passes.specs.declared.fault.PassFault.TheVariants.{Wrong, Shared, Unset, Block}
+use Rattle.bfs_passes.specs.declared.fault.PassFault.TheVariants.{Wrong, Block}
 use Rattle.bfs_passes.specs.declared.passes.Summary.{Summary}
 
--- each of these blocks has an owner
-abbrev pub AreOwned : Volume → List ℕ → Type 0
-AreOwned v xs = (k : ℕ) → Has xs k → (owner : ℕ) × IsOwned v owner k
-
--- two owners have a block, or one has it twice
-abbrev pub HasOwners : Volume → ℕ → Type 0
-HasOwners v block = (first : ℕ) × (second : ℕ) × IsShared v block first second
-
--- a block that is said to be taken is shared; the other faults say nothing of claims
+-- a block that is said to be taken is shared by the system and the owner that is told; the other faults say nothing of claims
 abbrev pub IsSharedIn : Volume → VisitFault → Type 0
 IsSharedIn v (visit.Wrong finding) = Unit {0}
-IsSharedIn v (visit.Taken block) = HasOwners v block
+IsSharedIn v (visit.Taken block owner) = IsShared v block 0 owner
 IsSharedIn v (visit.Block fault) = Unit {0}
 
--- a block that is reached isn't marked, on a volume on which a tree stands whose indices are sound
-pub record IsUnmarked (v : Volume) (block : ℕ) : Type 0 where
-  pub tree : Tree
-  pub standing : Standing v tree
-  pub indices : HasSoundIndices v tree
-  pub owner : ℕ
-  pub owned : IsOwned v owner block
-  pub unmarked : ¬ IsMarked v block
-
--- What is said of a volume with an empty log is true of it: a finding; a block that is shared; one that is reached and not marked.
+-- a finding that is told is true of the volume
 abbrev pub IsFaultOf : Super → Volume → PassFault → Type 0
 IsFaultOf s v (Wrong finding) = IsFindingOf s v finding
-IsFaultOf s v (Shared block) = (s.log_start ≡ s.log_end) × HasOwners v block
-IsFaultOf s v (Unset block) = (s.log_start ≡ s.log_end) × IsUnmarked v block
 IsFaultOf s v (Block fault) = Unit {0}
 
 -- a block that couldn't be had has its cause
 abbrev pub IsPassCause : Counts → Counts → PassFault → Type 0
 IsPassCause old new (Wrong finding) = Unit {0}
-IsPassCause old new (Shared block) = Unit {0}
-IsPassCause old new (Unset block) = Unit {0}
 IsPassCause old new (Block fault) = IsCauseOf old new fault
 
 -- All nodes with their attributes and all indices were gone over, with the blocks of the system claimed first of all.
@@ -93,14 +70,3 @@ pub record IsSoundRound (v : Volume) (claims : Claimed) (leads : List NodeLead) 
   pub sound : IsSound v (tree_of v claims leads found gone)
   pub nodes : length (entries (tree_of v claims leads found gone).nodes) ≡ length leads + 1
   pub used : claims.count ≡ length (reach v (tree_of v claims leads found gone))
-
--- a fault that isn't one of a block
-abbrev pub IsOfVolume : PassFault → Type 0
-IsOfVolume (Wrong finding) = Unit {0}
-IsOfVolume (Shared block) = Unit {0}
-IsOfVolume (Unset block) = Unit {0}
-IsOfVolume (Block fault) = ⊥
-
--- where such a fault is true of a volume, a finding is, which tells the owners too
-abbrev pub FaultHasFinding : Type 0
-FaultHasFinding = (s : Super) (v : Volume) (fault : PassFault) → IsOfVolume fault → IsFaultOf s v fault → (finding : Finding) × IsFindingOf s v finding

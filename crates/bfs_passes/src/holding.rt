@@ -15,10 +15,11 @@ ghost use Rattle.bfs_index_walk.specs.declared.found.FoundIndex.{FoundIndex as I
 ghost use Rattle.bfs_passes.specs.Passed.{IsFaultOf, IsPassCause, IsGoneRound, IsListedRound, IsSoundRound, IsPassed};
 
 use crate::PassFault;
-use crate::fault::{listed, marked};
+use crate::fault::listed;
+use crate::owners::unmarked;
 use crate::passes::Summary;
 use crate::walk::Round;
-use bfs_bitmap_check::check_bitmap;
+use bfs_bitmap_check::{BitFault, check_bitmap};
 use bfs_claims::Claims;
 use bfs_finding::Finding;
 use bfs_index_walk::{FoundIndex, walk_is_tour, walk_stands};
@@ -99,14 +100,19 @@ fn hold_bits<B: Blocks>(
     alloc: Global,
     under: &mut B,
     sup: &Super,
+    root: u64,
     leads: &[NodeLead],
     found: &[FoundIndex],
     claims: &Claims,
 ) -> Result<(), PassFault>
     requires valid { IsValid sup.now }
+    requires root { root ≡ block_of_run sup.now sup.now.root_dir }
+    requires inside { root < natural sup.now.num_blocks }
     requires size { B.size under.old ≡ sup.now.block_size }
     requires all { (m : ℕ → Option (List ℕ)) → B.told under.old ≡ Some m → IsAllTold (sizes_of sup.now) m }
     requires blocks { claims.now.blocks ≡ natural sup.now.num_blocks }
+    requires leads { AreLeadsInside (natural sup.now.num_blocks) leads.now }
+    requires found { AreInside (natural sup.now.num_blocks) found.now }
     requires listed { (m : ℕ → Option (List ℕ)) → B.told under.old ≡ Some m → IsListedRound (volume_of sup.now (contents m)) claims.now leads.now found.now }
     ensures sound { (m : ℕ → Option (List ℕ)) → B.told under.old ≡ Some m → sup.now.log_start ≡ sup.now.log_end → OnOk result (IsSoundRound (volume_of sup.now (contents m)) claims.now leads.now found.now) }
     ensures wrong { (m : ℕ → Option (List ℕ)) → B.told under.old ≡ Some m → sup.now.log_start ≡ sup.now.log_end → IfErr result (IsFaultOf sup.now (volume_of sup.now (contents m))) }
@@ -118,12 +124,17 @@ fn hold_bits<B: Blocks>(
     ensures later { AreLater (B.counts under.old) (B.counts under.new) }
     ensures cause { IfErr result (IsPassCause (B.counts under.old) (B.counts under.new)) }
 {
-    let _ = (leads.len(), found.len());
     walk_is_tour();
     tour_reaches();
     match check_bitmap(alloc, under, sup, claims) {
         Ok(()) => {}
-        Err(fault) => return Err(marked(fault)),
+        Err(BitFault::Unset { block }) => {
+            return Err(unmarked(alloc, under, sup, root, leads, found, block));
+        }
+        Err(BitFault::Extra { block }) => {
+            return Err(PassFault::Wrong(Finding::BitExtra { block }));
+        }
+        Err(BitFault::Block(fault)) => return Err(PassFault::Block(fault)),
     }
     match check_used(sup, claims.count()) {
         Ok(()) => Ok(()),
@@ -165,7 +176,7 @@ pub(crate) fn hold<B: Blocks>(
         Ok(()) => {}
         Err(fault) => return Err(fault),
     }
-    match hold_bits(alloc, under, sup, leads, found, claims) {
+    match hold_bits(alloc, under, sup, root, leads, found, claims) {
         Ok(()) => {}
         Err(fault) => return Err(fault),
     }

@@ -253,15 +253,15 @@ enum Index {
     Other,
 }
 
-/// What came of it: the summary, a finding, or a block that is shared or not marked. The key of the name `a` is the number of its byte.
+/// What came of it: the summary, or a finding; a block that is shared or not marked comes with its owners. The key of the name `a` is the number of its byte.
 #[derive(Clone, Copy, Debug, PartialEq, Eq)]
 enum Seen {
     Passed(Summary),
     Log(i64, i64),
     Used(i64, u64),
     Extra(u64),
-    Unset(u64),
-    Shared(u64),
+    Unset(u64, u64),
+    Shared(u64, u64, u64),
     Inode(u64, InodePart, i64),
     Name(u64),
     Parent(u64, i64, u64),
@@ -314,6 +314,12 @@ fn found_by(finding: Finding) -> Seen {
         Finding::RowExtra { index, key, id } => {
             Seen::RowExtra(index_of(index.as_slice()), number_of(key), id)
         }
+        Finding::Shared {
+            block,
+            first,
+            second,
+        } => Seen::Shared(block, first, second),
+        Finding::BitUnset { block, owner } => Seen::Unset(block, owner),
         Finding::BitExtra { block } => Seen::Extra(block),
         Finding::Used { found, wanted } => Seen::Used(found, wanted),
         _ => Seen::Other,
@@ -324,8 +330,6 @@ fn found_by(finding: Finding) -> Seen {
 fn told_by(fault: PassFault) -> Seen {
     match fault {
         PassFault::Wrong(finding) => found_by(finding),
-        PassFault::Shared { block } => Seen::Shared(block),
-        PassFault::Unset { block } => Seen::Unset(block),
         PassFault::Block(_) => Seen::Other,
     }
 }
@@ -374,13 +378,12 @@ fn a_volume_with_a_file_is_passed_or_what_is_wrong_is_told(rt: HostRuntime) -> R
     let alloc = rt.alloc();
     let sup = superblock(21, 0)?;
     let whole = Summary { nodes: 2, used: 21 };
-    // a bit too many; a bit too few; `name` without its row; `size` with a higher and a lower key; `last_modified` with a higher one;
-    // `size` by the name `sizf`, `last_modified` by the name `last_moeified`; an index directory without rows; the stream of the file in
-    // block 7; another magic number; its own name is `b`; its parent, and the row `..` of the root, is the index directory
-    let table: [(usize, i64, Seen); 15] = [
+    // a bit too many; `name` without its row; `size` with a higher and a lower key; `last_modified` with a higher one;
+    // `size` by the name `sizf`, `last_modified` by the name `last_moeified`; an index directory without rows; another
+    // magic number; its own name is `b`; its parent, and the row `..` of the root, is the index directory
+    let table: [(usize, i64, Seen); 13] = [
         (0, 0, Seen::Passed(whole)),
         (1024, 0x5fffff, Seen::Extra(22)),
-        (1024, 0x1fff7f, Seen::Unset(7)),
         (14360, 0, Seen::NoRow(Index::Name, 0x61, 19)),
         (16412, 601, Seen::NoRow(Index::Size, 600, 19)),
         (16412, 599, Seen::RowExtra(Index::Size, 599, 19)),
@@ -388,11 +391,37 @@ fn a_volume_with_a_file_is_passed_or_what_is_wrong_is_told(rt: HostRuntime) -> R
         (9257, 0x667a6973656d616e, Seen::NoIndex(Index::Size)),
         (9244, 0x656f6d5f7473616c, Seen::NoIndex(Index::Time)),
         (9240, 0, Seen::NoIndex(Index::Name)),
-        (19528, 0x1000700000000, Seen::Shared(7)),
         (19456, 7, Seen::Inode(19, InodePart::Magic, 7)),
         (19696, 0x6200000013, Seen::Name(19)),
         (19500, 0x1000500000000, Seen::Parent(19, 5, 4)),
         (7214, 5, Seen::Parent(4, 5, 4)),
+    ];
+    for (at, number, wanted) in table {
+        assert_eq!(rt; pass_with(alloc, sup, true, at, number)?, wanted);
+    }
+    Ok(())
+}
+
+#[test]
+fn the_owners_of_a_block_are_told(rt: HostRuntime) -> Result<(), Fail> {
+    let alloc = rt.alloc();
+    let sup = superblock(21, 0)?;
+    // the bits of a block of the root, of the file, of the log, of `size`, and of the index directory's inode aren't set; the stream of the file is
+    // in a block of the root, in one of the log, and in its own inode; the stream of `size` in those of the root, of `name`, in the bitmap, and
+    // in the inode of the file with its block
+    let table: [(usize, i64, Seen); 12] = [
+        (1024, 0x1fff7f, Seen::Unset(7, 4)),
+        (1024, 0x0fffff, Seen::Unset(20, 19)),
+        (1024, 0x1ffffb, Seen::Unset(2, 0)),
+        (1024, 0x1f7fff, Seen::Unset(15, 11)),
+        (1024, 0x1fffdf, Seen::Unset(5, 5)),
+        (19528, 0x1000700000000, Seen::Shared(7, 4, 19)),
+        (19528, 0x1000200000000, Seen::Shared(2, 0, 19)),
+        (19528, 0x1001300000000, Seen::Shared(19, 19, 19)),
+        (11336, 0x2000600000000, Seen::Shared(6, 4, 11)),
+        (11336, 0x2000d00000000, Seen::Shared(13, 10, 11)),
+        (11336, 0x2000100000000, Seen::Shared(1, 0, 11)),
+        (11336, 0x2001300000000, Seen::Shared(19, 19, 11)),
     ];
     for (at, number, wanted) in table {
         assert_eq!(rt; pass_with(alloc, sup, true, at, number)?, wanted);

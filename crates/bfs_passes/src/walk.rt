@@ -8,16 +8,18 @@ ghost use Rattle.bfs_stream_check.specs.Known.{IsAllTold};
 ghost use Rattle.bfs_sound.specs.Whole.{volume_of};
 ghost use Rattle.bfs_claims.specs.Claims.{AreClaimed};
 ghost use Rattle.bfs_nodes_walk.specs.Leads.{AreInside as AreLeadsInside};
-ghost use Rattle.bfs_attrs_walk.specs.Passes.{IsWhole};
+ghost use Rattle.bfs_attrs_walk.specs.Passes.{IsWhole, IsWholeOf};
 ghost use Rattle.bfs_index_walk.specs.Indices.{AreInside};
 ghost use Rattle.bfs_index_walk.specs.Laws.{system_blocks};
 ghost use Rattle.bfs_passes.specs.Passed.{IsFaultOf, IsPassCause, IsGoneRound};
 
 use crate::PassFault;
 use crate::fault::walked;
+use crate::owners::shared_index;
 use bfs_attrs_walk::visit_all;
 use bfs_claims::Claims;
 use bfs_index_walk::{FoundIndex, visit_indices};
+use bfs_inode_walk::VisitFault;
 use bfs_nodes_walk::{NodeLead, walk_nodes};
 use bfs_super::Super;
 use bfs_txn::Blocks;
@@ -46,6 +48,7 @@ fn go_over_nodes<B: Blocks>(
     requires blocks { claims.old.blocks ≡ natural sup.now.num_blocks }
     ensures whole { (m : ℕ → Option (List ℕ)) → B.told under.old ≡ Some m → AreClaimed claims.old (system_blocks (volume_of sup.now (contents m))) → IfOk result (λ leads. IsWhole (volume_of sup.now (contents m)) (system_blocks (volume_of sup.now (contents m))) claims.new leads.items) }
     ensures wrong { (m : ℕ → Option (List ℕ)) → B.told under.old ≡ Some m → AreClaimed claims.old (system_blocks (volume_of sup.now (contents m))) → sup.now.log_start ≡ sup.now.log_end → IfErr result (IsFaultOf sup.now (volume_of sup.now (contents m))) }
+    ensures some { (m : ℕ → Option (List ℕ)) → B.told under.old ≡ Some m → IfOk result (λ leads. IsWholeOf (volume_of sup.now (contents m)) leads.items) }
     ensures inside { IfOk result (λ leads. AreLeadsInside (natural sup.now.num_blocks) leads.items) }
     ensures blocks { claims.new.blocks ≡ claims.old.blocks }
     ensures told { B.told under.new ≡ B.told under.old }
@@ -56,6 +59,7 @@ fn go_over_nodes<B: Blocks>(
     ensures later { AreLater (B.counts under.old) (B.counts under.new) }
     ensures cause { IfErr result (IsPassCause (B.counts under.old) (B.counts under.new)) }
 {
+    let _ = claims.count();
     let leads = match walk_nodes(alloc, under, sup, root, claims) {
         Ok(leads) => leads,
         Err(fault) => return Err(walked(fault)),
@@ -99,6 +103,11 @@ pub(crate) fn go_round<B: Blocks>(
     };
     match visit_indices(alloc, under, sup, claims) {
         Ok(found) => Ok(Round { leads, found }),
-        Err(fault) => Err(walked(fault)),
+        Err(VisitFault::Taken { block, owner }) => {
+            let rows: &[NodeLead] = &leads;
+            Err(shared_index(alloc, under, sup, root, rows, block, owner))
+        }
+        Err(VisitFault::Wrong(finding)) => Err(PassFault::Wrong(finding)),
+        Err(VisitFault::Block(fault)) => Err(PassFault::Block(fault)),
     }
 }

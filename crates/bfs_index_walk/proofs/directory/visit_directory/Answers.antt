@@ -3,6 +3,7 @@ use Rattle.bfs_stream.specs.Told.{contents}
 use Rattle.bfs_sound.specs.Inodes.{inode_blocks}
 use Rattle.bfs_sound.specs.Whole.{volume_of}
 use Rattle.bfs_finding.specs.Ways.{to_indices, of_indices}
+use Rattle.bfs_inode_walk.proofs.Claiming.{untaken_taken}
 use Rattle.bfs_index_walk.proofs.directory.visit_directory.Goals as goal
 
 pub returns-in-Err-clause-wrong : goal.returns-in-Err-clause-wrong
@@ -40,4 +41,4 @@ pub returns-clause-wrong : goal.returns-clause-wrong
 returns-clause-wrong g c m told arrives = c.in-Err-rows_in.ensures.wrong m (c.in-Ok.ensures.told ∙ told) (of_indices c.args.directory arrives)
 
 pub returns-clause-taken : goal.returns-clause-taken
-returns-clause-taken g c m xs told a = c.in-Err-rows_in.ensures.other xs (inode_blocks (volume_of c.args.sup.now (contents m)) c.args.directory)
+returns-clause-taken g c m xs told a = untaken_taken xs (inode_blocks (volume_of c.args.sup.now (contents m)) c.args.directory) c.args.directory c.in-Err-rows_in.fault c.in-Err-rows_in.ensures.untaken

@@ -3,6 +3,7 @@ use Rattle.bfs_stream.specs.Told.{contents}
 use Rattle.bfs_sound.specs.Whole.{volume_of}
 use Rattle.bfs_sound.specs.Inodes.{inode_blocks}
 use Rattle.bfs_finding.specs.Ways.{to_index}
+use Rattle.bfs_inode_walk.proofs.Claiming.{untaken_taken}
 use Rattle.bfs_index_walk.proofs.index.visit_index.Goals as goal
 
 pub returns-in-Err-clause-wrong : goal.returns-in-Err-clause-wrong
@@ -37,4 +38,4 @@ pub returns-clause-wrong : goal.returns-clause-wrong
 returns-clause-wrong g c m name told arrives = c.in-Err-read_tree.ensures.wrong m (c.in-Ok.ensures.told ∙ told) (name, arrives)
 
 pub returns-clause-taken : goal.returns-clause-taken
-returns-clause-taken g c m xs told a = c.in-Err-read_tree.ensures.other xs (inode_blocks (volume_of c.args.sup.now (contents m)) c.args.id)
+returns-clause-taken g c m xs told a = untaken_taken xs (inode_blocks (volume_of c.args.sup.now (contents m)) c.args.id) c.args.id c.in-Err-read_tree.fault c.in-Err-read_tree.ensures.untaken

@@ -6,6 +6,7 @@ use Rattle.bfs_sound.specs.Inodes.{is_proper, inode_blocks}
 use Rattle.bfs_sound.specs.Whole.{volume_of}
 use Rattle.bfs_claims.specs.Claims.{AreClaimed}
 use Rattle.bfs_attr_walk.proofs.Attributing.{below, no_claims, one_blocks, taken_one}
+use Rattle.bfs_index_walk.proofs.Clashing.{untaken_in}
 use Rattle.bfs_index_walk.proofs.Rowing.{number_is, inside_next, found_past, found_next, arrives_at}
 use Rattle.bfs_index_walk.proofs.row.visit_row.Goals as goal
 
@@ -80,7 +81,7 @@ pub returns-in-Err-push_index-clause-wrong : goal.returns-in-Err-push_index-clau
 returns-in-Err-push_index-clause-wrong g c m told there = c.in-Err-push_index.ensures.wrong (volume_of c.args.sup.now (contents m))
 
 pub returns-in-Err-push_index-clause-taken : goal.returns-in-Err-push_index-clause-taken
-returns-in-Err-push_index-clause-taken g c m xs told a = c.in-Err-push_index.ensures.taken (volume_of c.args.sup.now (contents m)) xs c.args.row.now
+returns-in-Err-push_index-clause-taken g c m xs told a = untaken_in (volume_of c.args.sup.now (contents m)) xs c.args.row.now c.in-Err-push_index.fault c.in-Err-push_index.ensures.untaken
 
 pub returns-in-Err-push_index-clause-cause : goal.returns-in-Err-push_index-clause-cause
 returns-in-Err-push_index-clause-cause g c = c.in-Err-push_index.ensures.cause (g.B.Blocks.counts c.args.under.now) (g.B.Blocks.counts c.visit_index.new.under)

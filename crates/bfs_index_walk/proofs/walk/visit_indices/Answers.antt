@@ -10,3 +10,6 @@ pub returns-then-directory-eq0-clause-walked : goal.returns-then-directory-eq0-c
 returns-then-directory-eq0-clause-walked g c m xs told a =
     let there : c.geometry-directory.result.indices ≡ block_of_run c.args.sup.now c.args.sup.now.indices = ap (λ (x : Geometry). x.indices) c.geometry-directory.ensures in
     walked_none (volume_of c.args.sup.now (contents m)) xs c.args.claims.now (is_none c.args.sup.now (contents m) c.geometry-directory.result.indices there c.if-directory-eq0.true) a c.new.result.items c.new.ensures.items
+
+pub returns-clause-wrong : goal.returns-clause-wrong
+returns-clause-wrong g c m told = let listed = c.count.ensures.listed in c.visit_there.ensures.wrong m listed.0 told listed.1

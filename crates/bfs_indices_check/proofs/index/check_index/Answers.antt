@@ -1,4 +1,4 @@
-use Rattle.std.proofs.Common.{◌≡◌, ◌∙◌, sym, ap, subst, List, [], ℕ}
+use Rattle.std.proofs.Common.{◌≡◌, ◌∙◌, sym, ap, subst, List, ℕ}
 use Rattle.std.specs.FinMap.{entries}
 use Rattle.std.specs.List.{flat_map}
 use Rattle.bfs_range.specs.declared.ranged.RangedRow.{RangedRow}
@@ -23,7 +23,7 @@ pub returns-in-Err-clause-wrong : goal.returns-in-Err-clause-wrong
 returns-in-Err-clause-wrong g c m indices top visits told w there built =
     let v = volume_of c.args.sup.now (contents m) in
     true_with v (toured_tree v top visits (kinds_of indices)) c.in-Err.fault
-    (c.in-Err.ensures.wrong m told (has_tree v c.args.root c.args.leads.now indices top visits w c.args.index.now there c.requires.inside.1)) (c.in-Err.ensures.other [] [])
+    (c.in-Err.ensures.wrong m told (has_tree v c.args.root c.args.leads.now indices top visits w c.args.index.now there c.requires.inside.1)) c.in-Err.ensures.untaken
 
 pub wanted_pairs-requires-clause-known : goal.wanted_pairs-requires-clause-known
 wanted_pairs-requires-clause-known g c m told =

@@ -1,23 +1,33 @@
-use Rattle.std.proofs.Common.{◌∙◌, sym}
+use Rattle.std.proofs.Common.{◌∙◌, subst, sym}
 use Rattle.bfs_stream.specs.Told.{contents}
 use Rattle.bfs_sound.specs.Owners.{reach}
 use Rattle.bfs_sound.specs.Whole.{volume_of}
+use Rattle.bfs_bitmap_check.specs.Marks.{IsMarkFault}
 use Rattle.bfs_passes.specs.Passed.{tree_of}
-use Rattle.bfs_passes.proofs.Rounds.{listed_tour, reach_claimed, reach_owned, nodes_number}
+use Rattle.bfs_passes.proofs.Telling.{extra_told}
+use Rattle.bfs_passes.proofs.Rounds.{listed_tour, reach_claimed, reach_is_claimed, nodes_number}
 use Rattle.bfs_passes.proofs.holding.hold_bits.Goals as goal
 
-pub returns-in-Err-clause-wrong : goal.returns-in-Err-clause-wrong
-returns-in-Err-clause-wrong g c m told log =
+pub returns-in-Err-Unset-clause-wrong : goal.returns-in-Err-Unset-clause-wrong
+returns-in-Err-Unset-clause-wrong g c m told log =
     let v = volume_of c.args.sup.now (contents m) in
     let l = c.requires.listed m told in
     let tour = listed_tour c.walk_is_tour.ensures v c.args.claims.now c.args.leads.now c.args.found.now l in
     let claimed = reach_claimed v c.args.claims.now c.args.leads.now c.args.found.now l.gone c.tour_reaches.ensures tour in
-    let owned = reach_owned v c.args.claims.now c.args.leads.now c.args.found.now l.gone c.tour_reaches.ensures tour in
     let tree = tree_of v c.args.claims.now c.args.leads.now c.args.found.now l.gone in
-    c.marked.ensures.told c.args.sup.now v tree log l.standing l.indices owned (c.in-Err.ensures.found m told (c.requires.all m told) (reach v tree) claimed)
+    let unset = subst (IsMarkFault v (reach v tree)) c.in-Err-Unset.field-0-is (c.in-Err-Unset.ensures.found m told (c.requires.all m told) (reach v tree) claimed) in
+    c.unmarked.ensures.wrong m c.args.claims.now tree (c.in-Err-Unset.ensures.told ∙ told) log l.gone
+    (reach_is_claimed v c.args.claims.now c.args.leads.now c.args.found.now l.gone c.tour_reaches.ensures tour c.in-Err-Unset.block unset.0) unset.1 l.standing l.indices
 
-pub returns-in-Err-clause-cause : goal.returns-in-Err-clause-cause
-returns-in-Err-clause-cause g c = c.marked.ensures.cause (g.B.Blocks.counts c.args.under.now) (g.B.Blocks.counts c.check_bitmap.new.under) c.in-Err.ensures.cause
+pub returns-in-Err-Extra-clause-wrong : goal.returns-in-Err-Extra-clause-wrong
+returns-in-Err-Extra-clause-wrong g c m told log =
+    let v = volume_of c.args.sup.now (contents m) in
+    let l = c.requires.listed m told in
+    let tour = listed_tour c.walk_is_tour.ensures v c.args.claims.now c.args.leads.now c.args.found.now l in
+    let claimed = reach_claimed v c.args.claims.now c.args.leads.now c.args.found.now l.gone c.tour_reaches.ensures tour in
+    let tree = tree_of v c.args.claims.now c.args.leads.now c.args.found.now l.gone in
+    let extra = subst (IsMarkFault v (reach v tree)) c.in-Err-Extra.field-0-is (c.in-Err-Extra.ensures.found m told (c.requires.all m told) (reach v tree) claimed) in
+    extra_told c.args.sup.now v tree log l.standing l.indices c.in-Err-Extra.block extra
 
 pub returns-in-Ok-check_used-clause-sound : goal.returns-in-Ok-check_used-clause-sound
 returns-in-Ok-check_used-clause-sound g c m told log =
@@ -38,12 +48,17 @@ returns-in-Ok-check_used-clause-sound g c m told log =
       used = claimed.number;
     }
 
-pub returns-in-Err-check_used-clause-wrong : goal.returns-in-Err-check_used-clause-wrong
-returns-in-Err-check_used-clause-wrong g c m told log =
+pub returns-in-Err-clause-wrong : goal.returns-in-Err-clause-wrong
+returns-in-Err-clause-wrong g c m told log =
     let v = volume_of c.args.sup.now (contents m) in
     let l = c.requires.listed m told in
     let tour = listed_tour c.walk_is_tour.ensures v c.args.claims.now c.args.leads.now c.args.found.now l in
     let claimed = reach_claimed v c.args.claims.now c.args.leads.now c.args.found.now l.gone c.tour_reaches.ensures tour in
     let tree = tree_of v c.args.claims.now c.args.leads.now c.args.found.now l.gone in
-    c.in-Err-check_used.ensures.wrong v tree log l.standing l.indices (c.in-Ok.ensures.marks m told (c.requires.all m told) (reach v tree) claimed)
+    c.in-Err.ensures.wrong v tree log l.standing l.indices (c.in-Ok.ensures.marks m told (c.requires.all m told) (reach v tree) claimed)
     (sym claimed.number ∙ sym c.count.ensures.value)
+
+pub unmarked-requires-clause-whole : goal.unmarked-requires-clause-whole
+unmarked-requires-clause-whole g c m told =
+    let l = c.requires.listed m (sym c.in-Err-Unset.ensures.told ∙ told) in
+    (_, l.gone.nodes, l.gone.whole)

@@ -34,3 +34,10 @@ pub returns-in-Err-visit_all-clause-cause : goal.returns-in-Err-visit_all-clause
 returns-in-Err-visit_all-clause-cause g c =
     let cause : IsVisitCause (g.B.Blocks.counts c.args.under.now) (g.B.Blocks.counts c.visit_all.new.under) c.in-Err-visit_all.fault = search rules in
     c.walked-in-Err-visit_all.ensures.cause (g.B.Blocks.counts c.args.under.now) (g.B.Blocks.counts c.visit_all.new.under) cause
+
+pub returns-in-Ok-visit_all-clause-some : goal.returns-in-Ok-visit_all-clause-some
+returns-in-Ok-visit_all-clause-some g c m told =
+    let v = volume_of c.args.sup.now (contents m) in
+    let listed = c.count.ensures.listed in
+    let walked = subst (IsWalked v listed.0 c.walk_nodes.new.claims) (sym c.deref.ensures.value) (c.in-Ok.ensures.walked m listed.0 told listed.1) in
+    (listed.0, c.visit_all.new.claims, subst (IsWhole v listed.0 c.visit_all.new.claims) c.deref.ensures.value (c.in-Ok-visit_all.ensures.whole m listed.0 (c.in-Ok.ensures.told ∙ told) walked))

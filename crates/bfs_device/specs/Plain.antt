@@ -10,6 +10,11 @@ use Rattle.bfs_disk.specs.Blocks.{contents_of}
 use Rattle.bfs_disk.specs.Disk.{HasSectors}
 use Rattle.bfs_txn.specs.Told.{AreSized}
 
+-- what is noted for the owner of a lent disk: the disk as it was lent, and the name of the reference to it
+pub record LentDisk (D : Type 0) : Type 0 where
+  pub start : D
+  pub name : ℕ
+
 -- what the disk reads at each of so many blocks of r sectors
 abbrev pub plain : ℕ → ℕ → State → ℕ → Option (List ℕ)
 plain r blocks state k = cond (nat_lt k blocks) (Some (contents_of state r k)) None

@@ -1,7 +1,7 @@
 // The blocks of a volume as its disk has them, to be read.
 ghost use Rattle.std.specs.Prelude.{◌≡◌, ◌≤◌, ◌<◌, ◌*◌, ◌/◌, ◌^◌, ℕ, length, take, true, OnOk, None};
 ghost use Rattle.bfs_base.specs.Counts.{HasCause};
-ghost use Rattle.bfs_base.specs.Moments.{Elapses};
+ghost use Rattle.bfs_base.specs.Moments.{Elapses, Passed};
 ghost use Rattle.bfs_disk.specs.Blocks.{AreRead};
 ghost use Rattle.bfs_disk.specs.Disk.{MayLeave, HasSectors};
 ghost use Rattle.bfs_super.specs.Conditions.{natural, IsValid};
@@ -14,9 +14,11 @@ use bfs_txn::{BlockFault, Blocks};
 use std::snapshot::Snapshot;
 
 /// A disk that is lent, as the blocks of a volume. It tells what the disk reads, and reads each block anew. What it notes
-/// for its owner is what the disk tells, and the disk's length: no read changes them.
+/// for its owner is the disk as it was lent, and the name of the reference to it: no read changes them.
 pub struct DiskBlocks<'a, D: Disk> {
     disk: &'a mut D,
+    /// The disk as it was lent.
+    start: Snapshot<D>,
     block_size: u32,
     blocks: u64,
     /// The block that was read last, and its bytes, which are the first ones here.
@@ -26,6 +28,11 @@ pub struct DiskBlocks<'a, D: Disk> {
     ghost even: { block_size ≡ 512 * (block_size / 512) },
     ghost small: { block_size / 512 * blocks < 2 ^ 63 },
     ghost on_disk: { has_sectors (D.size disk.now) (block_size / 512 * blocks) ≡ true },
+    ghost same: { D.state disk.now ≡ D.state start.value },
+    ghost long: { D.size disk.now ≡ D.size start.value },
+    ghost risen: { D.faults start.value ≤ D.faults disk.now },
+    ghost unstopped: { D.stops disk.now ≡ D.stops start.value },
+    ghost reads: { ∥ Passed (D.clock start.value) (D.clock disk.now) (D.since start.value) (D.since disk.now) (MayLeave (D.state start.value)) ∥₁ },
 }
 
 impl<'a, D: Disk> DiskBlocks<'a, D> {
@@ -35,13 +42,16 @@ impl<'a, D: Disk> DiskBlocks<'a, D> {
         requires on_disk { IsOnDisk (D.size disk.old) sup.now }
         ensures disk { result.disk.ghost_name ≡ disk.entry.ghost_name }
         ensures disk_now { result.disk.now ≡ disk.old }
+        ensures start { result.start.value ≡ disk.old }
         ensures size { result.block_size ≡ sup.now.block_size }
         ensures blocks { result.blocks ≡ natural sup.now.num_blocks }
         ensures unread { result.read.value ≡ None }
     {
+        let start = Snapshot::of(disk);
         let blocks = sup.geometry().blocks;
         DiskBlocks {
             disk,
+            start,
             block_size: sup.block_size,
             blocks,
             read: Snapshot::of(&None),
@@ -49,12 +59,18 @@ impl<'a, D: Disk> DiskBlocks<'a, D> {
         }
     }
 
-    /// Gives the disk back.
+    /// Gives the disk back: it holds what it held, and it was only read meanwhile.
     pub fn done(self)
-        ensures { self.exit.0.now ≡ self.entry.disk.now }
+        ensures disk { self.exit.0.now ≡ self.entry.disk.now }
+        ensures state { D.state self.entry.disk.now ≡ D.state self.entry.start.value }
+        ensures size { D.size self.entry.disk.now ≡ D.size self.entry.start.value }
+        ensures faults { D.faults self.entry.start.value ≤ D.faults self.entry.disk.now }
+        ensures stops { D.stops self.entry.disk.now ≡ D.stops self.entry.start.value }
+        ensures reads { ∥ Passed (D.clock self.entry.start.value) (D.clock self.entry.disk.now) (D.since self.entry.start.value) (D.since self.entry.disk.now) (MayLeave (D.state self.entry.start.value)) ∥₁ }
     {
         let DiskBlocks {
             disk: _,
+            start: _,
             block_size: _,
             blocks: _,
             read: _,
@@ -97,10 +113,9 @@ fn seen(bytes: &[u8]) -> Snapshot<[u8; 8192]>
 }
 
 impl<D: Disk> Blocks for DiskBlocks<'_, D> {
-    ghost use Rattle.std.specs.Prelude.{ℕ, Option, None, [], ◌∷◌, false, take};
+    ghost use Rattle.std.specs.Prelude.{None, [], ◌∷◌, false, take};
     ghost use Rattle.std.specs.Option.{option_map};
-    ghost use Rattle.bfs_disk.specs.State.{State};
-    ghost use Rattle.bfs_device.specs.Plain.{plain, plain_sized};
+    ghost use Rattle.bfs_device.specs.Plain.{plain, plain_sized, LentDisk};
 
     ghost told = { λ b. option_map (plain (b.block_size / 512) b.blocks) (D.state b.disk.now) };
 
@@ -114,9 +129,9 @@ impl<D: Disk> Blocks for DiskBlocks<'_, D> {
 
     ghost last = { λ b. option_map (λ k. (k, take b.block_size b.bytes.value)) b.read.value };
 
-    ghost Note = { Option State × Option ℕ };
+    ghost Note = { LentDisk D };
 
-    ghost frame = { λ b. record { note = (D.state b.disk.now, D.size b.disk.now); names = b.disk.ghost_name ∷ []; kept = []; below = None } };
+    ghost frame = { λ b. record { note = record { start = b.start.value; name = b.disk.ghost_name }; names = b.disk.ghost_name ∷ []; kept = []; below = None } };
 
     ghost sized = { λ b. plain_sized b.block_size b.blocks b.even (D.state b.disk.now) (D.size b.disk.now) (D.filled b.disk.now) (D.sized b.disk.now) b.on_disk };
 

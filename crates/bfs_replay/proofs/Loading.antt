@@ -49,12 +49,12 @@ module _ (image : List ℕ) (told : Option State) (reads : Tells told (λ s. Rea
     judged (loads.Refused fault) is = (omega (arith, two, long), subst (λ (t : Super). IsRefusal t fault) super_is is)
     judged loads.Failed is = tt
 
-pub fits_judged : (s : Super) (size : Option ℕ) (sectors : ℕ) → size ≡ Some sectors → (found : Loaded) → IsJudged s sectors found → FitsDisk size found
-fits_judged s size sectors known (loads.Volume found) is =
+pub fits_judged : (s : Super) (size : Option ℕ) (sectors : ℕ) → size ≡ Some sectors → 2 ≤ sectors → (found : Loaded) → IsJudged s sectors found → FitsDisk size found
+fits_judged s size sectors known two (loads.Volume found) is =
     (subst IsValid (sym is.0) is.1, subst (λ z. HasSectors z (sectors_of found)) (sym known) (subst (λ (t : Super). sectors_of t ≤ sectors) (sym is.0) is.2))
-fits_judged s size sectors known (loads.Short some needed) is = tt
-fits_judged s size sectors known (loads.Refused fault) is = tt
-fits_judged s size sectors known loads.Failed is = tt
+fits_judged s size sectors known two (loads.Short some needed) is = (known ∙ ap Some (sym is.0), subst (λ (n : ℕ). n < needed) (sym is.0) is.3, inr (s, is.1, is.2))
+fits_judged s size sectors known two (loads.Refused fault) is = (subst (λ z. HasSectors z 2) (sym known) two, (s, is))
+fits_judged s size sectors known two loads.Failed is = tt
 
 pub never_failed : (s : Super) (sectors : ℕ) (found : Loaded) → IsJudged s sectors found → found ≡ loads.Failed → ⊥
 never_failed s sectors found is failed = subst (IsJudged s sectors) failed is

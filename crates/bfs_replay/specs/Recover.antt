@@ -1,10 +1,11 @@
 -- How a recovery ends, and what it leaves on the way.
-use Rattle.std.specs.Prelude.{◌≡◌, ◌⊎◌, ◌<◌, ◌≤◌, ℕ, ◌/◌, List, length, Option, Bool}
+use Rattle.std.specs.Prelude.{◌≡◌, ◌≢◌, ◌⊎◌, ◌<◌, ◌≤◌, ℕ, ◌/◌, List, length, Option, Some, Bool}
 use Rattle.bfs_base.specs.Counts.{Rose}
 use Rattle.bfs_disk.specs.State.{State, Tells}
 use Rattle.bfs_disk.specs.Disk.{HasSectors}
 use Rattle.bfs_super.specs.declared.sup.Super.{Super}
 use Rattle.bfs_super.specs.Conditions.{IsRefusal, IsValid}
+use Rattle.bfs_super.specs.declared.fault.SuperFault.{SuperFault}
 use Rattle.bfs_log.specs.Replay.{Replayed, Valid, super_of}
 use Rattle.bfs_log.specs.Replay.{Malformed as IsMalformed}
 use Rattle.bfs_replay.specs.Homing.{Reads}
@@ -83,9 +84,37 @@ FindsIn image (loads.Short sectors needed) = IsShort image sectors needed
 FindsIn image (loads.Refused fault) = (1024 ≤ length image) × IsRefusal (super_of image) fault
 FindsIn image loads.Failed = Unit {0}
 
--- a volume that was found fits the disk
+-- the disk has so many sectors, fewer than two, or than a valid superblock counts
+abbrev pub IsShortBy : Option ℕ → ℕ → ℕ → Type 0
+IsShortBy size sectors needed = (size ≡ Some sectors) × (sectors < needed) × ((needed ≡ 2) ⊎ ((s : Super) × IsValid s × (needed ≡ sectors_of s)))
+
+-- the disk has a superblock that is refused
+abbrev pub IsRefusedBy : Option ℕ → SuperFault → Type 0
+IsRefusedBy size fault = HasSectors size 2 × ((s : Super) × IsRefusal s fault)
+
+-- the disk has a volume that fits it, and whose log isn't empty
+abbrev pub HasFullLog : Option ℕ → Type 0
+HasFullLog size = (s : Super) × IsValid s × HasSectors size (sectors_of s) × (s.log_start ≢ s.log_end)
+
+-- why this was found over any disk, also one that tells nothing: by its number of sectors, which is known once the disk was asked,
+-- and by a superblock that was read; a volume that was found fits the disk
 abbrev pub FitsDisk : Option ℕ → Loaded → Type 0
 FitsDisk size (loads.Volume s) = IsValid s × HasSectors size (sectors_of s)
-FitsDisk size (loads.Short sectors needed) = Unit {0}
-FitsDisk size (loads.Refused fault) = Unit {0}
+FitsDisk size (loads.Short sectors needed) = IsShortBy size sectors needed
+FitsDisk size (loads.Refused fault) = IsRefusedBy size fault
 FitsDisk size loads.Failed = Unit {0}
+
+-- why a recovery ended so over any disk
+abbrev pub IsEndingBy : Option ℕ → Ending → Type 0
+IsEndingBy size (endings.Done s) = Unit {0}
+IsEndingBy size (endings.Short sectors needed) = IsShortBy size sectors needed
+IsEndingBy size (endings.Refused fault) = IsRefusedBy size fault
+IsEndingBy size (endings.Malformed fault) = HasFullLog size
+IsEndingBy size endings.Failed = Unit {0}
+
+abbrev pub IsMountFaultBy : Option ℕ → MountFault → Type 0
+IsMountFaultBy size (faults.Short sectors needed) = IsShortBy size sectors needed
+IsMountFaultBy size (faults.Super fault) = IsRefusedBy size fault
+IsMountFaultBy size (faults.Entry fault) = HasFullLog size
+IsMountFaultBy size (faults.Disk before after) = Unit {0}
+IsMountFaultBy size faults.NoMemory = Unit {0}

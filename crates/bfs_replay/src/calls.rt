@@ -56,6 +56,7 @@ pub fn write_home<D: Disk>(
     ensures size { D.size disk.new ≡ D.size disk.old }
     ensures cause { HasCause (D.faults disk.old) (D.faults disk.new) result }
     ensures stops { D.stops disk.old ≤ D.stops disk.new }
+    ensures clock { D.clock disk.old ≤ D.clock disk.new }
     ensures silent { D.state disk.old ≡ None → D.state disk.new ≡ None }
     ensures next { (quiet : Bool) (image : List ℕ) (all done : List Home) → IsLogOf image sup.now all → Has (home_places all) home → Tells (D.state disk.old) (Homing quiet (block_sectors sup.now) all done image)
         → OnOk result (Tells (D.state disk.new) (Homing quiet (block_sectors sup.now) all (done ++ record { place = home; bytes = blocks_of image (log_first (geometry_of sup.now) + at) } ∷ []) image)) }
@@ -100,6 +101,7 @@ pub fn empty_log<D: Disk>(disk: &mut D, sup: &Super) -> Result<Super, Failed>
     ensures size { D.size disk.new ≡ D.size disk.old }
     ensures cause { HasCause (D.faults disk.old) (D.faults disk.new) result }
     ensures stops { D.stops disk.old ≤ D.stops disk.new }
+    ensures clock { D.clock disk.old ≤ D.clock disk.new }
     ensures silent { D.state disk.old ≡ None → D.state disk.new ≡ None }
     ensures superblock { IfOk result (λ s. (s ≡ emptied sup.now) × (super_at (sector_of s) ≡ s)) }
     ensures done { (quiet : Bool) (r : ℕ) (image : List ℕ) (all : List Home) → Tells (D.state disk.old) (Homing quiet r all all image)

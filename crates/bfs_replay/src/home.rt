@@ -37,6 +37,7 @@ fn write_run<D: Disk>(
     ensures size { D.size disk.new ≡ D.size disk.old }
     ensures cause { HasCause (D.faults disk.old) (D.faults disk.new) result }
     ensures stops { D.stops disk.old ≤ D.stops disk.new }
+    ensures clock { D.clock disk.old ≤ D.clock disk.new }
     ensures silent { D.state disk.old ≡ None → D.state disk.new ≡ None }
     ensures next { (quiet : Bool) (image : List ℕ) (all done : List Home) → IsLogOf image sup.now all → ((k : ℕ) → first ≤ k → k < first + len → Has (home_places all) k) → Tells (D.state disk.old) (Homing quiet (block_sectors sup.now) all done image)
         → OnOk result (Tells (D.state disk.new) (Homing quiet (block_sectors sup.now) all (done ++ homes_from (geometry_of sup.now) (blocks_of image) at (counted_from first len)) image)) }
@@ -70,6 +71,7 @@ pub fn write_runs<D: Disk>(
     ensures size { D.size disk.new ≡ D.size disk.old }
     ensures cause { HasCause (D.faults disk.old) (D.faults disk.new) result }
     ensures stops { D.stops disk.old ≤ D.stops disk.new }
+    ensures clock { D.clock disk.old ≤ D.clock disk.new }
     ensures silent { D.state disk.old ≡ None → D.state disk.new ≡ None }
     ensures next { (quiet : Bool) (image : List ℕ) (all done : List Home) → IsLogOf image sup.now all → ((k : ℕ) → Has (blocks_in (geometry_of sup.now) runs.now) k → Has (home_places all) k) → Tells (D.state disk.old) (Homing quiet (block_sectors sup.now) all done image)
         → OnOk result (Tells (D.state disk.new) (Homing quiet (block_sectors sup.now) all (done ++ homes_from (geometry_of sup.now) (blocks_of image) at (blocks_in (geometry_of sup.now) runs.now)) image)) }
@@ -103,6 +105,7 @@ pub fn write_homes<D: Disk>(
     ensures later { D.faults disk.old ≤ D.faults disk.new }
     ensures cause { IfErr result (HasRisen (D.faults disk.old) (D.faults disk.new)) }
     ensures stops { D.stops disk.old ≤ D.stops disk.new }
+    ensures clock { D.clock disk.old ≤ D.clock disk.new }
     ensures silent { D.state disk.old ≡ None → D.state disk.new ≡ None }
     ensures next { (quiet : Bool) (image : List ℕ) (log : HasEntriesIn image sup.now) → IsLogOf image sup.now (homes_of log.0) → Tells (D.state disk.old) (Homing quiet (block_sectors sup.now) (homes_of log.0) [] image)
         → OnOk result (Tells (D.state disk.new) (Homing quiet (block_sectors sup.now) (homes_of log.0) (homes_of log.0) image)) }

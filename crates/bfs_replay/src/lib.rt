@@ -9,4 +9,4 @@ mod recovery;
 #[cfg(test)]
 mod tests;
 
-pub use recovery::{MountFault, recover};
+pub use recovery::{Loaded, MountFault, load, recover};

@@ -10,7 +10,7 @@ ghost use Rattle.bfs_super.specs.Layout.{super_at};
 ghost use Rattle.bfs_log.specs.Replay.{Valid, super_of};
 ghost use Rattle.bfs_replay.specs.Homing.{Reads};
 ghost use Rattle.bfs_replay.specs.Steps.{sectors_of};
-ghost use Rattle.bfs_replay.specs.Recover.{EndsIn, FindsIn, FitsDisk, GoesOn, HasCauseIn, IsJudged, IsMountFault, IsRecovered, IsSound, LeavesDisk};
+ghost use Rattle.bfs_replay.specs.Recover.{EndsIn, FindsIn, FitsDisk, GoesOn, HasCauseIn, IsEndingBy, IsJudged, IsMountFault, IsMountFaultBy, IsRecovered, IsSound, LeavesDisk};
 
 use crate::calls::empty_log;
 use crate::home::write_homes;
@@ -49,7 +49,8 @@ pub enum Ending {
     Failed,
 }
 
-/// What the superblock's sector has.
+/// What the superblock's sector has: a volume that fits the disk, a disk that is too short, the first condition that is broken, or
+/// nothing, where a disk call failed.
 pub enum Loaded {
     Volume(Super),
     Short { sectors: u64, needed: u64 },
@@ -90,8 +91,8 @@ fn judge(sector: &[u8; 512], sectors: u64) -> Loaded
     }
 }
 
-// Reads the superblock's sector.
-fn load<D: Disk>(disk: &mut D) -> Loaded
+/// Reads the superblock's sector. Takes no memory.
+pub fn load<D: Disk>(disk: &mut D) -> Loaded
     ensures found { (image : List ℕ) → Tells (D.state disk.old) (λ s. ReadsAs s image) → FindsIn image result }
     ensures fits { FitsDisk (D.size disk.new) result }
     ensures known { StaysKnown (D.size disk.old) (D.size disk.new) }
@@ -126,10 +127,12 @@ fn replay_log<D: Disk>(disk: &mut D, sup: &Super, array: &mut [u8], buffer: &mut
     ensures time { (image : List ℕ) → super_of image ≡ sup.now → Valid image → Tells (D.state disk.old) (Holds image)
         → Passed (D.clock disk.old) (D.clock disk.new) (D.since disk.old) (D.since disk.new) (GoesOn image) }
     ensures sound { IsSound (λ s. IsValid s × (s.log_start ≡ s.log_end) × (sectors_of s ≡ sectors_of sup.now)) result }
+    ensures by { IsEndingBy (D.size disk.new) result }
     ensures size { D.size disk.new ≡ D.size disk.old }
     ensures later { D.faults disk.old ≤ D.faults disk.new }
     ensures cause { result ≡ Ending.Failed → Rose (D.faults disk.old) (D.faults disk.new) }
     ensures stops { D.stops disk.old ≤ D.stops disk.new }
+    ensures clock { D.clock disk.old ≤ D.clock disk.new }
     ensures silent { D.state disk.old ≡ None → D.state disk.new ≡ None }
 {
     match check_log(disk, sup, array) {
@@ -156,10 +159,12 @@ fn replay<D: Disk>(disk: &mut D, array: &mut [u8], buffer: &mut [u8]) -> Ending
     ensures time { (image : List ℕ) → Tells (D.state disk.old) (Holds image) → Passed (D.clock disk.old) (D.clock disk.new) (D.since disk.old) (D.since disk.new) (GoesOn image) }
     ensures unwritten { (image : List ℕ) → Tells (D.state disk.old) (λ s. ReadsAs s image) → (super_of image).log_start ≡ (super_of image).log_end → D.state disk.new ≡ D.state disk.old }
     ensures sound { IsSound (λ s. IsValid s × (s.log_start ≡ s.log_end) × HasSectors (D.size disk.new) (sectors_of s)) result }
+    ensures by { IsEndingBy (D.size disk.new) result }
     ensures known { StaysKnown (D.size disk.old) (D.size disk.new) }
     ensures later { D.faults disk.old ≤ D.faults disk.new }
     ensures cause { result ≡ Ending.Failed → Rose (D.faults disk.old) (D.faults disk.new) }
     ensures stops { D.stops disk.old ≤ D.stops disk.new }
+    ensures clock { D.clock disk.old ≤ D.clock disk.new }
     ensures silent { D.state disk.old ≡ None → D.state disk.new ≡ None }
 {
     let sup = match load(disk) {
@@ -201,6 +206,9 @@ pub fn recover<D: Disk>(alloc: Global, disk: &mut D) -> Result<Super, MountFault
     ensures fault { (image : List ℕ) → Tells (D.state disk.old) (λ s. ReadsAs s image) → IfErr result (IsMountFault image) }
     ensures kept { (image : List ℕ) → Tells (D.state disk.old) (λ s. ReadsAs s image) → IfErr result (λ fault. LeavesDisk fault → D.state disk.new ≡ D.state disk.old) }
 
+    // Over any disk such a fault has its cause in the number of sectors, or in a superblock.
+    ensures by { IfErr result (IsMountFaultBy (D.size disk.new)) }
+
     // Where the log is empty nothing is written.
     ensures unwritten { (image : List ℕ) → Tells (D.state disk.old) (λ s. ReadsAs s image) → (super_of image).log_start ≡ (super_of image).log_end → D.state disk.new ≡ D.state disk.old }
     ensures untouched { IfErr result (λ fault. fault ≡ MountFault.NoMemory → disk.new ≡ disk.old) }
@@ -209,6 +217,7 @@ pub fn recover<D: Disk>(alloc: Global, disk: &mut D) -> Result<Super, MountFault
     ensures later { D.faults disk.old ≤ D.faults disk.new }
     ensures cause { IfErr result (HasCauseIn (D.faults disk.old) (D.faults disk.new)) }
     ensures stops { D.stops disk.old ≤ D.stops disk.new }
+    ensures clock { D.clock disk.old ≤ D.clock disk.new }
     ensures silent { D.state disk.old ≡ None → D.state disk.new ≡ None }
 {
     let Ok(mut array) = zeros(alloc, 8192) else {

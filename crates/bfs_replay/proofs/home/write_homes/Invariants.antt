@@ -14,6 +14,7 @@ invariant-loop-at g l = record {
   long : length l.buffer ≡ l.sup.block_size;
   later : g.D.Disk.faults l.fn.disk ≤ g.D.Disk.faults l.disk;
   stops : g.D.Disk.stops l.fn.disk ≤ g.D.Disk.stops l.disk;
+  clock : g.D.Disk.clock l.fn.disk ≤ g.D.Disk.clock l.disk;
   size : g.D.Disk.size l.disk ≡ g.D.Disk.size l.fn.disk;
   way : (quiet : Bool) (image : List ℕ) (log : HasEntriesIn image l.sup) → IsLogOf image l.sup (homes_of log.0) → Tells (g.D.Disk.state l.fn.disk) (Homing quiet (block_sectors l.sup) (homes_of log.0) [] image)
       → Between quiet image l.sup log.0 l.at (g.D.Disk.state l.disk);

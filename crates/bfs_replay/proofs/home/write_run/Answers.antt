@@ -26,6 +26,7 @@ loop-i-preserved g c =
       long = c.write_home.auto.buffer ∙ l.invariant.long;
       later = omega (arith, l.invariant.later, c.in-Ok.ensures.cause.later);
       stops = omega (arith, l.invariant.stops, c.in-Ok.ensures.stops);
+      clock = omega (arith, l.invariant.clock, c.in-Ok.ensures.clock);
       size = c.in-Ok.ensures.size ∙ l.invariant.size;
       silent = λ none. c.in-Ok.ensures.silent (l.invariant.silent none);
       next = λ quiet image all done log has known.

@@ -56,6 +56,7 @@ loop-run-preserved g c =
       long = c.in-Ok.ensures.long;
       later = omega (arith, l.invariant.later, c.in-Ok.ensures.cause.later);
       stops = omega (arith, l.invariant.stops, c.in-Ok.ensures.stops);
+      clock = omega (arith, l.invariant.clock, c.in-Ok.ensures.clock);
       size = c.in-Ok.ensures.size ∙ l.invariant.size;
       silent = λ none. c.in-Ok.ensures.silent (l.invariant.silent none);
       next = λ quiet image all done log has known.

@@ -16,6 +16,7 @@ invariant-loop-run g l = record {
   long : length l.buffer ≡ l.sup.block_size;
   later : g.D.Disk.faults l.fn.disk ≤ g.D.Disk.faults l.disk;
   stops : g.D.Disk.stops l.fn.disk ≤ g.D.Disk.stops l.disk;
+  clock : g.D.Disk.clock l.fn.disk ≤ g.D.Disk.clock l.disk;
   size : g.D.Disk.size l.disk ≡ g.D.Disk.size l.fn.disk;
   next : (quiet : Bool) (image : List ℕ) (all done : List Home) → IsLogOf image l.sup all → ((k : ℕ) → Has (blocks_in (geometry_of l.sup) l.runs) k → Has (home_places all) k)
       → Tells (g.D.Disk.state l.fn.disk) (Homing quiet (block_sectors l.sup) all done image)

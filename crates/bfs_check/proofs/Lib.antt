@@ -1,0 +1,3 @@
+pub mod Trimmed
+mod Lending
+pub mod Reading

@@ -1,4 +1,5 @@
 mod Changed
+mod Checks
 mod Held
 mod Made
 mod Pieces

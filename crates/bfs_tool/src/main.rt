@@ -1,8 +1,11 @@
 // The program `bfs`: volumes of the Be File System in image files. Its top call is `bfs`, whose contract says how
 // each command ends and what it leaves on the disk (specs/Words.antt, specs/Label.antt,
-// specs/Make.antt).
+// specs/Make.antt, specs/Check.antt).
 #![tactic(auto)]
 
+#[cfg(test)]
+mod check_tests;
+mod checking;
 mod label;
 mod line;
 mod make;

@@ -80,7 +80,7 @@ fn a_new_volume_is_told_with_its_used_blocks(rt: HostRuntime) -> Result<(), Fail
 }
 
 // Do these bytes stand at this place?
-fn has(bytes: &[u8], at: usize, field: &[u8]) -> bool {
+pub(crate) fn has(bytes: &[u8], at: usize, field: &[u8]) -> bool {
     at <= bytes.len() && field.len() <= bytes.len() - at && &bytes[at..at + field.len()] == field
 }
 
@@ -90,7 +90,7 @@ fn same(a: &[u8], b: &[u8], from: usize, to: usize) -> bool {
 }
 
 // The image that `mk --blocks 4096` makes of a disk full of some byte.
-fn volume(rt: &HostRuntime, byte: u8, length: usize) -> Result<Vec<u8>, AllocError> {
+pub(crate) fn volume(rt: &HostRuntime, byte: u8, length: usize) -> Result<Vec<u8>, AllocError> {
     let alloc = rt.alloc();
     let mut out = Mem::sink(alloc);
     let bytes = vec![in alloc; byte; length]?;

@@ -1,18 +1,23 @@
 // The top call.
-ghost use Rattle.std.specs.Prelude.{◌≡◌, ◌⊎◌, ◌↔◌, ◌≤◌, ℕ, List, []};
+ghost use Rattle.std.specs.Prelude.{◌≡◌, ◌⊎◌, ◌↔◌, ◌≤◌, ℕ, List, [], Bool};
 ghost use Rattle.bfs_base.specs.Counts.{Rose};
 ghost use Rattle.bfs_disk.specs.State.{State, IsQuiet, ReadsAs, Tells, Holds};
 ghost use Rattle.bfs_mkfs.specs.Format.{IsRefused};
 ghost use Rattle.bfs_ports.specs.Ports.{appended};
 ghost use Rattle.bfs_super.specs.Geometry.{IsBlockSize};
 ghost use Rattle.bfs_super.specs.Label.{IsLabel};
+ghost use Rattle.bfs_replay.specs.Homing.{Reads};
+ghost use Rattle.bfs_replay.specs.Recover.{GoesOn};
+ghost use Rattle.bfs_tool.specs.declared.checking.Checking.{Checking};
+ghost use Rattle.bfs_tool.specs.Check.{ChecksBy, IsCheckedBy, IsReplayedOn, IsWhole, checking_status, checking_text};
 ghost use Rattle.bfs_tool.specs.declared.label.Ending.{Ending};
 ghost use Rattle.bfs_tool.specs.Label.{EndsBy, LabelsBy, OldOrNew, labelled, label_status, label_text};
 ghost use Rattle.bfs_tool.specs.declared.make.Making.{Making};
 ghost use Rattle.bfs_tool.specs.Make.{IsNewVolume, IsMade, MakesBy, making_status, making_text};
 ghost use Rattle.bfs_tool.specs.Tool.{Prints, usage_text};
-ghost use Rattle.bfs_words.specs.Words.{IsLabelCommand, IsMakeCommand, IsFaulty};
+ghost use Rattle.bfs_words.specs.Words.{IsLabelCommand, IsMakeCommand, IsCheckCommand, IsFaulty};
 
+use crate::checking::check_volume;
 use crate::label::relabel;
 use crate::make::make_volume;
 use crate::output::report;
@@ -78,6 +83,31 @@ fn make<D: Disk, C: Clock, W: Sink>(
     report(out, line.bytes(), making.status())
 }
 
+// Prints how `check` ended, and tells the status.
+fn check<D: Disk, W: Sink>(alloc: Global, disk: &mut D, out: &mut W) -> u8
+    ensures ends { (result ≡ 7) ⊎ ((checking : Checking) × ((result ≡ checking_status checking) ⊎ (IsWhole checking × (result ≡ 6)))
+        × Prints (W.written out.old) (W.written out.new) (W.faults out.old) (W.faults out.new) (checking_text checking)
+        × IsCheckedBy (D.size disk.new) checking × (result ≡ 0 → W.written out.new ≡ appended (W.written out.old) (checking_text checking))
+        × ((image : List ℕ) → Tells (D.state disk.old) (λ s. ReadsAs s image) → ChecksBy image checking)) }
+    ensures silent { result ≡ 7 → W.written out.new ≡ appended (W.written out.old) [] }
+    ensures refused { result ≡ 3 → D.state disk.new ≡ D.state disk.old }
+    ensures replayed { (quiet : Bool) (image : List ℕ) → Tells (D.state disk.old) (Reads quiet image) → (result ≡ 0) ⊎ (result ≡ 6) ⊎ (result ≡ 8) → IsReplayedOn quiet image (D.state disk.new) }
+    ensures unfinished { (quiet : Bool) (image : List ℕ) → Tells (D.state disk.old) (Reads quiet image) → result ≡ 7 → (D.state disk.new ≡ D.state disk.old) ⊎ IsReplayedOn quiet image (D.state disk.new) }
+    ensures moments { (image : List ℕ) → Tells (D.state disk.old) (Holds image) → (c : List ℕ) → D.since disk.new (D.clock disk.old) c → ∥ GoesOn image c ∥₁ }
+    ensures disk_failed { result ≡ 4 → Rose (D.faults disk.old) (D.faults disk.new) }
+    ensures output_failed { result ≡ 6 → Rose (W.faults out.old) (W.faults out.new) }
+    ensures others { (result ≡ 2) ⊎ ((result ≡ 10) ⊎ (result ≡ 11)) → ⊥ }
+    ensures disk_later { D.faults disk.old ≤ D.faults disk.new }
+    ensures clock_later { D.clock disk.old ≤ D.clock disk.new }
+    ensures output_later { W.faults out.old ≤ W.faults out.new }
+{
+    let checking = check_volume(alloc, disk);
+    let Ok(text) = checking.text(alloc) else {
+        return 7;
+    };
+    report(out, &text, checking.status())
+}
+
 // Runs the command that the words ask for.
 fn run<X: AllocGlobal + Eprint, D: Disk, C: Clock, W: Sink>(
     rt: &X,
@@ -101,13 +131,20 @@ fn run<X: AllocGlobal + Eprint, D: Disk, C: Clock, W: Sink>(
         × ((result ≡ making_status making) ⊎ (IsMade making × (result ≡ 6)))
         × Prints (W.written out.old) (W.written out.new) (W.faults out.old) (W.faults out.new) (making_text making) × MakesBy (D.size disk.new) blocks size making
         × (result ≡ 0 → W.written out.new ≡ appended (W.written out.old) (making_text making))) }
-    ensures refused { (result ≡ 3) ⊎ (result ≡ 11) ⊎ (result ≡ 7) ⊎ (result ≡ 10) → D.state disk.new ≡ D.state disk.old }
+    ensures check { IsCheckCommand words.now → (result ≡ 7) ⊎ ((checking : Checking) × ((result ≡ checking_status checking) ⊎ (IsWhole checking × (result ≡ 6)))
+        × Prints (W.written out.old) (W.written out.new) (W.faults out.old) (W.faults out.new) (checking_text checking)
+        × IsCheckedBy (D.size disk.new) checking × (result ≡ 0 → W.written out.new ≡ appended (W.written out.old) (checking_text checking))
+        × ((image : List ℕ) → Tells (D.state disk.old) (λ s. ReadsAs s image) → ChecksBy image checking)) }
+    ensures refused { (result ≡ 3) ⊎ (result ≡ 11) ⊎ ((result ≡ 7) × ¬ IsCheckCommand words.now) ⊎ (result ≡ 10) → D.state disk.new ≡ D.state disk.old }
+    ensures replayed { (quiet : Bool) (image : List ℕ) → IsCheckCommand words.now → Tells (D.state disk.old) (Reads quiet image) → (result ≡ 0) ⊎ (result ≡ 6) ⊎ (result ≡ 8) → IsReplayedOn quiet image (D.state disk.new) }
+    ensures unfinished { (quiet : Bool) (image : List ℕ) → IsCheckCommand words.now → Tells (D.state disk.old) (Reads quiet image) → result ≡ 7 → (D.state disk.new ≡ D.state disk.old) ⊎ IsReplayedOn quiet image (D.state disk.new) }
     ensures labelled { (name image : List ℕ) → IsLabelCommand words.now name → Tells (D.state disk.old) (Holds image) → result ≡ 0 → Tells (D.state disk.new) (Holds (labelled name image)) }
     ensures made { (blocks size : ℕ) (label image : List ℕ) → IsMakeCommand words.now blocks size label → Tells (D.state disk.old) (Holds image) → (result ≡ 0) ⊎ (result ≡ 6)
         → Tells (D.state disk.new) (λ s. IsQuiet s × ((c : List ℕ) → ReadsAs s c → IsNewVolume blocks size label (C.stands clock.old) c)) }
     ensures moments { (image : List ℕ) → Tells (D.state disk.old) (Holds image) → (c : List ℕ) → D.since disk.new (D.clock disk.old) c
         → (c ≡ image) ⊎ ((name : List ℕ) × IsLabelCommand words.now name × (c ≡ labelled name image))
-        ⊎ ((blocks : ℕ) × (size : ℕ) × (label : List ℕ) × IsMakeCommand words.now blocks size label × (IsRefused c ⊎ IsNewVolume blocks size label (C.stands clock.old) c)) }
+        ⊎ ((blocks : ℕ) × (size : ℕ) × (label : List ℕ) × IsMakeCommand words.now blocks size label × (IsRefused c ⊎ IsNewVolume blocks size label (C.stands clock.old) c))
+        ⊎ (IsCheckCommand words.now × ∥ GoesOn image c ∥₁) }
     ensures disk_failed { result ≡ 4 → Rose (D.faults disk.old) (D.faults disk.new) }
     ensures output_failed { result ≡ 6 → Rose (W.faults out.old) (W.faults out.new) }
     ensures disk_later { D.faults disk.old ≤ D.faults disk.new }
@@ -126,6 +163,7 @@ fn run<X: AllocGlobal + Eprint, D: Disk, C: Clock, W: Sink>(
             let _ = rt.eprint(complaint);
             report(out, USAGE.as_bytes(), 2)
         }
+        Command::Check => check(rt.alloc(), disk, out),
         Command::Label(name) => label(disk, name, out),
         Command::Make(volume) => make(
             rt.alloc(),
@@ -142,8 +180,8 @@ fn run<X: AllocGlobal + Eprint, D: Disk, C: Clock, W: Sink>(
 /// Runs the command that the words ask for, and hands the disk back with the status. Which word is wrong goes to the standard
 /// error.
 ///
-/// Statuses: 0 done, 2 faulty words, 3 not a volume, 4 the disk failed, 6 the output failed, 7 no memory, 10 too small for
-/// a volume, 11 the log isn't empty. `clock` gives the second at which a new volume is made.
+/// Statuses: 0 done, 2 faulty words, 3 not a volume, 4 the disk failed, 6 the output failed, 7 no memory, 8 the volume isn't
+/// whole, 10 too small for a volume, 11 the log isn't empty. `clock` gives the second at which a new volume is made.
 pub fn bfs<
     X: AllocGlobal + Eprint,
     D: Disk + Send,
@@ -186,17 +224,30 @@ pub fn bfs<
         × Prints (W.written out.old) (W.written out.new) (W.faults out.old) (W.faults out.new) (making_text making) × MakesBy (D.size result.1) blocks size making
         × (result.0 ≡ 0 → W.written out.new ≡ appended (W.written out.old) (making_text making))) }
 
-    // At the statuses 3, 7, 10 and 11 the disk is as before. At 0 the label is on the disk, or the new volume.
-    ensures refused { (result.0 ≡ 3) ⊎ (result.0 ≡ 11) ⊎ (result.0 ≡ 7) ⊎ (result.0 ≡ 10) → D.state result.1 ≡ D.state disk }
+    // `check` ends by what the disk reads, with the status and the text of that ending, or with 6 where the volume is whole and
+    // the output failed.
+    ensures check { IsCheckCommand words.now → (result.0 ≡ 7) ⊎ ((checking : Checking) × ((result.0 ≡ checking_status checking) ⊎ (IsWhole checking × (result.0 ≡ 6)))
+        × Prints (W.written out.old) (W.written out.new) (W.faults out.old) (W.faults out.new) (checking_text checking)
+        × IsCheckedBy (D.size result.1) checking × (result.0 ≡ 0 → W.written out.new ≡ appended (W.written out.old) (checking_text checking))
+        × ((image : List ℕ) → Tells (D.state disk) (λ s. ReadsAs s image) → ChecksBy image checking)) }
+
+    // At the statuses 3, 10 and 11 the disk is as before, and so it is at 7, but for `check`. At 0 the label is on the disk, or the
+    // new volume.
+    ensures refused { (result.0 ≡ 3) ⊎ (result.0 ≡ 11) ⊎ ((result.0 ≡ 7) × ¬ IsCheckCommand words.now) ⊎ (result.0 ≡ 10) → D.state result.1 ≡ D.state disk }
     ensures labelled { (name image : List ℕ) → IsLabelCommand words.now name → Tells (D.state disk) (Holds image) → result.0 ≡ 0 → Tells (D.state result.1) (Holds (labelled name image)) }
     ensures made { (blocks size : ℕ) (label image : List ℕ) → IsMakeCommand words.now blocks size label → Tells (D.state disk) (Holds image) → (result.0 ≡ 0) ⊎ (result.0 ≡ 6)
         → Tells (D.state result.1) (λ s. IsQuiet s × ((c : List ℕ) → ReadsAs s c → IsNewVolume blocks size label (C.stands clock) c)) }
 
+    // `check` leaves what replay gives at 0, 6 and 8, and that or the disk as it was at 7. It is quiet where it was.
+    ensures replayed { (quiet : Bool) (image : List ℕ) → IsCheckCommand words.now → Tells (D.state disk) (Reads quiet image) → (result.0 ≡ 0) ⊎ (result.0 ≡ 6) ⊎ (result.0 ≡ 8) → IsReplayedOn quiet image (D.state result.1) }
+    ensures unfinished { (quiet : Bool) (image : List ℕ) → IsCheckCommand words.now → Tells (D.state disk) (Reads quiet image) → result.0 ≡ 7 → (D.state result.1 ≡ D.state disk) ⊎ IsReplayedOn quiet image (D.state result.1) }
+
     // A crash at any moment leaves the old image or the one with the new label; of `mk` the old image, one whose
-    // superblock is refused, or the new volume.
+    // superblock is refused, or the new volume; of `check` the old image, or one that is replayed to the same.
     ensures moments { (image : List ℕ) → Tells (D.state disk) (Holds image) → (c : List ℕ) → D.since result.1 (D.clock disk) c
         → (c ≡ image) ⊎ ((name : List ℕ) × IsLabelCommand words.now name × (c ≡ labelled name image))
-        ⊎ ((blocks : ℕ) × (size : ℕ) × (label : List ℕ) × IsMakeCommand words.now blocks size label × (IsRefused c ⊎ IsNewVolume blocks size label (C.stands clock) c)) }
+        ⊎ ((blocks : ℕ) × (size : ℕ) × (label : List ℕ) × IsMakeCommand words.now blocks size label × (IsRefused c ⊎ IsNewVolume blocks size label (C.stands clock) c))
+        ⊎ (IsCheckCommand words.now × ∥ GoesOn image c ∥₁) }
 
     // A failed disk and a failed output each have their cause in a risen count.
     ensures disk_failed { result.0 ≡ 4 → Rose (D.faults disk) (D.faults result.1) }

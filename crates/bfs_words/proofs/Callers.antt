@@ -1,12 +1,12 @@
 -- For callers: words ask for one thing, and what they ask for is in range.
-use Rattle.std.proofs.Common.{◌≡◌, ◌≤◌, ◌∙◌, ℕ, List, [], length, true, false, Option, Some, None, is_some, unwrap_or, codes, refl, sym, ap, subst, arith, rules}
+use Rattle.std.proofs.Common.{◌≡◌, ◌≤◌, ◌∙◌, ℕ, List, [], length, get_or, true, false, Option, Some, None, is_some, unwrap_or, codes, refl, sym, ap, subst, arith, rules}
 use Rattle.bfs_super.specs.Geometry.{IsBlockSize}
 use Rattle.bfs_super.specs.Label.{IsLabel}
 use Rattle.clap.specs.Walk.{Row, Text, first_of}
 use Rattle.clap.specs.Simple.{subcommand_of}
 use Rattle.clap.proofs.OnLiterals.{clap_on_literals}
 use Rattle.bfs_words.specs.Line.{bfs_line}
-use Rattle.bfs_words.specs.Words.{IsBlocks, IsSize, IsName, IsNewName, IsVolume, IsLabelCommand, IsMakeCommand}
+use Rattle.bfs_words.specs.Words.{IsBlocks, IsSize, IsName, IsNewName, IsVolume, IsLabelCommand, IsMakeCommand, IsCheckCommand}
 
 -- ---- one value
 
@@ -59,6 +59,17 @@ no_label words name label blocks size first second =
     let n : 5 ≡ 2 = ap (λ (p : Text × List Row). length p.0) (one_list (subcommand_of bfs_line words) (codes "label") (codes "mk") first.1.0 second.1.0 first.1.1 second.1.1) in
     omega (arith, n)
 
+-- the words of `check` are none of `label`, and none of `mk`
+pub no_check_label : (words : List Text) (name : Text) → IsCheckCommand words → IsLabelCommand words name → ⊥
+no_check_label words name first second =
+    let n : 99 ≡ 108 = ap (λ (p : Text × List Row). get_or p.0 0 0) (one_list (subcommand_of bfs_line words) (codes "check") (codes "label") first.1.0 second.1.0 first.1.1 second.1.1) in
+    omega (arith, n)
+
+pub no_check_make : (words : List Text) (blocks size : ℕ) (label : Text) → IsCheckCommand words → IsMakeCommand words blocks size label → ⊥
+no_check_make words blocks size label first second =
+    let n : 5 ≡ 2 = ap (λ (p : Text × List Row). length p.0) (one_list (subcommand_of bfs_line words) (codes "check") (codes "mk") first.1.0 second.1.0 first.1.1 second.1.1) in
+    omega (arith, n)
+
 nothing_found : subcommand_of bfs_line [] ≡ None
 unfolding clap_on_literals
 nothing_found = refl
@@ -72,6 +83,9 @@ no_words_label words name none is = none_some (codes "label", is.1.0) (sym nothi
 
 pub no_words_make : (words : List Text) (blocks size : ℕ) (label : Text) → words ≡ [] → IsMakeCommand words blocks size label → ⊥
 no_words_make words blocks size label none is = none_some (codes "mk", is.1.0) (sym nothing_found ∙ ap (subcommand_of bfs_line) (sym none) ∙ is.1.1)
+
+pub no_words_check : (words : List Text) → words ≡ [] → IsCheckCommand words → ⊥
+no_words_check words none is = none_some (codes "check", is.1.0) (sym nothing_found ∙ ap (subcommand_of bfs_line) (sym none) ∙ is.1.1)
 
 -- ---- what they ask for is good
 

@@ -9,7 +9,7 @@ use Rattle.clap.specs.Faults.{fault_of}
 use Rattle.clap.proofs.OnLiterals.{clap_on_literals}
 use Rattle.bfs_words.specs.Line.{bfs_line}
 use Rattle.bfs_words.specs.Numbers.{IsNumber}
-use Rattle.bfs_words.specs.Words.{IsBlocks, IsSize, IsName, IsNewName, FindsLabel, FindsVolume, IsPlainWord, IsLabelCommand, IsMakeCommand}
+use Rattle.bfs_words.specs.Words.{IsBlocks, IsSize, IsName, IsNewName, FindsLabel, FindsVolume, IsPlainWord, IsLabelCommand, IsMakeCommand, FindsCheck, IsCheckCommand}
 
 -- the subcommand's name and its values
 abbrev Reading : Type 0
@@ -87,6 +87,20 @@ equals_found : (xs ys zs : Text) → option_map reading (subcommand_of bfs_line 
 unfolding clap_on_literals
 equals_found xs ys zs = refl
 
+check_fault : fault_of bfs_line (codes "check" ∷ []) ≡ []
+unfolding clap_on_literals
+check_fault = refl
+
+check_found : option_map reading (subcommand_of bfs_line (codes "check" ∷ [])) ≡ Some (codes "check", None, None, None)
+unfolding clap_on_literals
+check_found = refl
+
+as_check : (found : Option (Text × List Row)) → option_map reading found ≡ Some (codes "check", None, None, None) → FindsCheck found
+as_check None e = cc
+as_check (Some p) e =
+    let same : reading p ≡ (codes "check", None, None, None) = ap (λ (o : Option Reading). unwrap_or o (reading p)) e in
+    (p.1, ap (λ (r : Reading). Some (r.0, p.1)) same)
+
 -- ---- the commands
 
 digit_first : (x : ℕ) (xs : Text) (n : ℕ) → IsNumber (x ∷ xs) n → (x == 45) ≡ false
@@ -126,3 +140,6 @@ pub plain_equals : (number bytes name : Text) (n size : ℕ) → IsNumber number
     → IsMakeCommand (codes "mk" ∷ (codes "--blocks=" ++ number) ∷ (codes "--block-size=" ++ bytes) ∷ (codes "--name=" ++ name) ∷ []) n size name
 plain_equals number bytes name n size is few bs fits good =
     (equals_fault number bytes name, as_volume _ (Some number) (Some bytes) (Some name) n size name (equals_found number bytes name) (is, few) (bs, fits) (refl, good))
+
+pub plain_check : IsCheckCommand (codes "check" ∷ [])
+plain_check = (check_fault, as_check (subcommand_of bfs_line (codes "check" ∷ [])) check_found)

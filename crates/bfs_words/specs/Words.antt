@@ -44,6 +44,10 @@ FindsLabel found name = (rows : List Row) × (found ≡ Some (codes "label", row
 abbrev pub FindsVolume : Option (Text × List Row) → ℕ → ℕ → Text → Type 0
 FindsVolume found blocks size label = (rows : List Row) × (found ≡ Some (codes "mk", rows)) × IsVolume rows blocks size label
 
+-- what was found is `check`
+abbrev pub FindsCheck : Option (Text × List Row) → Type 0
+FindsCheck found = (rows : List Row) × (found ≡ Some (codes "check", rows))
+
 -- `clap` refuses nothing in the words, and finds `label` with a good name in them
 abbrev pub IsLabelCommand : List Text → Text → Type 0
 IsLabelCommand words name = (fault_of bfs_line words ≡ []) × FindsLabel (subcommand_of bfs_line words) name
@@ -51,6 +55,10 @@ IsLabelCommand words name = (fault_of bfs_line words ≡ []) × FindsLabel (subc
 -- `clap` refuses nothing in the words, and finds `mk` with good numbers and a good label in them
 abbrev pub IsMakeCommand : List Text → ℕ → ℕ → Text → Type 0
 IsMakeCommand words blocks size label = (fault_of bfs_line words ≡ []) × FindsVolume (subcommand_of bfs_line words) blocks size label
+
+-- `clap` refuses nothing in the words, and finds `check` in them
+abbrev pub IsCheckCommand : List Text → Type 0
+IsCheckCommand words = (fault_of bfs_line words ≡ []) × FindsCheck (subcommand_of bfs_line words)
 
 -- a word that begins with no hyphen
 abbrev pub IsPlainWord : Text → Type 0
@@ -61,17 +69,20 @@ pub record IsFaulty (words : List Text) : Type 0 where
   pub some : ¬ (words ≡ [])
   pub no_label : (name : Text) → IsLabelCommand words name → ⊥
   pub no_volume : (blocks size : ℕ) (label : Text) → IsMakeCommand words blocks size label → ⊥
+  pub no_check : IsCheckCommand words → ⊥
 
 -- what was found asks for
 abbrev pub Means : Option (Text × List Row) → Command → Type 0
 Means found commands.Usage = ⊥
 Means found (commands.Label name) = FindsLabel found name.now
 Means found (commands.Make volume) = FindsVolume found volume.blocks volume.block_size volume.label.now
-Means found (commands.Faulty complaint) = ((name : Text) → FindsLabel found name → ⊥) × ((blocks size : ℕ) (label : Text) → FindsVolume found blocks size label → ⊥)
+Means found commands.Check = FindsCheck found
+Means found (commands.Faulty complaint) = ((name : Text) → FindsLabel found name → ⊥) × ((blocks size : ℕ) (label : Text) → FindsVolume found blocks size label → ⊥) × (FindsCheck found → ⊥)
 
 -- what the words ask for
 abbrev pub Asks : List Text → Command → Type 0
 Asks words commands.Usage = words ≡ []
 Asks words (commands.Label name) = IsLabelCommand words name.now
 Asks words (commands.Make volume) = IsMakeCommand words volume.blocks volume.block_size volume.label.now
+Asks words commands.Check = IsCheckCommand words
 Asks words (commands.Faulty complaint) = IsFaulty words

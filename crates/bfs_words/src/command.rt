@@ -33,7 +33,9 @@ pub enum Command<'a> {
     Label(&'a [u8]),
     /// `mk`, with good numbers and a good label.
     Make(NewVolume<'a>),
-    /// Anything else. `check`, `sh` and `soak` are declared, and stand here until they are built.
+    /// `check`.
+    Check,
+    /// Anything else. `sh` and `soak` are declared, and stand here until they are built.
     Faulty(Complaint<'a>),
 }
 

@@ -3,9 +3,9 @@ ghost use Rattle.std.specs.Prelude.{◌≡◌, ◌≤◌, ◌∷◌, ◌++◌, [
 ghost use Rattle.bfs_super.specs.Geometry.{IsBlockSize};
 ghost use Rattle.bfs_super.specs.Label.{IsLabel};
 ghost use Rattle.bfs_words.specs.Numbers.{IsNumber};
-ghost use Rattle.bfs_words.specs.Words.{IsPlainWord, IsLabelCommand, IsMakeCommand};
+ghost use Rattle.bfs_words.specs.Words.{IsPlainWord, IsLabelCommand, IsMakeCommand, IsCheckCommand};
 
-/// The plain spellings of the two commands ask for what they say. A name that begins with a hyphen stands behind `=`.
+/// The plain spellings of the three commands ask for what they say. A name that begins with a hyphen stands behind `=`.
 pub fn plain_spellings()
     ensures label { (name : List ℕ) → IsPlainWord name → IsLabel name → IsLabelCommand (codes "label" ∷ name ∷ []) name }
     ensures blocks { (number : List ℕ) (n : ℕ) → IsNumber number n → n ≤ 4194304
@@ -16,4 +16,5 @@ pub fn plain_spellings()
         → IsMakeCommand (codes "mk" ∷ codes "--name" ∷ name ∷ codes "--blocks" ∷ number ∷ (codes "--block-size=" ++ bytes) ∷ []) n size name }
     ensures equals { (number bytes name : List ℕ) (n size : ℕ) → IsNumber number n → n ≤ 4194304 → IsNumber bytes size → IsBlockSize size → IsLabel name
         → IsMakeCommand (codes "mk" ∷ (codes "--blocks=" ++ number) ∷ (codes "--block-size=" ++ bytes) ∷ (codes "--name=" ++ name) ∷ []) n size name }
+    ensures check { IsCheckCommand (codes "check" ∷ []) }
 {}

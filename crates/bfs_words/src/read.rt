@@ -107,6 +107,9 @@ fn read_found<'a>(matches: &ArgMatches<'a>) -> Command<'a>
             Err(complaint) => Command::Faulty(complaint),
         };
     }
+    if name == "check" {
+        return Command::Check;
+    }
     Command::Faulty(Complaint::Unbuilt(name))
 }
 

@@ -14,7 +14,7 @@ fn words(alloc: Global, texts: &[&str]) -> Result<Vec<Argument>, AllocError> {
 #[test]
 fn every_other_spelling_is_faulty(rt: HostRuntime) -> Result<(), Fail> {
     let alloc = rt.alloc();
-    let cases: [&[&str]; 36] = [
+    let cases: [&[&str]; 38] = [
         &["mk", "--blocks"],
         &[""],
         &["--"],
@@ -49,7 +49,9 @@ fn every_other_spelling_is_faulty(rt: HostRuntime) -> Result<(), Fail> {
         &["-V"],
         &["--version"],
         &["help"],
-        &["check"],
+        &["check", "now"],
+        &["check", "-j4"],
+        &["check", "check"],
         &["sh", "-j4"],
     ];
     for texts in cases {
@@ -142,6 +144,14 @@ fn a_hyphen_begins_a_name_behind_two(rt: HostRuntime) -> Result<(), Fail> {
             _ => return Err("the words of `label`".into()),
         }
     }
+    Ok(())
+}
+
+#[test]
+fn a_check_takes_no_more_words(rt: HostRuntime) -> Result<(), Fail> {
+    let alloc = rt.alloc();
+    let words = words(alloc, &["check"])?;
+    assert!(rt; matches!(read_words(alloc, &words)?, Command::Check));
     Ok(())
 }
 

@@ -1,4 +1,4 @@
-use Rattle.std.proofs.Common.{ℕ, List, [], inl, inr, ⊎_elim, subst, ◌≡◌, ◌⊎◌, rules, length}
+use Rattle.std.proofs.Common.{ℕ, List, [], inl, inr, ⊎_elim, subst, ◌≡◌, ◌⊎◌, rules}
 use Rattle.bfs_disk.specs.State.{IsQuiet, ReadsAs, Tells, Holds}
 use Rattle.bfs_tool.specs.Label.{labelled}
 use Rattle.bfs_tool.specs.Tool.{Prints, usage_text}
@@ -49,7 +49,7 @@ returns-in-Faulty-clause-texts g c = λ asked.
 
 pub returns-in-Make-clause-moments : goal.returns-in-Make-clause-moments
 returns-in-Make-clause-moments g c = λ image held i left.
-    ⊎_elim (λ old. inl old) (λ new. inr (inr (c.in-Make.volume.blocks, c.in-Make.volume.block_size, c.in-Make.volume.label.now, (subst (Asks c.args.words.now) c.in-Make.is c.in-Ok.ensures), new))) (c.make.ensures.moments image held i left)
+    ⊎_elim (λ old. inl old) (λ new. inr (inr (inl (c.in-Make.volume.blocks, c.in-Make.volume.block_size, c.in-Make.volume.label.now, (subst (Asks c.args.words.now) c.in-Make.is c.in-Ok.ensures), new)))) (c.make.ensures.moments image held i left)
 
 pub returns-in-Make-clause-made : goal.returns-in-Make-clause-made
 returns-in-Make-clause-made g c = λ blocks size label image asked held is.
@@ -103,3 +103,6 @@ returns-in-Make-clause-make g c = λ blocks size label asked.
     × Prints old new (g.W.Sink.faults c.args.out.now) (g.W.Sink.faults c.make.new.out) (making_text making) × MakesBy (g.D.Disk.size c.make.new.disk) b s making
     × (status ≡ 0 → new ≡ appended old (making_text making)) in
     inr (subst (λ b. Ends b size) same.blocks_same (subst (λ s. Ends volume.blocks s) same.sizes_same c.make.ensures.ends))
+
+pub returns-in-Check-clause-unfinished : goal.returns-in-Check-clause-unfinished
+returns-in-Check-clause-unfinished g c = λ quiet image asked reads seven. c.check.ensures.unfinished quiet image reads seven

@@ -1,4 +1,4 @@
-use Rattle.bfs_words.proofs.Plain.{plain_label, plain_blocks, plain_size_first, plain_name_first, plain_equals}
+use Rattle.bfs_words.proofs.Plain.{plain_label, plain_blocks, plain_size_first, plain_name_first, plain_equals, plain_check}
 use Rattle.bfs_words.proofs.laws.plain_spellings.Goals as goal
 
 pub returns : goal.returns
@@ -8,4 +8,5 @@ returns c = record {
   size_first = plain_size_first;
   name_first = plain_name_first;
   equals = plain_equals;
+  check = plain_check;
 }

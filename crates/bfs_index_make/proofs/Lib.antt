@@ -1,0 +1,10 @@
+pub mod Refusing
+pub mod Counted
+pub mod Gathers
+pub mod InOrder
+pub mod Named
+pub mod Allowed
+pub mod Stored
+pub mod Joined
+pub mod NextPairs
+pub mod Whole

@@ -1,0 +1,14 @@
+pub mod Parts
+pub mod Placed
+pub mod Nexts
+pub mod Movings
+pub mod Steps
+pub mod Starts
+pub mod Twice
+pub mod Orders
+pub mod Joins
+pub mod Mores
+pub mod Ends
+pub mod Whys
+pub mod Counted
+pub mod Rows

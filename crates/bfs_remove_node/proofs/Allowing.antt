@@ -60,10 +60,20 @@ module _ (g : Geometry) (r : Room) (m : ℕ → Option (List ℕ)) (tree : Tree)
       by_tests true true = tt
       by_tests true false = least_index g r m tree lists ready e.0
 
-  least_all : (id : ℕ) (es : List (List ℕ × KeyKind)) → AllLeast (flat_map (λ (e : List ℕ × KeyKind). cond (is_some (key_at tree e.0 e.1 id)) (attribute_index_row v e.0) []) es)
+  pub least_all : (id : ℕ) (es : List (List ℕ × KeyKind)) → AllLeast (flat_map (λ (e : List ℕ × KeyKind). cond (is_some (key_at tree e.0 e.1 id)) (attribute_index_row v e.0) []) es)
   least_all id [] = tt
   least_all id (e ∷ es) =
       least_joined (cond (is_some (key_at tree e.0 e.1 id)) (attribute_index_row v e.0) []) (flat_map (λ (x : List ℕ × KeyKind). cond (is_some (key_at tree x.0 x.1 id)) (attribute_index_row v x.0) []) es) (least_one id e) (least_all id es)
+
+  module _ (b : BuiltIn) (built : AreBuiltIn lists b) where
+    -- how many rows indices have of a node
+    pub rows_are : (id : ℕ) → length (rows_of_node v tree id) ≡ ones b.name + ones b.size + ones b.last_modified + listed_among tree id (rows_of_indices (entries tree.indices))
+    rows_are id =
+        length-append (built_in_rows v) (flat_map (λ (e : List ℕ × KeyKind). cond (is_some (key_at tree e.0 e.1 id)) (attribute_index_row v e.0) []) (entries tree.indices))
+        ∙ ap (λ (n : ℕ). n + length (flat_map (λ (e : List ℕ × KeyKind). cond (is_some (key_at tree e.0 e.1 id)) (attribute_index_row v e.0) []) (entries tree.indices))) (built_count g r m tree lists ready b built)
+        ∙ ap (λ (n : ℕ). ones b.name + ones b.size + ones b.last_modified + n) (rows_count v tree id (entries tree.indices) (λ e i.
+        let there = index_there tree lists ready.agrees e i in
+        (there.0, ap (λ (rows : List Row). assoc Text rows e.0) ready.work.stocked.names ∙ there.1)))
 
   module _ (dir : ℕ) (name : List ℕ) (may : MayBeRemoved tree dir name) (id : ℕ) (at : IsChildAt tree dir name id) where
     abbrev node : Node
@@ -91,19 +101,11 @@ module _ (g : Geometry) (r : Room) (m : ℕ → Option (List ℕ)) (tree : Tree)
         subst (λ (k : ℕ). k ≤ logged_need v tree (Remove dir name)) (sym allowed_is) (subst (λ (k : ℕ). allowed_of (Some (id, node)) ≤ k) (sym needed_is) here)
 
     module _ (b : BuiltIn) (built : AreBuiltIn lists b) where
-      rows_are : length (rows_of_node v tree id) ≡ ones b.name + ones b.size + ones b.last_modified + listed_among tree id (rows_of_indices (entries tree.indices))
-      rows_are =
-          length-append (built_in_rows v) (flat_map (λ (e : List ℕ × KeyKind). cond (is_some (key_at tree e.0 e.1 id)) (attribute_index_row v e.0) []) (entries tree.indices))
-          ∙ ap (λ (n : ℕ). n + length (flat_map (λ (e : List ℕ × KeyKind). cond (is_some (key_at tree e.0 e.1 id)) (attribute_index_row v e.0) []) (entries tree.indices))) (built_count g r m tree lists ready b built)
-          ∙ ap (λ (n : ℕ). ones b.name + ones b.size + ones b.last_modified + n) (rows_count v tree id (entries tree.indices) (λ e i.
-          let there = index_there tree lists ready.agrees e i in
-          (there.0, ap (λ (rows : List Row). assoc Text rows e.0) ready.work.stocked.names ∙ there.1)))
-
       pub allowed : (three listed left most : ℕ) → three ≡ ones b.name + ones b.size + ones b.last_modified → listed ≡ listed_among tree id (rows_of_indices (entries tree.indices))
           → most ≡ bitmap_length g.blocks g.block_size → left ≡ min (left_alone v (node_owners v (id, node))) most → 28 * (1 + three + listed) + left + 8 ≡ allowance v tree (Remove dir name)
       unfolding allowed_of
       allowed three listed left most first second all least =
-          let rows : length (rows_of_node v tree id) ≡ ones b.name + ones b.size + ones b.last_modified + listed_among tree id (rows_of_indices (entries tree.indices)) = rows_are in
+          let rows : length (rows_of_node v tree id) ≡ ones b.name + ones b.size + ones b.last_modified + listed_among tree id (rows_of_indices (entries tree.indices)) = rows_are b built id in
           let few : min (0 + 0 + left_alone v (node_owners v (id, node))) (bitmap_length g.blocks g.block_size) ≡ left =
           ap (λ (k : ℕ). min k (bitmap_length g.blocks g.block_size)) (none_before (left_alone v (node_owners v (id, node)))) ∙ ap (min (left_alone v (node_owners v (id, node)))) (sym all) ∙ sym least in
           let here : 28 * (1 + three + listed) + left + 8 ≡ allowed_of (Some (id, node)) = omega (arith, rows, few, first, second) in

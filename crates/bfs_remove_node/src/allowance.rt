@@ -37,7 +37,7 @@ fn one(there: Option<u64>) -> u64
 }
 
 /// How many of the three built-in indices there are.
-fn built_in_count(indices: BuiltIn) -> u64
+pub fn built_in_count(indices: BuiltIn) -> u64
     ensures value { result ≡ (if is_some indices.name then 1 else 0) + (if is_some indices.size then 1 else 0) + (if is_some indices.last_modified then 1 else 0) }
     ensures few { result ≤ 3 }
 {

@@ -23,13 +23,13 @@ use std::alloc::Global;
 
 /// A node in a directory, by its id and its kind.
 #[derive(Clone, Copy, Debug)]
-pub(crate) struct Child {
+pub struct Child {
     pub id: u64,
     pub kind: Kind,
 }
 
 /// The node that a look-up has found, or None where it has found none.
-pub(crate) fn child_in(found: &Reply) -> Option<Child>
+pub fn child_in(found: &Reply) -> Option<Child>
     ensures { result ≡ found_in found.now }
 {
     match found {
@@ -42,7 +42,7 @@ pub(crate) fn child_in(found: &Reply) -> Option<Child>
 }
 
 /// The refusal of a call by a look-up that has found no node.
-pub(crate) fn refusal_by(found: &Reply) -> Reply
+pub fn refusal_by(found: &Reply) -> Reply
     ensures reply { result ≡ refused_by found.now }
     ensures own { is_own result ≡ true }
 {

@@ -20,7 +20,7 @@ fn conflict_at(holds: &[Hold], id: u64) -> Option<Hold>
 }
 
 /// The refusal of a call that takes a node by a hold that is in conflict.
-pub(crate) fn held_by(holds: &[Hold], id: u64) -> Option<Reply>
+pub fn held_by(holds: &[Hold], id: u64) -> Option<Reply>
     ensures reply { result ≡ first (held (conflict holds.now id true)) }
     ensures own { IfSome result (λ reply. is_own reply ≡ true) }
 {

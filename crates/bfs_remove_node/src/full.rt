@@ -30,7 +30,7 @@ fn has_names(listed: &Reply) -> bool
 }
 
 /// Is a node of the tree a directory with children? Its names are listed where it is a directory.
-pub(crate) fn is_full<E: Edits>(
+pub fn is_full<E: Edits>(
     alloc: Global,
     sup: &Super,
     bitmap: &mut Bitmap,

@@ -13,7 +13,12 @@ mod refusal;
 mod removing;
 mod streams;
 
-pub use allowance::remove_allowance;
+pub use allowance::{built_in_count, remove_allowance};
+pub use child::{Child, child_in, refusal_by};
+pub use conflict::held_by;
+pub use full::is_full;
 pub use laws::may_be_removed;
+pub use listed::attribute_indices;
 pub use refusal::remove_refusal;
 pub use removing::remove_node;
+pub use streams::node_streams;

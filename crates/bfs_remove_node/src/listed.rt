@@ -123,7 +123,7 @@ fn listed_among<E: Edits>(
 }
 
 /// How many indices list a node of the tree by an attribute.
-pub(crate) fn attribute_indices<E: Edits>(
+pub fn attribute_indices<E: Edits>(
     alloc: Global,
     sup: &Super,
     bitmap: &mut Bitmap,

@@ -19,7 +19,7 @@ use bfs_txn::Blocks;
 use bfs_unmake::{stands_alone, stream_inodes, streams_length};
 
 /// How many blocks the streams of a node have, those of its attribute directory and of its attributes among them, but no more than so many.
-pub(crate) fn node_streams<B: Blocks>(
+pub fn node_streams<B: Blocks>(
     site: Site,
     under: &mut B,
     id: u64,

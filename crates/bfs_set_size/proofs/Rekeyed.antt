@@ -103,13 +103,13 @@ module _ (tree : Tree) (lists : Lists) (id : ℕ) (n later : Node) (agrees : Agr
     pairs_now = listed_now bare id later index kind (left_of index) (taken_none tree.nodes id) left_are
 
   -- lists with the same names and kinds, and the same pairs of this index, are relisted so
-  pub relists : (index : List ℕ) (inode : Option ℕ) (old new : List ℕ) → (HasBuiltIn tree.indices → get tree.indices index ≡ Some I64)
+  pub relists : (index : List ℕ) (of : KeyKind) (inode : Option ℕ) (old new : List ℕ) → (HasBuiltIn tree.indices → get tree.indices index ≡ Some of)
       → ((kind : KeyKind) → key_in tree.root index kind id n ≡ Some old) → ((kind : KeyKind) → key_in tree.root index kind id later ≡ Some new)
       → (begun : Lists) → begun.names ≡ lists.names → begun.kinds index ≡ lists.kinds index → begun.pairs index ≡ lists.pairs index → IsNumberAt Text lists.names index inode
-      → IsRelisting begun index inode old new id (left_of index) (pairs_of index)
-  relists index inode old new built was now begun names kinds pairs number = record {
+      → IsRelisting begun index inode of old new id (left_of index) (pairs_of index)
+  relists index of inode old new built was now begun names kinds pairs number = record {
     row = subst (λ (l : List Row). IsNumberAt Text l index inode) (sym names) number;
-    kind = λ value row. kind_is value row;
+    kind_is = λ value row. kind_is value row;
     less = λ value row. (
       kind_is value row,
       subst (λ (x : KeyKind). IsStrictlySortedBy (pair_cmp x) (left_of index)) (number_kind value row) (left_sorted index value (row_of value row) old new (was (lists.kinds index)) (now (lists.kinds index))),
@@ -127,10 +127,10 @@ module _ (tree : Tree) (lists : Lists) (id : ℕ) (n later : Node) (agrees : Agr
       row_of : (value : ℤ) → assoc Text begun.names index ≡ Some value → assoc Text lists.names index ≡ Some value
       row_of value row = ap (λ (l : List Row). assoc Text l index) (sym names) ∙ row
 
-      number_kind : (value : ℤ) → assoc Text begun.names index ≡ Some value → lists.kinds index ≡ I64
-      number_kind value row = kind_of index I64 built value (row_of value row)
+      number_kind : (value : ℤ) → assoc Text begun.names index ≡ Some value → lists.kinds index ≡ of
+      number_kind value row = kind_of index of built value (row_of value row)
 
-      kind_is : (value : ℤ) → assoc Text begun.names index ≡ Some value → begun.kinds index ≡ I64
+      kind_is : (value : ℤ) → assoc Text begun.names index ≡ Some value → begun.kinds index ≡ of
       kind_is value row = kinds ∙ number_kind value row
 
 -- a file's keys in the two indices
@@ -171,13 +171,13 @@ module _ (tree : Tree) (lists : Lists) (id : ℕ) (n : Node) (size : ℕ) (stamp
   by_time = with_pairs (with_pairs by_size (codes "last_modified") (left_in (codes "last_modified"))) (codes "last_modified") (pairs_in (codes "last_modified"))
 
   pub size_relists : (inode : Option ℕ) → IsNumberAt Text lists.names (codes "size") inode → (old new : List ℕ) → old ≡ unsigned_bytes 8 n.size → new ≡ unsigned_bytes 8 size
-      → IsRelisting lists (codes "size") inode old new id (left_in (codes "size")) (pairs_in (codes "size"))
-  size_relists inode at old new was now = relists tree lists id n later agrees plain is (codes "size") inode old new (λ b. b.by_size) (λ kind. size_key tree.root kind id n file ∙ ap Some (sym was)) (λ kind. size_key tree.root kind id later file ∙ ap Some (sym now))
+      → IsRelisting lists (codes "size") inode I64 old new id (left_in (codes "size")) (pairs_in (codes "size"))
+  size_relists inode at old new was now = relists tree lists id n later agrees plain is (codes "size") I64 inode old new (λ b. b.by_size) (λ kind. size_key tree.root kind id n file ∙ ap Some (sym was)) (λ kind. size_key tree.root kind id later file ∙ ap Some (sym now))
       lists refl refl refl at
 
   pub time_relists : (inode : Option ℕ) → IsNumberAt Text lists.names (codes "last_modified") inode → (old new : List ℕ) → old ≡ signed64_bytes n.modified → new ≡ signed64_bytes stamp
-      → IsRelisting by_size (codes "last_modified") inode old new id (left_in (codes "last_modified")) (pairs_in (codes "last_modified"))
-  time_relists inode at old new was now = relists tree lists id n later agrees plain is (codes "last_modified") inode old new (λ b. b.by_time) (λ kind. time_key tree.root kind id n file ∙ ap Some (sym was)) (λ kind. time_key tree.root kind id later file ∙ ap Some (sym now))
+      → IsRelisting by_size (codes "last_modified") inode I64 old new id (left_in (codes "last_modified")) (pairs_in (codes "last_modified"))
+  time_relists inode at old new was now = relists tree lists id n later agrees plain is (codes "last_modified") I64 inode old new (λ b. b.by_time) (λ kind. time_key tree.root kind id n file ∙ ap Some (sym was)) (λ kind. time_key tree.root kind id later file ∙ ap Some (sym now))
       by_size refl refl refl at
 
   -- the pairs are moved by the new key, or the key is the same and so are they

@@ -1,6 +1,7 @@
 -- A file is listed under its new size and stamp.
 use Rattle.std.specs.Prelude.{◌≡◌, ℕ, ℤ, List, [], Option, Some, Bool, true}
-use Rattle.bfs_base.specs.declared.kind.KeyKind.TheVariants.{Text, I64}
+use Rattle.bfs_base.specs.declared.kind.KeyKind.{KeyKind}
+use Rattle.bfs_base.specs.declared.kind.KeyKind.TheVariants.{Text}
 use Rattle.bfs_super.specs.declared.geometry.Geometry.{Geometry}
 use Rattle.bfs_bitmap.specs.Runs.{Room}
 use Rattle.bfs_pages.specs.Maps.{assoc}
@@ -24,23 +25,23 @@ pub record AreBefore (lists : Lists) (n : Node) (b : BuiltIn) (size : ℕ) (modi
   pub size_is : n.size ≡ size
   pub modified_is : n.modified ≡ modified
 
--- From the pairs of an index of numbers, where it is there, that of a node under its old key goes, which leaves the first of these lists;
+-- From the pairs of an index of this kind, where it is there, that of a node under its old key goes, which leaves the first of these lists;
 -- and one under its new key comes, which makes it the second.
-pub record IsRelisting (lists : Lists) (index : List ℕ) (inode : Option ℕ) (old new : List ℕ) (id : ℕ) (left pairs : List (List ℕ × ℕ)) : Type 0 where
+pub record IsRelisting (lists : Lists) (index : List ℕ) (inode : Option ℕ) (kind : KeyKind) (old new : List ℕ) (id : ℕ) (left pairs : List (List ℕ × ℕ)) : Type 0 where
   pub row : IsNumberAt Text lists.names index inode
-  pub kind : (value : ℤ) → assoc Text lists.names index ≡ Some value → lists.kinds index ≡ I64
-  pub less : ListsLess lists I64 index old id left
-  pub more : ListsMore (with_pairs lists index left) I64 index new id pairs
+  pub kind_is : (value : ℤ) → assoc Text lists.names index ≡ Some value → lists.kinds index ≡ kind
+  pub less : ListsLess lists kind index old id left
+  pub more : ListsMore (with_pairs lists index left) kind index new id pairs
 
 -- some index of a volume at work is to list a node so
-pub record HasRelisting (g : Geometry) (v : Room) (m : ℕ → Option (List ℕ)) (inode : Option ℕ) (old new : List ℕ) (id : ℕ) : Type 0 where
+pub record HasRelisting (g : Geometry) (v : Room) (m : ℕ → Option (List ℕ)) (inode : Option ℕ) (kind : KeyKind) (old new : List ℕ) (id : ℕ) : Type 0 where
   pub tree : Tree
   pub lists : Lists
   pub index : List ℕ
   pub left : List (List ℕ × ℕ)
   pub pairs : List (List ℕ × ℕ)
   pub work : IsAtWork g v m tree lists []
-  pub relisting : IsRelisting lists index inode old new id left pairs
+  pub relisting : IsRelisting lists index inode kind old new id left pairs
 
 -- A file has another size, and the indices list it under the keys that it had: the volume at work stands for a tree since, and the lists are
 -- those of the tree before.

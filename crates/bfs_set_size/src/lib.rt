@@ -18,6 +18,7 @@ pub use cutting::cut_file;
 pub use growing::grow_file;
 pub use laws::{goes_on_resizes, resizes_twice, resizing_is_left, sized_is_left};
 pub use refusal::set_size_refusal;
+pub use relisting::relist;
 pub use resizing::resize;
 pub use setting::set_size;
 pub use sizes::put_file_size;

@@ -1,6 +1,8 @@
 // A file is listed under its new size and stamp.
 ghost use Rattle.std.specs.Prelude.{◌≡◌, ◌<◌, ◌^◌, ℕ, ℤ, List, [], length, Option, Some, true, OnOk, IfErr, IfSome};
+ghost use Rattle.bfs_base.specs.Keys.{IsKey, IsTreeKind};
 ghost use Rattle.bfs_bytes.specs.Fields.{unsigned_bytes, signed64_bytes};
+ghost use Rattle.bfs_node.specs.Search.{IsSought};
 ghost use Rattle.bfs_super.specs.Conditions.{IsValid, natural};
 ghost use Rattle.bfs_super.specs.Geometry.{geometry_of};
 ghost use Rattle.bfs_txn.specs.Faults.{AreLater};
@@ -24,13 +26,14 @@ use bfs_super::Super;
 use bfs_txn::Edits;
 use std::alloc::Global;
 
-/// Lists a node under another key in an index, and does nothing where there is none.
-fn relist<E: Edits>(
+/// Lists a node under another key in an index of a kind, and does nothing where there is none. After a fault the call is to be dropped.
+pub fn relist<E: Edits>(
     alloc: Global,
     sup: &Super,
     bitmap: &mut Bitmap,
     edits: &mut E,
     index: Option<u64>,
+    kind: KeyKind,
     old: &[u8],
     new: &[u8],
     id: u64,
@@ -39,12 +42,13 @@ fn relist<E: Edits>(
     requires inside { IfSome index (λ inode. inode < natural sup.now.num_blocks) }
     requires size { E.size edits.old ≡ sup.now.block_size }
     requires volume { IsOfVolume (sizes_of sup.now) bitmap.old }
-    requires before { length old.now ≡ 8 }
-    requires after { length new.now ≡ 8 }
+    requires kind { IsTreeKind kind }
+    requires before { IsSought kind old.now }
+    requires after { IsKey kind new.now }
     requires id { id < 2 ^ 62 }
-    requires relists { (m : ℕ → Option (List ℕ)) → E.told edits.old ≡ Some m → HasRelisting (geometry_of sup.now) bitmap.old m index old.now new.now id }
-    ensures relisted { (m : ℕ → Option (List ℕ)) (tree : Tree) (lists : Lists) (name : List ℕ) (left pairs : List (List ℕ × ℕ)) → E.told edits.old ≡ Some m → IsAtWork (geometry_of sup.now) bitmap.old m tree lists [] → IsRelisting lists name index old.now new.now id left pairs → OnOk result (IsStepped (geometry_of sup.now) bitmap.old bitmap.new m tree tree (with_pairs (with_pairs lists name left) name pairs) [] (E.told edits.new) (E.changed edits.old) (E.changed edits.new)) }
-    ensures unanswered { (m : ℕ → Option (List ℕ)) (tree : Tree) (lists : Lists) (name : List ℕ) (left pairs : List (List ℕ × ℕ)) → E.told edits.old ≡ Some m → IsAtWork (geometry_of sup.now) bitmap.old m tree lists [] → IsRelisting lists name index old.now new.now id left pairs → IfErr result IsUnanswered }
+    requires relists { (m : ℕ → Option (List ℕ)) → E.told edits.old ≡ Some m → HasRelisting (geometry_of sup.now) bitmap.old m index kind old.now new.now id }
+    ensures relisted { (m : ℕ → Option (List ℕ)) (tree : Tree) (lists : Lists) (name : List ℕ) (left pairs : List (List ℕ × ℕ)) → E.told edits.old ≡ Some m → IsAtWork (geometry_of sup.now) bitmap.old m tree lists [] → IsRelisting lists name index kind old.now new.now id left pairs → OnOk result (IsStepped (geometry_of sup.now) bitmap.old bitmap.new m tree tree (with_pairs (with_pairs lists name left) name pairs) [] (E.told edits.new) (E.changed edits.old) (E.changed edits.new)) }
+    ensures unanswered { (m : ℕ → Option (List ℕ)) (tree : Tree) (lists : Lists) (name : List ℕ) (left pairs : List (List ℕ × ℕ)) → E.told edits.old ≡ Some m → IsAtWork (geometry_of sup.now) bitmap.old m tree lists [] → IsRelisting lists name index kind old.now new.now id left pairs → IfErr result IsUnanswered }
     ensures cause { IfErr result (HasAnswerCause (E.counts edits.old) (E.counts edits.new)) }
     ensures rest { bitmap.new ≡ record bitmap.old { tally = bitmap.new.tally } }
     ensures stays { StaysChanged (E.changed edits.old) (E.changed edits.new) }
@@ -52,11 +56,11 @@ fn relist<E: Edits>(
     ensures frame { E.frame edits.new ≡ E.frame edits.old }
     ensures later { AreLater (E.counts edits.old) (E.counts edits.new) }
 {
-    match unlist_where(alloc, sup, bitmap, edits, index, KeyKind::I64, old, id) {
+    match unlist_where(alloc, sup, bitmap, edits, index, kind, old, id) {
         Ok(()) => {}
         Err(fault) => return Err(fault),
     }
-    match list_where(alloc, sup, bitmap, edits, index, KeyKind::I64, new, id) {
+    match list_where(alloc, sup, bitmap, edits, index, kind, new, id) {
         Ok(()) => Ok(()),
         Err(fault) => Err(fault),
     }
@@ -100,6 +104,7 @@ pub(crate) fn list_anew<E: Edits>(
         bitmap,
         edits,
         indices.size,
+        KeyKind::I64,
         &old_size,
         &new_size,
         id,
@@ -113,6 +118,7 @@ pub(crate) fn list_anew<E: Edits>(
         bitmap,
         edits,
         indices.last_modified,
+        KeyKind::I64,
         &old_time,
         &new_time,
         id,

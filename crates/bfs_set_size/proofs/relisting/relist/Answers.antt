@@ -1,5 +1,4 @@
 use Rattle.std.proofs.Common.{[], ℕ, List, Option, ap, subst}
-use Rattle.bfs_base.specs.declared.kind.KeyKind.TheVariants.{I64}
 use Rattle.bfs_super.specs.Geometry.{geometry_of}
 use Rattle.bfs_stream.specs.Sizes.{sizes_of}
 use Rattle.bfs_shift.specs.Lists.{with_pairs}
@@ -14,7 +13,7 @@ use Rattle.bfs_set_size.proofs.relisting.relist.Goals as goal
 pub unlist_where-requires-clause-index : goal.unlist_where-requires-clause-index
 unlist_where-requires-clause-index g c m told =
     let h = c.requires.relists m told in
-    index_at (geometry_of c.args.sup.now) c.args.bitmap.now m h.tree h.lists h.index I64 h.work c.args.index h.relisting.row h.relisting.kind
+    index_at (geometry_of c.args.sup.now) c.args.bitmap.now m h.tree h.lists h.index c.args.kind h.work c.args.index h.relisting.row h.relisting.kind_is
 
 pub list_where-requires-clause-index : goal.list_where-requires-clause-index
 list_where-requires-clause-index g c n told =
@@ -24,9 +23,9 @@ list_where-requires-clause-index g c n told =
     let m = before.0 in
     let h = c.requires.relists m before.1 in
     let one = c.in-Ok.ensures.unlisted m h.tree h.lists [] h.index h.left before.1 h.work h.relisting.row h.relisting.less in
-    index_at (geometry_of c.args.sup.now) c.unlist_where.new.bitmap n h.tree (with_pairs h.lists h.index h.left) h.index I64
+    index_at (geometry_of c.args.sup.now) c.unlist_where.new.bitmap n h.tree (with_pairs h.lists h.index h.left) h.index c.args.kind
     (subst (λ (k : ℕ → Option (List ℕ)). IsAtWork (geometry_of c.args.sup.now) c.unlist_where.new.bitmap k h.tree (with_pairs h.lists h.index h.left) []) (one_map (g.E.Blocks.told c.unlist_where.new.edits) one.map n one.is told) one.work)
-    c.args.index h.relisting.row h.relisting.kind
+    c.args.index h.relisting.row h.relisting.kind_is
 
 pub returns-in-Ok-list_where-clause-relisted : goal.returns-in-Ok-list_where-clause-relisted
 returns-in-Ok-list_where-clause-relisted g c m tree lists name left pairs told work r =
@@ -37,13 +36,13 @@ returns-in-Ok-list_where-clause-relisted g c m tree lists name left pairs told w
 
 pub returns-in-Err-clause-unanswered : goal.returns-in-Err-clause-unanswered
 returns-in-Err-clause-unanswered g c m tree lists name left pairs told work r =
-    unlist_unanswered c.args.index c.in-Err.fault (c.in-Err.ensures.refused m tree lists [] name told work r.row r.kind)
+    unlist_unanswered c.args.index c.in-Err.fault (c.in-Err.ensures.refused m tree lists [] name told work r.row r.kind_is)
 
 pub returns-in-Err-list_where-clause-unanswered : goal.returns-in-Err-list_where-clause-unanswered
 returns-in-Err-list_where-clause-unanswered g c m tree lists name left pairs told work r =
     let one = c.in-Ok.ensures.unlisted m tree lists [] name left told work r.row r.less in
     list_unanswered (sizes_of c.args.sup.now) c.unlist_where.new.bitmap one.map c.args.index c.in-Err-list_where.fault
-    (c.in-Err-list_where.ensures.refused one.map tree (with_pairs lists name left) [] name one.is one.work r.row r.kind)
+    (c.in-Err-list_where.ensures.refused one.map tree (with_pairs lists name left) [] name one.is one.work r.row r.kind_is)
 
 pub returns-in-Err-clause-cause : goal.returns-in-Err-clause-cause
 returns-in-Err-clause-cause g c = read_cause (g.E.Blocks.counts c.args.edits.now) (g.E.Blocks.counts c.unlist_where.new.edits) c.in-Err.fault c.in-Err.ensures.cause

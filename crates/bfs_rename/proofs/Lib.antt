@@ -1,0 +1,16 @@
+pub mod Passing
+pub mod Looking
+pub mod Renaming
+pub mod Shrinking
+pub mod Childs
+pub mod Allowing
+pub mod Placed
+pub mod Sited
+pub mod Seated
+pub mod Parented
+pub mod Emptied
+pub mod Seats
+pub mod Relists
+pub mod Stampings
+pub mod Arrived
+pub mod Vacated

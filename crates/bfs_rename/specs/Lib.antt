@@ -1,0 +1,10 @@
+pub mod Counted
+pub mod Done
+pub mod Moved
+pub mod Moving
+pub mod Refused
+pub mod Renamed
+pub mod Replacing
+pub mod Rows
+pub mod Sited
+pub mod Stamped

@@ -1,14 +1,14 @@
 -- A call that gains a file no data blocks is allowed to take as many blocks as it may change.
 use Rattle.std.proofs.Common.{◌≡◌, ◌≤◌, ◌+◌, ℕ, List, Bool, true, false, Option, Some, None, refl, arith}
-use Rattle.std.specs.Prelude.{if◌then◌else◌}
+use Rattle.std.specs.Prelude.{◌==◌, if◌then◌else◌}
 use Rattle.bfs_super.specs.declared.geometry.Geometry.{Geometry}
 use Rattle.bfs_tree.specs.declared.call.Call.{Call}
 use Rattle.bfs_tree.specs.declared.state.Hold.{Hold}
 use Rattle.bfs_tree.specs.Refusals.{own_refusal}
 use Rattle.bfs_tree.specs.States.{State}
 use Rattle.bfs_tree.specs.Steps.{changes_tree}
-use Rattle.bfs_tree.specs.Trees.{Node, Tree}
-use Rattle.bfs_sound.specs.Need.{cost_of, logged_cost, logged_need, removing}
+use Rattle.bfs_tree.specs.Trees.{Node, Tree, child}
+use Rattle.bfs_sound.specs.Need.{cost_of, logged_cost, logged_need, removing, renaming, replacing}
 use Rattle.bfs_sound.specs.Volumes.{Volume}
 use Rattle.bfs_shift.specs.Shifts.{volume_in}
 use Rattle.bfs_calls.specs.Allowances.{allowance}
@@ -18,6 +18,22 @@ use Rattle.bfs_space.specs.Looks.{IsAllowed}
 pub removing_gains : (v : Volume) (tree : Tree) (dir : ℕ) (o : Option (ℕ × Node)) → (removing v tree dir o).file ≡ 0
 removing_gains v tree dir None = refl
 removing_gains v tree dir (Some e) = refl
+
+-- nor does one that is renamed
+replacing_gains : (v : Volume) (tree : Tree) (to_dir id : ℕ) (o : Option (ℕ × Node)) → (replacing v tree to_dir id o).file ≡ 0
+replacing_gains v tree to_dir id None = refl
+replacing_gains v tree to_dir id (Some e) = by_same (e.0 == id) refl
+  where
+    by_same : (same : Bool) → (e.0 == id) ≡ same → (replacing v tree to_dir id (Some e)).file ≡ 0
+    by_same true is = grind (arith, is)
+    by_same false is = grind (arith, is)
+
+pub renaming_gains : (v : Volume) (tree : Tree) (dir to_dir : ℕ) (to_name : List ℕ) (o : Option (ℕ × Node)) → (renaming v tree dir to_dir to_name o).file ≡ 0
+renaming_gains v tree dir to_dir to_name None = refl
+renaming_gains v tree dir to_dir to_name (Some e) =
+    let none = replacing_gains v tree to_dir e.0 (child tree to_dir to_name) in
+    let sum : 0 + (replacing v tree to_dir e.0 (child tree to_dir to_name)).file ≡ 0 = omega (arith, none) in
+    sum
 
 -- Need for the log is no more than Need
 need_more : (b : Bool) (n logged file : ℕ) → n ≤ (if b then logged else 0) → n ≤ (if b then logged + file else 0)

@@ -3,10 +3,10 @@ use Rattle.std.proofs.Common.{◌≡◌, ℕ, ℤ, List, [], ◌∷◌, Bool, tr
 use Rattle.std.specs.FinMap.{get, remove}
 use Rattle.std.specs.Prelude.{is_none, IsSome}
 use Rattle.bfs_base.specs.declared.kind.KeyKind.{KeyKind}
-use Rattle.bfs_tree.specs.declared.call.Call.TheVariants.{Remove, AttrRemove, IndexRemove}
+use Rattle.bfs_tree.specs.declared.call.Call.TheVariants.{Remove, Rename, AttrRemove, IndexRemove}
 use Rattle.bfs_tree.specs.declared.reply.Reply.TheVariants.{Done, NotFound, NoAttr, NoIndex, BuiltIn}
 use Rattle.bfs_tree.specs.declared.state.Hold.{Hold}
-use Rattle.bfs_tree.specs.Changes.{changed, removed}
+use Rattle.bfs_tree.specs.Changes.{changed, removed, renamed}
 use Rattle.bfs_tree.specs.Refusals.{at_node, first, is_built_in, own_refusal}
 use Rattle.bfs_tree.specs.States.{State}
 use Rattle.bfs_tree.specs.Steps.{ByTree}
@@ -21,6 +21,13 @@ pub removed_answers : (tree after : Tree) (holds : List Hold) (dir : ℕ) (name 
     → ((s : State) → s.tree ≡ tree → (removed s dir stamp (child s.tree dir name)).tree ≡ after) → AnswersIn stamp (Remove dir name) Done tree holds after
 removed_answers tree after holds dir name stamp fine follows = λ s same held.
     (removed s dir stamp (child s.tree dir name), follows s same, λ session. ByTree.answered (fine s same held) refl refl)
+
+-- of a node that is renamed: another one may have gone for it
+pub renamed_answers : (tree after : Tree) (holds : List Hold) (dir : ℕ) (name : List ℕ) (to_dir : ℕ) (to_name : List ℕ) (stamp : ℤ)
+    → ((s : State) → s.tree ≡ tree → s.holds ≡ holds → own_refusal (Rename dir name to_dir to_name) s ≡ None)
+    → ((s : State) → s.tree ≡ tree → (renamed s dir to_dir to_name stamp (child s.tree dir name)).tree ≡ after) → AnswersIn stamp (Rename dir name to_dir to_name) Done tree holds after
+renamed_answers tree after holds dir name to_dir to_name stamp fine follows = λ s same held.
+    (renamed s dir to_dir to_name stamp (child s.tree dir name), follows s same, λ session. ByTree.answered (fine s same held) refl refl)
 
 -- of an index
 pub unindexed_answers : (tree after : Tree) (holds : List Hold) (name : List ℕ) (stamp : ℤ) → ((s : State) → s.tree ≡ tree → own_refusal (IndexRemove name) s ≡ None)

@@ -10,6 +10,7 @@ pub mod Alike
 pub mod Done
 pub mod Left
 pub mod Gone
+pub mod Indexed
 pub mod Put
 pub mod Turned
 pub mod Following

@@ -49,9 +49,10 @@ IsCallFault (calling.Unkept (TooMany blocks)) = Unit {0}
 IsCallFault (calling.Unkept Beyond) = Unit {0}
 
 -- the blocks that a call asks for at once, at most, where blocks have so many bytes: those of an attribute, or those of a first attribute
--- directory, and one in other calls
+-- directory, which a longer name of a node may need too, and one in other calls
 abbrev pub asked : ℕ → Call → ℕ
 asked size (calls.AttrWrite id name kind bytes) = max 1 (max (ceil 2048 size) (ceil (length bytes) size))
+asked size (calls.Rename dir name to_dir to_name) = max 1 (ceil 2048 size)
 asked size _ = 1
 
 abbrev pub HasCallCause : ℕ → Counts → Counts → CallFault → Type 0

@@ -14,6 +14,8 @@ use Rattle.bfs_calls.specs.Allowances.{allowance}
 use Rattle.bfs_calls.specs.Refusals.{is_own, MayBeMade}
 use Rattle.bfs_set_size.specs.Sized.{MayBeSized}
 use Rattle.bfs_attr_put.specs.Written.{MayBear}
+use Rattle.bfs_index_make.specs.Made.{MayIndex}
+use Rattle.bfs_rename.specs.Refused.{IsPlace}
 use Rattle.bfs_super.specs.Conditions.{natural}
 use Rattle.bfs_tree.specs.declared.call.Call.TheVariants as calls
 use Rattle.bfs_space.specs.declared.answers.Allowance.{Allowance}
@@ -51,8 +53,10 @@ is_built (calls.Make dir name kind mode) = true
 is_built (calls.SetMode id mode uid gid) = true
 is_built (calls.SetSize id size) = true
 is_built (calls.Remove dir name) = true
+is_built (calls.Rename dir name to_dir to_name) = true
 is_built (calls.AttrWrite id name kind bytes) = true
 is_built (calls.AttrRemove id name) = true
+is_built (calls.IndexMake name kind) = true
 is_built (calls.IndexRemove name) = true
 is_built (calls.Lookup dir name) = true
 is_built (calls.List dir) = true
@@ -66,14 +70,17 @@ is_built _ = false
 
 -- what is found of those that change a tree: a node that may be made, its directory a block of the volume, its name and target good; a node
 -- whose mode is set, a block of the volume; a file that gets a size, a block of the volume, and the size not too big; the directory of a node
--- that is removed, a block of the volume; the node of an attribute that is written, a block of the volume, its name good and its bytes not too
--- many; and nothing of an attribute or an index that is removed
+-- that is removed, a block of the volume; both directories of a node that is renamed, blocks of the volume, and its new name good; the node of an
+-- attribute that is written, a block of the volume, its name good and its bytes not too many; an index that is made, its name good and its keys
+-- no floats; and nothing of an attribute or an index that is removed
 abbrev pub MayBeDone : Super → Call → Type 0
 MayBeDone sup (calls.Make dir name kind mode) = MayBeMade (natural sup.num_blocks) dir name kind
 MayBeDone sup (calls.SetMode id mode uid gid) = id < natural sup.num_blocks
 MayBeDone sup (calls.SetSize id size) = MayBeSized (natural sup.num_blocks) id size
 MayBeDone sup (calls.Remove dir name) = dir < natural sup.num_blocks
+MayBeDone sup (calls.Rename dir name to_dir to_name) = (dir < natural sup.num_blocks) × IsPlace (natural sup.num_blocks) to_dir to_name
 MayBeDone sup (calls.AttrWrite id name kind bytes) = MayBear (natural sup.num_blocks) id name bytes
 MayBeDone sup (calls.AttrRemove id name) = Unit {0}
+MayBeDone sup (calls.IndexMake name kind) = MayIndex name kind
 MayBeDone sup (calls.IndexRemove name) = Unit {0}
 MayBeDone sup _ = ⊥

@@ -1,5 +1,5 @@
-// The calls that are built so far: those that make a node, set a mode, give a file a size, write an attribute, remove a node, an attribute and an
-// index, and those that only read.
+// The calls that are built so far: those that make a node and an index, set a mode, give a file a size, write an attribute, rename a node,
+// remove a node, an attribute and an index, and those that only read.
 ghost use Rattle.std.specs.Prelude.{◌≡◌, ◌≤◌, ℕ, ℤ, List, Option, Some, true, IfOk, IfErr, MatchResult, length};
 ghost use Rattle.bfs_super.specs.Conditions.{IsValid, natural};
 ghost use Rattle.bfs_super.specs.Geometry.{geometry_of};
@@ -19,6 +19,8 @@ ghost use Rattle.bfs_calls.specs.Done.{IsUnanswered, HasAnswerCause};
 ghost use Rattle.bfs_calls.specs.Refusals.{is_own};
 ghost use Rattle.bfs_space.specs.Looks.{IsLooked, FindsMay, FindsOwn, MayBeDone};
 
+use crate::indexing::{build_index, look_make_index};
+use crate::moving::{look_rename, rename};
 use crate::sizing::{give_size, look_set_size};
 use crate::taking::{
     drop_attr, drop_index, look_remove, look_remove_attr, look_remove_index, remove,
@@ -36,8 +38,8 @@ use bfs_tree::{Call, Hold, MakeKind, Reply};
 use bfs_txn::Edits;
 use std::alloc::Global;
 
-/// Answers Make, SetMode, SetSize, Remove, AttrWrite, AttrRemove, IndexRemove, and the calls that only read: Lookup, List, Stat, ReadLink, AttrRead,
-/// AttrList, IndexList and IndexFind.
+/// Answers Make, SetMode, SetSize, Remove, Rename, AttrWrite, AttrRemove, IndexMake, IndexRemove, and the calls that only read: Lookup, List,
+/// Stat, ReadLink, AttrRead, AttrList, IndexList and IndexFind.
 #[derive(Clone, Copy, Debug, Drop)]
 pub struct Calls {}
 
@@ -200,6 +202,22 @@ impl Answers for Calls {
             Call::Remove { dir, name } => {
                 look_remove(alloc, sup, bitmap, edits, holds, *dir, name.as_slice())
             }
+            Call::Rename {
+                dir,
+                name,
+                to_dir,
+                to_name,
+            } => look_rename(
+                alloc,
+                sup,
+                bitmap,
+                edits,
+                holds,
+                *dir,
+                name.as_slice(),
+                *to_dir,
+                to_name.as_slice(),
+            ),
             Call::AttrWrite {
                 id,
                 name,
@@ -216,6 +234,9 @@ impl Answers for Calls {
             ),
             Call::AttrRemove { id, name } => {
                 look_remove_attr(alloc, sup, bitmap, edits, *id, name.as_slice())
+            }
+            Call::IndexMake { name, kind } => {
+                look_make_index(alloc, sup, bitmap, edits, name.as_slice(), *kind)
             }
             Call::IndexRemove { name } => {
                 look_remove_index(alloc, sup, bitmap, edits, name.as_slice())
@@ -289,6 +310,23 @@ impl Answers for Calls {
                 let name = name.as_slice();
                 remove(alloc, sup, bitmap, edits, holds, *dir, name, stamp)
             }
+            Call::Rename {
+                dir,
+                name,
+                to_dir,
+                to_name,
+            } => rename(
+                alloc,
+                sup,
+                bitmap,
+                edits,
+                holds,
+                *dir,
+                name.as_slice(),
+                *to_dir,
+                to_name.as_slice(),
+                stamp,
+            ),
             Call::AttrWrite {
                 id,
                 name,
@@ -307,6 +345,10 @@ impl Answers for Calls {
             ),
             Call::AttrRemove { id, name } => {
                 drop_attr(alloc, sup, bitmap, edits, *id, name.as_slice(), stamp)
+            }
+            Call::IndexMake { name, kind } => {
+                let name = name.as_slice();
+                build_index(alloc, sup, bitmap, edits, name, *kind, stamp)
             }
             Call::IndexRemove { name } => drop_index(alloc, sup, bitmap, edits, name.as_slice()),
             _ => Err(TreeFault::NoMemory),

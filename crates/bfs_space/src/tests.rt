@@ -19,7 +19,7 @@ use bfs_mkfs::{format, layout_with_log};
 use bfs_node::TreeFault;
 use bfs_stream_pages::MapFault;
 use bfs_super::{Super, SuperFault};
-use bfs_tree::{Bytes, Call, Entry, FoundRow, Hold, Key, MakeKind, Reply};
+use bfs_tree::{Bytes, Call, Entry, FoundRow, Hold, Key, KeyKind, MakeKind, Reply};
 use bfs_txn::{BlockFault, Blocks, Changed, Edits, MemBlocks};
 use std::alloc::{AllocError, Global};
 use std::test::Fail;
@@ -326,6 +326,9 @@ fn told_by(reply: &Reply) -> (u8, u64, u64) {
         Reply::NotFile => (23, 0, 0),
         Reply::Held { session } => (24, u64::from(*session), 0),
         Reply::NameBad => (25, 0, 0),
+        Reply::FloatIndex => (26, 0, 0),
+        Reply::IndexCount => (27, 0, 0),
+        Reply::Inside => (28, 0, 0),
         _ => (0, 0, 0),
     }
 }
@@ -552,7 +555,20 @@ fn search(alloc: Global, name: &[u8]) -> Result<Call, AllocError>
     })
 }
 
-/// A call that reads the root's attributes, or indices.
+/// A search of the index `k` for the number whose four bytes are 7 each.
+fn number_search(alloc: Global) -> Result<Call, AllocError>
+    ensures serves { IfOk result (λ call. is_built call ≡ true) }
+    ensures ranges { IfOk result KeepsRanges }
+    ensures other { IfOk result (λ call. call ≢ Sync) }
+{
+    Ok(Call::IndexFind {
+        name: Bytes::from_slice(alloc, b"k")?,
+        low: Key::I32(0x07070707),
+        high: Key::I32(0x07070707),
+    })
+}
+
+/// A call that reads the root's attributes, or indices, or an attribute of the first file.
 fn read_call(alloc: Global, which: u8) -> Result<Call, AllocError>
     ensures serves { IfOk result (λ call. is_built call ≡ true) }
     ensures ranges { IfOk result KeepsRanges }
@@ -572,7 +588,12 @@ fn read_call(alloc: Global, which: u8) -> Result<Call, AllocError>
         4 => Call::IndexList,
         5 => search(alloc, b"name")?,
         6 => search(alloc, b"size")?,
-        _ => search(alloc, b"none")?,
+        7 => search(alloc, b"none")?,
+        8 => number_search(alloc)?,
+        _ => Call::AttrRead {
+            id: 529,
+            name: Bytes::from_slice(alloc, b"k")?,
+        },
     })
 }
 
@@ -936,6 +957,287 @@ fn an_attribute_is_written_read_and_exchanged(rt: HostRuntime) -> Result<(), Fai
     assert_eq!(rt; writes(alloc, &mut mount, 4000, b"k", 1)?, (11, 0, 0));
     assert_eq!(rt; writes(alloc, &mut mount, 514, b"", 1)?, (25, 0, 0));
     assert_eq!(rt; writes(alloc, &mut mount, 514, b"k", 65537)?, (22, 0, 0));
+    Ok(())
+}
+
+/// A call that renames a node.
+fn renaming_call(
+    alloc: Global,
+    dir: u64,
+    name: &[u8],
+    to_dir: u64,
+    to_name: &[u8],
+) -> Result<Call, AllocError>
+    ensures serves { IfOk result (λ call. is_built call ≡ true) }
+    ensures ranges { IfOk result KeepsRanges }
+    ensures other { IfOk result (λ call. call ≢ Sync) }
+{
+    let name = Bytes::from_slice(alloc, name)?;
+    let to_name = Bytes::from_slice(alloc, to_name)?;
+    Ok(Call::Rename {
+        dir,
+        name,
+        to_dir,
+        to_name,
+    })
+}
+
+/// The reply to a call that renames a node.
+fn renames(
+    alloc: Global,
+    mount: &mut Mount,
+    dir: u64,
+    name: &[u8],
+    to_dir: u64,
+    to_name: &[u8],
+) -> Result<(u8, u64, u64), AllocError> {
+    let call = renaming_call(alloc, dir, name, to_dir, to_name)?;
+    let answers = Calls {};
+    match mount
+        .space
+        .call(&answers, &mut mount.under, 1, 8, 1000, call)?
+    {
+        Outcome::Replied => match mount.space.history().last() {
+            Some(entry) => Ok(told_by(&entry.reply)),
+            None => Ok((0, 0, 0)),
+        },
+        Outcome::Drain(_) => Ok((5, 0, 0)),
+    }
+}
+
+/// What is read of the file and of both directories after a rename: the file's parent, how many names the directories have, and the file that the
+/// index of names lists under `a`.
+fn places(alloc: Global, mount: &mut Mount) -> Result<[(u8, u64, u64); 4], AllocError> {
+    let file = asks_of(mount, 1, 529)?;
+    let root = asks_of(mount, 2, 514)?;
+    let dir = asks_of(mount, 2, 530)?;
+    let listed = reads(alloc, mount, 5)?;
+    Ok([file, root, dir, listed])
+}
+
+/// A mount of a new volume with the file `a` and the directory `d` in its root: 529 and 530. None where they can't be made.
+fn mount_of_two(alloc: Global) -> Result<Option<Mount>, Fail> {
+    let Some(bytes) = new_volume(alloc, 4096, 512)? else {
+        return Ok(None);
+    };
+    let Some(mut mount) = mounts(alloc, bytes, 4096)? else {
+        return Ok(None);
+    };
+    let file = asks(alloc, &mut mount, 514, b'a', MakeKind::File)?;
+    let dir = asks(alloc, &mut mount, 514, b'd', MakeKind::Dir)?;
+    if file != (1, 529, 0) || dir != (1, 530, 0) {
+        return Ok(None);
+    }
+    Ok(Some(mount))
+}
+
+#[test]
+fn a_node_is_renamed_in_its_directory_and_into_another(rt: HostRuntime) -> Result<(), Fail> {
+    let alloc = rt.alloc();
+    let Some(mut mount) = mount_of_two(alloc)? else {
+        return Err(Fail::from("no mount"));
+    };
+    // From, to, the parent then, the names in the root and in the other directory, and what is listed under `a`.
+    let table: [((u64, u8), (u64, u8), u64, u64, u64, (u64, u64)); 4] = [
+        ((514, b'a'), (530, b'b'), 530, 1, 1, (0, 0)),
+        ((530, b'b'), (530, b'a'), 530, 1, 1, (1, 529)),
+        ((530, b'a'), (530, b'a'), 530, 1, 1, (1, 529)),
+        ((530, b'a'), (514, b'a'), 514, 2, 0, (1, 529)),
+    ];
+    for (from, to, parent, root, dir, (rows, first)) in table {
+        let reply = renames(alloc, &mut mount, from.0, &[from.1], to.0, &[to.1])?;
+        assert_eq!(rt; reply, (6, 0, 0));
+        let wanted = [
+            (7, 0o755, parent),
+            (8, root, 0),
+            (8, dir, 0),
+            (16, rows, first),
+        ];
+        assert_eq!(rt; places(alloc, &mut mount)?, wanted);
+    }
+    Ok(())
+}
+
+#[test]
+fn a_node_takes_the_place_of_another_or_its_name_is_refused(rt: HostRuntime) -> Result<(), Fail> {
+    let alloc = rt.alloc();
+    let Some(mut mount) = mount_of_two(alloc)? else {
+        return Err(Fail::from("no mount"));
+    };
+    let other = asks(alloc, &mut mount, 530, b'b', MakeKind::File)?;
+    assert_eq!(rt; other, (1, 533, 0));
+    // No such name, no directory to leave or to come to, a bad name, a directory into itself, one over a file and the other way round, and
+    // at last a file over a file.
+    let table: [((u64, u8), (u64, u8), u8); 8] = [
+        ((514, b'x'), (514, b'y'), 11),
+        ((529, b'x'), (514, b'y'), 21),
+        ((514, b'a'), (529, b'y'), 21),
+        ((514, b'a'), (514, b'/'), 25),
+        ((514, b'd'), (530, b'e'), 28),
+        ((514, b'd'), (514, b'a'), 2),
+        ((514, b'a'), (514, b'd'), 2),
+        ((530, b'b'), (514, b'a'), 6),
+    ];
+    for (from, to, reply) in table {
+        let said = renames(alloc, &mut mount, from.0, &[from.1], to.0, &[to.1])?;
+        assert_eq!(rt; said, (reply, 0, 0));
+    }
+    let wanted = [(11, 0, 0), (8, 2, 0), (8, 0, 0), (16, 1, 533)];
+    assert_eq!(rt; places(alloc, &mut mount)?, wanted);
+    Ok(())
+}
+
+/// Renames the file in the root, reads its attribute, and lets the group leave the log: the reply, what is read, and the used blocks.
+fn renames_and_drains(
+    alloc: Global,
+    mount: &mut Mount,
+    name: &[u8],
+    to_name: &[u8],
+) -> Result<((u8, u64, u64), (u8, u64, u64), u64), AllocError> {
+    let reply = renames(alloc, mount, 514, name, 514, to_name)?;
+    let read = reads(alloc, mount, 9)?;
+    Ok((reply, read, drains(mount)))
+}
+
+#[test]
+fn an_attribute_moves_out_of_small_data_for_a_longer_name(rt: HostRuntime) -> Result<(), Fail> {
+    let alloc = rt.alloc();
+    let Some(mut mount) = mount_of_two(alloc)? else {
+        return Err(Fail::from("no mount"));
+    };
+    // Of 792 bytes the attribute takes 613, and a name 13 more than its bytes.
+    assert_eq!(rt; writes(alloc, &mut mount, 529, b"k", 600)?, (6, 0, 0));
+    assert_eq!(rt; drains(&mut mount), 533);
+    // The attribute has an inode and a block then, and the attribute directory an inode and two.
+    let long = [b'n'; 255];
+    let wanted = ((6, 0, 0), (12, 0x4c4f4e47, 600), 538);
+    assert_eq!(rt; renames_and_drains(alloc, &mut mount, b"a", &long)?, wanted);
+    assert_eq!(rt; renames_and_drains(alloc, &mut mount, &long, b"a")?, wanted);
+    Ok(())
+}
+
+/// A call that makes an index.
+fn indexing_call(alloc: Global, name: &[u8], kind: KeyKind) -> Result<Call, AllocError>
+    ensures serves { IfOk result (λ call. is_built call ≡ true) }
+    ensures ranges { IfOk result KeepsRanges }
+    ensures other { IfOk result (λ call. call ≢ Sync) }
+{
+    let name = Bytes::from_slice(alloc, name)?;
+    Ok(Call::IndexMake { name, kind })
+}
+
+/// The reply to a call that makes an index.
+fn indexes(
+    alloc: Global,
+    mount: &mut Mount,
+    name: &[u8],
+    kind: KeyKind,
+) -> Result<(u8, u64, u64), AllocError> {
+    let call = indexing_call(alloc, name, kind)?;
+    let answers = Calls {};
+    match mount
+        .space
+        .call(&answers, &mut mount.under, 1, 7, 1000, call)?
+    {
+        Outcome::Replied => match mount.space.history().last() {
+            Some(entry) => Ok(told_by(&entry.reply)),
+            None => Ok((0, 0, 0)),
+        },
+        Outcome::Drain(_) => Ok((5, 0, 0)),
+    }
+}
+
+#[test]
+fn an_index_lists_the_nodes_that_have_its_attribute(rt: HostRuntime) -> Result<(), Fail> {
+    let alloc = rt.alloc();
+    let Some(bytes) = new_volume(alloc, 4096, 512)? else {
+        return Err(Fail::from("no volume"));
+    };
+    let Some(mut mount) = mounts(alloc, bytes, 4096)? else {
+        return Err(Fail::from("no mount"));
+    };
+    let done = (6, 0, 0);
+    let file = asks(alloc, &mut mount, 514, b'a', MakeKind::File)?;
+    assert_eq!(rt; file, (1, 529, 0));
+    let other = asks(alloc, &mut mount, 514, b'b', MakeKind::File)?;
+    assert_eq!(rt; other, (1, 530, 0));
+    // Five bytes are no number, so that the third node has no row.
+    assert_eq!(rt; writes(alloc, &mut mount, 514, b"k", 4)?, done);
+    assert_eq!(rt; writes(alloc, &mut mount, 529, b"k", 4)?, done);
+    assert_eq!(rt; writes(alloc, &mut mount, 530, b"k", 5)?, done);
+    assert_eq!(rt; reads(alloc, &mut mount, 8)?, (18, 0, 0));
+    assert_eq!(rt; indexes(alloc, &mut mount, b"k", KeyKind::I32)?, done);
+    assert_eq!(rt; reads(alloc, &mut mount, 4)?, (15, 4, 0));
+    assert_eq!(rt; reads(alloc, &mut mount, 8)?, (16, 2, 514));
+    // The calls after it keep it.
+    assert_eq!(rt; drops(alloc, &mut mount, 514, b"k")?, done);
+    assert_eq!(rt; reads(alloc, &mut mount, 8)?, (16, 1, 529));
+    assert_eq!(rt; writes(alloc, &mut mount, 530, b"k", 4)?, done);
+    assert_eq!(rt; reads(alloc, &mut mount, 8)?, (16, 2, 529));
+    assert_eq!(rt; takes(alloc, &mut mount, 0, b"k", true)?, done);
+    assert_eq!(rt; reads(alloc, &mut mount, 8)?, (18, 0, 0));
+    Ok(())
+}
+
+/// Makes indices without rows, their names the letters from `A`, each in a group of its own, and tells whether all were made.
+fn make_letters(alloc: Global, mount: &mut Mount, letters: u8) -> Result<bool, AllocError>
+    requires few { letters ≤ 64 }
+{
+    for i in 0..letters {
+        let reply = indexes(alloc, mount, &[b'A' + i], KeyKind::Text)?;
+        if reply.0 != 6 || drains(mount) == 0 {
+            return Ok(false);
+        }
+    }
+    Ok(true)
+}
+
+/// Takes the index directory out of the superblock of a volume.
+fn without_indices(bytes: &mut [u8]) -> bool {
+    if bytes.len() < 1024 {
+        return false;
+    }
+    for i in 636..644 {
+        bytes[i] = 0;
+    }
+    true
+}
+
+#[test]
+fn an_index_is_refused(rt: HostRuntime) -> Result<(), Fail> {
+    let alloc = rt.alloc();
+    let Some(bytes) = new_volume(alloc, 4096, 512)? else {
+        return Err(Fail::from("no volume"));
+    };
+    let Some(mut mount) = mounts(alloc, bytes, 4096)? else {
+        return Err(Fail::from("no mount"));
+    };
+    assert_eq!(rt;
+        indexes(alloc, &mut mount, b"name", KeyKind::F32)?,
+        (2, 0, 0)
+    );
+    assert_eq!(rt; indexes(alloc, &mut mount, b"k", KeyKind::F32)?, (26, 0, 0));
+    assert_eq!(rt; indexes(alloc, &mut mount, b"k", KeyKind::F64)?, (26, 0, 0));
+    assert_eq!(rt; indexes(alloc, &mut mount, b"", KeyKind::I32)?, (25, 0, 0));
+    assert!(rt; make_letters(alloc, &mut mount, 29)?);
+    assert_eq!(rt; reads(alloc, &mut mount, 4)?, (15, 32, 0));
+    assert_eq!(rt; indexes(alloc, &mut mount, b"A", KeyKind::I32)?, (2, 0, 0));
+    assert_eq!(rt; indexes(alloc, &mut mount, b"k", KeyKind::I32)?, (27, 0, 0));
+    Ok(())
+}
+
+#[test]
+fn no_index_is_made_where_there_is_no_index_directory(rt: HostRuntime) -> Result<(), Fail> {
+    let alloc = rt.alloc();
+    let Some(mut bytes) = new_volume(alloc, 4096, 512)? else {
+        return Err(Fail::from("no volume"));
+    };
+    assert!(rt; without_indices(&mut bytes));
+    let Some(mut mount) = mounts(alloc, bytes, 4096)? else {
+        return Err(Fail::from("no mount"));
+    };
+    assert_eq!(rt; indexes(alloc, &mut mount, b"k", KeyKind::I32)?, (18, 0, 0));
+    assert_eq!(rt; indexes(alloc, &mut mount, b"k", KeyKind::F32)?, (18, 0, 0));
     Ok(())
 }
 

@@ -3,7 +3,7 @@ use Rattle.std.specs.FinMap.{empty}
 use Rattle.std.specs.Prelude.{IfOk}
 use Rattle.bfs_super.specs.Geometry.{geometry_of}
 use Rattle.bfs_tree.specs.declared.call.Call.{Call}
-use Rattle.bfs_tree.specs.declared.call.Call.TheVariants.{Make, SetMode, SetSize, Remove, AttrWrite, AttrRemove, IndexRemove}
+use Rattle.bfs_tree.specs.declared.call.Call.TheVariants.{Make, SetMode, SetSize, Remove, Rename, AttrWrite, AttrRemove, IndexMake, IndexRemove}
 use Rattle.bfs_tree.specs.declared.reply.Reply.TheVariants.{Done, Made}
 use Rattle.bfs_tree.specs.declared.reply.Reply.{Reply}
 use Rattle.bfs_tree.specs.Refusals.{own_refusal}
@@ -120,3 +120,34 @@ returns-in-AttrWrite-clause-answered g c m tree lists told ready =
     let so : ℤ → Call → Reply → Type 0 = λ z x reply. IsAnswered v c.args.bitmap.now n.bitmap m tree c.args.holds.now z x reply (g.E.Blocks.told n.edits) (g.E.Blocks.changed c.args.edits.now) (g.E.Blocks.changed n.edits) in
     subst (λ (x : Call). IfOk c.put_attr.result (so c.args.stamp x)) (sym is)
     (subst (λ (z : ℤ). IfOk c.put_attr.result (so z here)) e (c.put_attr.ensures.answered m tree lists c.args.holds.now told ready))
+
+pub build_index-requires-clause-fine : goal.build_index-requires-clause-fine
+build_index-requires-clause-fine g c m tree lists s told ready same =
+    let is : c.args.call.now ≡ IndexMake c.as_slice-name-in-IndexMake.result.now c.in-IndexMake.kind = c.in-IndexMake.is ∙ ap (λ (n : List ℕ). IndexMake n c.in-IndexMake.kind) (sym c.as_slice-name-in-IndexMake.ensures) in
+    subst (λ (x : Call). own_refusal x (record { tree = s.tree; holds = c.args.holds.now; known = s.known }) ≡ None) is (c.requires.fine m tree lists (record { tree = s.tree; holds = c.args.holds.now; known = s.known }) told ready same refl)
+
+pub returns-in-IndexMake-clause-answered : goal.returns-in-IndexMake-clause-answered
+returns-in-IndexMake-clause-answered g c m tree lists told ready =
+    let v = geometry_of c.args.sup.now in
+    let n = c.build_index.new in
+    let is : c.args.call.now ≡ IndexMake c.as_slice-name-in-IndexMake.result.now c.in-IndexMake.kind = c.in-IndexMake.is ∙ ap (λ (l : List ℕ). IndexMake l c.in-IndexMake.kind) (sym c.as_slice-name-in-IndexMake.ensures) in
+    let e : to_z w64 (of_z w64 c.args.stamp) ≡ c.args.stamp = search rules in
+    let so : ℤ → Call → Reply → Type 0 = λ z x reply. IsAnswered v c.args.bitmap.now n.bitmap m tree c.args.holds.now z x reply (g.E.Blocks.told n.edits) (g.E.Blocks.changed c.args.edits.now) (g.E.Blocks.changed n.edits) in
+    subst (λ (x : Call). IfOk c.build_index.result (so c.args.stamp x)) (sym is)
+    (subst (λ (z : ℤ). IfOk c.build_index.result (so z (IndexMake c.as_slice-name-in-IndexMake.result.now c.in-IndexMake.kind))) e (c.build_index.ensures.answered m tree lists c.args.holds.now told ready))
+
+pub rename-requires-clause-fine : goal.rename-requires-clause-fine
+rename-requires-clause-fine g c m tree lists s told ready same held =
+    let is : c.args.call.now ≡ Rename c.in-Rename.dir c.as_slice-in-Rename.result.now c.in-Rename.to_dir c.as_slice-in-Rename-2.result.now = search rules in
+    subst (λ (x : Call). own_refusal x s ≡ None) is (c.requires.fine m tree lists s told ready same held)
+
+pub returns-in-Rename-clause-answered : goal.returns-in-Rename-clause-answered
+returns-in-Rename-clause-answered g c m tree lists told ready =
+    let v = geometry_of c.args.sup.now in
+    let n = c.rename.new in
+    let here : Call = Rename c.in-Rename.dir c.as_slice-in-Rename.result.now c.in-Rename.to_dir c.as_slice-in-Rename-2.result.now in
+    let is : c.args.call.now ≡ here = search rules in
+    let e : to_z w64 (of_z w64 c.args.stamp) ≡ c.args.stamp = search rules in
+    let so : ℤ → Call → Reply → Type 0 = λ z x reply. IsAnswered v c.args.bitmap.now n.bitmap m tree c.args.holds.now z x reply (g.E.Blocks.told n.edits) (g.E.Blocks.changed c.args.edits.now) (g.E.Blocks.changed n.edits) in
+    subst (λ (x : Call). IfOk c.rename.result (so c.args.stamp x)) (sym is)
+    (subst (λ (z : ℤ). IfOk c.rename.result (so z here)) e (c.rename.ensures.answered m tree lists told ready))

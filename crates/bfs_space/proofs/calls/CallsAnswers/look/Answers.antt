@@ -202,3 +202,23 @@ pub returns-in-AttrWrite-clause-may : goal.returns-in-AttrWrite-clause-may
 returns-in-AttrWrite-clause-may g c =
     let is : c.args.call.now ≡ calls.AttrWrite c.in-AttrWrite.id c.as_slice-in-AttrWrite.result.now c.in-AttrWrite.kind c.as_slice-in-AttrWrite-2.result.now = search rules in
     subst (λ (x : Call). IfOk c.look_write_attr.result (FindsMay MayBeDone c.args.sup.now x)) (sym is) (c.look_write_attr.ensures.may c.in-AttrWrite.kind)
+
+pub returns-in-IndexMake-clause-looked : goal.returns-in-IndexMake-clause-looked
+returns-in-IndexMake-clause-looked g c m tree lists told ready =
+    let is : c.args.call.now ≡ calls.IndexMake c.as_slice-in-IndexMake.result.now c.in-IndexMake.kind = c.in-IndexMake.is ∙ ap (λ (n : List ℕ). calls.IndexMake n c.in-IndexMake.kind) (sym c.as_slice-in-IndexMake.ensures) in
+    subst (λ (x : Call). IfOk c.look_make_index.result (IsLooked (geometry_of c.args.sup.now) m tree c.args.holds.now x)) (sym is) (c.look_make_index.ensures.looked m tree lists c.args.holds.now told ready)
+
+pub returns-in-IndexMake-clause-may : goal.returns-in-IndexMake-clause-may
+returns-in-IndexMake-clause-may g c =
+    let is : c.args.call.now ≡ calls.IndexMake c.as_slice-in-IndexMake.result.now c.in-IndexMake.kind = c.in-IndexMake.is ∙ ap (λ (n : List ℕ). calls.IndexMake n c.in-IndexMake.kind) (sym c.as_slice-in-IndexMake.ensures) in
+    subst (λ (x : Call). IfOk c.look_make_index.result (FindsMay MayBeDone c.args.sup.now x)) (sym is) c.look_make_index.ensures.may
+
+pub returns-in-Rename-clause-looked : goal.returns-in-Rename-clause-looked
+returns-in-Rename-clause-looked g c m tree lists told ready =
+    let is : c.args.call.now ≡ calls.Rename c.in-Rename.dir c.as_slice-in-Rename.result.now c.in-Rename.to_dir c.as_slice-in-Rename-2.result.now = search rules in
+    subst (λ (x : Call). IfOk c.look_rename.result (IsLooked (geometry_of c.args.sup.now) m tree c.args.holds.now x)) (sym is) (c.look_rename.ensures.looked m tree lists told ready)
+
+pub returns-in-Rename-clause-may : goal.returns-in-Rename-clause-may
+returns-in-Rename-clause-may g c =
+    let is : c.args.call.now ≡ calls.Rename c.in-Rename.dir c.as_slice-in-Rename.result.now c.in-Rename.to_dir c.as_slice-in-Rename-2.result.now = search rules in
+    subst (λ (x : Call). IfOk c.look_rename.result (FindsMay MayBeDone c.args.sup.now x)) (sym is) c.look_rename.ensures.may

@@ -7,3 +7,4 @@ pub mod Closed
 pub mod Images
 pub mod Ends
 pub mod Happens
+pub mod Mounting

@@ -1,3 +1,4 @@
+pub mod Mounts
 pub mod Volumes
 pub mod Faults
 pub mod Entries

@@ -7,12 +7,14 @@
 mod calls;
 mod event;
 mod events;
+mod mount;
 mod notes;
 mod settle;
 mod volume;
 
 pub use event::{Event, Happened};
 pub use events::SyncFault;
+pub use mount::Unmounted;
 pub use volume::Volume;
 
 #[cfg(test)]

@@ -6,10 +6,13 @@ ghost use Rattle.bfs_device_blocks.specs.Lent.{HasCore};
 ghost use Rattle.bfs_volume.specs.Volumes.{HasTree, VolumeView};
 ghost use Rattle.bfs_volume.specs.Events.{MayHappen};
 
-use crate::{Event, Happened, Volume};
+use crate::{Event, Happened, Unmounted, Volume};
 use bfs_disk::{Disk, MemDisk};
+use bfs_finding::Finding;
 use bfs_mkfs::{format, layout_with_log};
 use bfs_ports::Fixed;
+use bfs_replay::MountFault;
+use bfs_super::SuperFault;
 use bfs_tree::{Bytes, Call, MakeKind, Reply};
 use std::alloc::{AllocError, Global};
 use std::test::Fail;
@@ -340,5 +343,69 @@ fn what_a_crash_leaves_after_events_is_a_prefix_of_what_was_made(
     }
     // (and so not of volumes on which nothing was acknowledged)
     assert!(rt; most > 4);
+    Ok(())
+}
+
+/// What came of a mount behind a check.
+#[derive(Clone, Copy, Debug, PartialEq, Eq)]
+enum Mounting {
+    Mounted(usize),
+    Short(u64, u64),
+    Refused(SuperFault),
+    Extra(u64),
+    Inode(u64),
+    Other,
+}
+
+/// Why a volume wasn't mounted.
+fn told_by(refusal: Unmounted) -> Mounting {
+    match refusal {
+        Unmounted::Unread(MountFault::Short { sectors, needed }) => {
+            Mounting::Short(sectors, needed)
+        }
+        Unmounted::Unread(MountFault::Super(fault)) => Mounting::Refused(fault),
+        Unmounted::Wrong(Finding::BitExtra { block }) => Mounting::Extra(block),
+        Unmounted::Wrong(Finding::Inode { block, .. }) => Mounting::Inode(block),
+        _ => Mounting::Other,
+    }
+}
+
+/// Mounts the image of a new volume behind a check, with another byte at a place, and so many bytes long.
+fn mounts_with(alloc: Global, at: usize, byte: u8, length: usize) -> Result<Mounting, AllocError> {
+    let Some(mut image) = new_image(alloc)? else {
+        return Err(AllocError);
+    };
+    if at < image.len() {
+        image[at] = byte;
+    }
+    image.truncate(length);
+    if image.len() % 512 != 0 {
+        return Err(AllocError);
+    }
+    let disk = MemDisk::failing(alloc, image, Vec::new(alloc));
+    match Volume::mount(alloc, disk, Fixed::clock(1000), 8) {
+        Ok(volume) => Ok(Mounting::Mounted(volume.history().len())),
+        Err((refusal, _, _)) => Ok(told_by(refusal)),
+    }
+}
+
+#[test]
+fn a_volume_is_mounted_only_where_it_is_whole(rt: HostRuntime) -> Result<(), Fail> {
+    let alloc = rt.alloc();
+    // (the root is at block 66, behind the log, and 81 blocks are in use)
+    let magic = SuperFault::Magic {
+        which: 1,
+        found: 0x4246_5300,
+    };
+    let table: [(usize, u8, usize, Mounting); 5] = [
+        (0, 0, 614_400, Mounting::Mounted(0)),
+        (0, 0, 1024, Mounting::Short(2, 1200)),
+        (544, 0, 614_400, Mounting::Refused(magic)),
+        (1036, 0x10, 614_400, Mounting::Extra(100)),
+        (67_584, 0, 614_400, Mounting::Inode(66)),
+    ];
+    for (at, byte, length, wanted) in table {
+        assert_eq!(rt; mounts_with(alloc, at, byte, length)?, wanted);
+    }
     Ok(())
 }

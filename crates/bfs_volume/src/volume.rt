@@ -7,12 +7,15 @@ ghost use Rattle.bfs_tree.specs.declared.call.Call.TheVariants.{Sync};
 ghost use Rattle.bfs_tree.specs.declared.reply.Reply.TheVariants.{Synced};
 ghost use Rattle.bfs_tree.specs.Answers.{KeepsRanges};
 ghost use Rattle.bfs_tree.specs.Histories.{Mounted, after};
+ghost use Rattle.bfs_tree.specs.Trees.{Tree};
+ghost use Rattle.bfs_super.specs.Conditions.{IsValid};
 ghost use Rattle.bfs_sound.specs.Whole.{Recovers};
-ghost use Rattle.bfs_device.specs.Books.{durable_of};
+ghost use Rattle.bfs_device.specs.Books.{IsOnDisk, durable_of};
 ghost use Rattle.bfs_core.specs.Cores.{RecoversFrom};
 ghost use Rattle.bfs_device_blocks.specs.Lent.{HasCore};
 ghost use Rattle.bfs_space.specs.Looks.{is_built};
 ghost use Rattle.bfs_volume.specs.Volumes.{MayBeMounted};
+ghost use Rattle.bfs_volume.specs.Mounts.{IsHeld, IsHeldWhole, IsUnmounted, HasUnmountedCause};
 ghost use Rattle.bfs_volume.specs.Entries.{HasEntry, HasEntryOf, HasFailedSync, HasReplyIn, IsAnsweredIn, IsEnded};
 ghost use Rattle.bfs_volume.specs.Events.{MayHappen, MayWantMemory, IsHappened, HasReplied};
 ghost use Rattle.bfs_volume.specs.Causes.{HasSyncCause, HasStopCause};
@@ -20,6 +23,7 @@ ghost use Rattle.bfs_volume.specs.Causes.{HasSyncCause, HasStopCause};
 use crate::calls::{answer, sync};
 use crate::event::{Event, Happened, as_happened, attempt, seal_open};
 use crate::events::{SyncFault, step};
+use crate::mount::{Unmounted, replay_and_check};
 use crate::settle::settle;
 use bfs_cache::Cache;
 use bfs_device::{Device, DeviceFault};
@@ -27,6 +31,7 @@ use bfs_disk::Disk;
 use bfs_ports::Clock;
 use bfs_replay::{MountFault, recover};
 use bfs_space::{Calls, Space};
+use bfs_super::Super;
 use bfs_tree::{Call, Entry};
 use std::alloc::{AllocError, Global};
 use std::marker::Model;
@@ -51,6 +56,47 @@ impl<D: Disk, C: Clock> Model for Volume<D, C> {
 }
 
 impl<D: Disk, C: Clock> Volume<D, C> {
+    /// Opens a volume whose log was replayed, and that is whole. Takes memory alone: for want of it disk and clock are handed back.
+    fn open_replayed(
+        alloc: Global,
+        disk: D,
+        clock: C,
+        cache: u32,
+        sup: Super,
+    ) -> Result<Volume<D, C>, (D, C)>
+        requires valid { IsValid sup }
+        requires empty { sup.log_start ≡ sup.log_end }
+        requires on_disk { IsOnDisk (D.size disk) sup }
+        requires whole { IsHeldWhole sup (D.state disk) }
+        ensures core { (t0 : Mounted) (image : List ℕ) → Tells (D.state disk) (Holds image) → Recovers image t0.tree
+            → IfOk result (λ v. HasCore t0 (D.clock v.device.disk) v.space.view v.device.books (D.state v.device.disk) (D.clock v.device.disk) (D.since v.device.disk)) }
+        ensures fresh { IfOk result (λ v. v.space.view.history ≡ []) }
+        ensures disk { IfOk result (λ v. v.device.disk ≡ disk) }
+        ensures back { IfErr result (λ e. e.0 ≡ disk) }
+    {
+        // (a whole volume has no more blocks in use than there are)
+        let geometry = sup.geometry();
+        if geometry.used > geometry.blocks {
+            return Err((disk, clock));
+        }
+        let Ok(kept) = Cache::new(alloc, cache) else {
+            return Err((disk, clock));
+        };
+        let Ok(space) = Space::open(alloc, sup) else {
+            return Err((disk, clock));
+        };
+        let device = match Device::adopt(alloc, disk, sup) {
+            Ok(device) => device.cached(kept),
+            Err(disk) => return Err((disk, clock)),
+        };
+        device.steady();
+        Ok(Volume {
+            space,
+            device,
+            clock,
+        })
+    }
+
     /// Opens a volume that is known to be whole, with an empty history, after its log was replayed. `cache` is for how many read blocks there is
     /// room. Where it can't be opened, disk and clock are handed back.
     pub fn open(
@@ -72,27 +118,39 @@ impl<D: Disk, C: Clock> Volume<D, C> {
             Ok(sup) => sup,
             Err(fault) => return Err((fault, disk, clock)),
         };
-        // (a whole volume has no more blocks in use than there are)
-        let geometry = sup.geometry();
-        if geometry.used > geometry.blocks {
-            return Err((MountFault::NoMemory, disk, clock));
+        match Volume::open_replayed(alloc, disk, clock, cache, sup) {
+            Ok(volume) => Ok(volume),
+            Err((disk, clock)) => Err((MountFault::NoMemory, disk, clock)),
         }
-        let Ok(kept) = Cache::new(alloc, cache) else {
-            return Err((MountFault::NoMemory, disk, clock));
+    }
+
+    /// Mounts a volume: replays its log, checks it, and opens it with an empty history where it is whole. `cache` is for how many read blocks there
+    /// is room. Where it isn't mounted, disk and clock are handed back.
+    pub fn mount(
+        alloc: Global,
+        disk: D,
+        clock: C,
+        cache: u32,
+    ) -> Result<Volume<D, C>, (Unmounted, D, C)>
+        requires held { IsHeld (D.state disk) }
+        // It is mounted only where the image recovers, and then to the one tree that it recovers to.
+        ensures recovers { (image : List ℕ) → Tells (D.state disk) (Holds image) → OnOk result ((tree : Tree) × Recovers image tree) }
+        ensures core { (t0 : Mounted) (image : List ℕ) → Tells (D.state disk) (Holds image) → Recovers image t0.tree
+            → IfOk result (λ v. HasCore t0 (D.clock v.device.disk) v.space.view v.device.books (D.state v.device.disk) (D.clock v.device.disk) (D.since v.device.disk)) }
+        ensures fresh { IfOk result (λ v. v.space.view.history ≡ []) }
+        // Why it isn't mounted is true of what the disk held, and a failed disk has its cause.
+        ensures refused { (image : List ℕ) → Tells (D.state disk) (Holds image) → IfErr result (λ e. IsUnmounted image e.0) }
+        ensures cause { IfErr result (λ e. HasUnmountedCause (D.faults disk) (D.faults e.1) e.0) }
+    {
+        let mut disk = disk;
+        let sup = match replay_and_check(alloc, &mut disk) {
+            Ok(sup) => sup,
+            Err(refusal) => return Err((refusal, disk, clock)),
         };
-        let Ok(space) = Space::open(alloc, sup) else {
-            return Err((MountFault::NoMemory, disk, clock));
-        };
-        let device = match Device::adopt(alloc, disk, sup) {
-            Ok(device) => device.cached(kept),
-            Err(disk) => return Err((MountFault::NoMemory, disk, clock)),
-        };
-        device.steady();
-        Ok(Volume {
-            space,
-            device,
-            clock,
-        })
+        match Volume::open_replayed(alloc, disk, clock, cache, sup) {
+            Ok(volume) => Ok(volume),
+            Err((disk, clock)) => Err((Unmounted::Unread(MountFault::NoMemory), disk, clock)),
+        }
     }
 
     /// The entries, in their order. Takes no memory.

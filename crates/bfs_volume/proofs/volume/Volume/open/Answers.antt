@@ -1,57 +1,13 @@
-use Rattle.std.proofs.Common.{◌≡◌, ◌∙◌, true, sym, ap, subst, arith}
-use Rattle.bfs_super.specs.declared.sup.Super.{Super}
-use Rattle.bfs_log.specs.Replay.{super_of}
-use Rattle.bfs_device.specs.Books.{Books, IsOnDisk, View}
-use Rattle.bfs_device.specs.Seals.{adopted}
-use Rattle.bfs_device.specs.Ahead.{IsSteady}
-use Rattle.bfs_core.specs.Spaces.{opened}
-use Rattle.bfs_core.proofs.Mounts.{mount_event}
-use Rattle.bfs_device_blocks.specs.Lent.{HasCore}
-use Rattle.bfs_device_blocks.proofs.Holding.{hold}
-use Rattle.bfs_space.specs.Books.{SpaceBooks}
-use Rattle.bfs_volume.specs.Volumes.{AreJoined}
-use Rattle.bfs_volume.proofs.Opened.{joined_first}
+use Rattle.std.proofs.Common.{true}
+use Rattle.bfs_core.proofs.Openings.{whole_of}
+use Rattle.bfs_volume.proofs.Mounting.{mounted_whole, whole_recovers}
 use Rattle.bfs_volume.proofs.volume.Volume.open.Goals as goal
 
-pub invariant_of-result : goal.invariant_of-result
-invariant_of-result g c =
-    let s = c.in-Ok.sup in
-    let disk = c.recover.new.disk in
-    let d = c.in-Ok-adopt.device in
-    let v = c.cached-device.result in
-    let space = c.in-Ok-open.space in
-    let is : v ≡ d = c.cached-device.ensures in
-    let books : d.books ≡ adopted s = c.in-Ok-adopt.ensures.ok.1 in
-    let same : d.disk ≡ disk = c.in-Ok-adopt.ensures.ok.0 in
-    let on : IsOnDisk (g.D.Disk.size disk) s =
-    subst (λ k. IsOnDisk (g.D.Disk.size k) s) same (subst (λ (b : Books). IsOnDisk (g.D.Disk.size d.disk) b.sup) books (subst (λ (x : View g.row.D.Denot). IsOnDisk (g.D.Disk.size x.disk) x.books.sup) is c.steady.ensures.on_disk)) in
-    let steady : IsSteady (adopted s) = subst IsSteady (ap (λ (x : View g.row.D.Denot). x.books) is ∙ books) c.steady.ensures.steady in
-    let first = joined_first (g.D.Disk.state c.args.disk) (g.D.Disk.state disk) (g.D.Disk.size disk) s c.requires.whole c.in-Ok.ensures.silent (λ quiet image q held. c.in-Ok.ensures.recovered true image held) (g.met.D.Disk.filled disk) (g.met.D.Disk.sized disk) on steady in
-    let spare : v.books.spare ≡ 1 = ap (λ (x : View g.row.D.Denot). x.books.spare) is ∙ ap (λ (b : Books). b.spare) books in (
-      subst (λ (x : View g.row.D.Denot). AreJoined space x.books (g.D.Disk.state x.disk)) (sym is)
-          (subst (λ k. AreJoined space d.books (g.D.Disk.state k)) (sym same) (subst (λ (b : Books). AreJoined space b (g.D.Disk.state disk)) (sym books) (subst (λ (x : SpaceBooks). AreJoined x (adopted s) (g.D.Disk.state disk)) (sym c.in-Ok-open.ensures) first))),
-      ap (λ (x : SpaceBooks). x.promised) c.in-Ok-open.ensures,
-      omega (arith, spare),
-    )
+pub open_replayed-requires-clause-whole : goal.open_replayed-requires-clause-whole
+open_replayed-requires-clause-whole g c st is =
+    mounted_whole (g.D.Disk.state c.args.disk) (g.D.Disk.state c.recover.new.disk) c.in-Ok.sup c.requires.whole c.in-Ok.ensures.silent (λ image held. c.in-Ok.ensures.recovered true image held) st is
 
-pub returns-clause-core : goal.returns-clause-core
-returns-clause-core g c = λ t0 image held recovers.
-    let s = c.in-Ok.sup in
-    let disk = c.recover.new.disk in
-    let d = c.in-Ok-adopt.device in
-    let v = c.cached-device.result in
-    let space = c.in-Ok-open.space in
-    let is : v ≡ d = c.cached-device.ensures in
-    let books : d.books ≡ adopted s = c.in-Ok-adopt.ensures.ok.1 in
-    let same : d.disk ≡ disk = c.in-Ok-adopt.ensures.ok.0 in
-    let on : IsOnDisk (g.D.Disk.size disk) s =
-    subst (λ k. IsOnDisk (g.D.Disk.size k) s) same (subst (λ (b : Books). IsOnDisk (g.D.Disk.size d.disk) b.sup) books (subst (λ (x : View g.row.D.Denot). IsOnDisk (g.D.Disk.size x.disk) x.books.sup) is c.steady.ensures.on_disk)) in
+pub returns-in-Ok-open_replayed-clause-core : goal.returns-in-Ok-open_replayed-clause-core
+returns-in-Ok-open_replayed-clause-core g c t0 image held recovers =
     let got = c.in-Ok.ensures.recovered true image held in
-    let core = mount_event t0 image got.0 (g.D.Disk.state disk) (g.D.Disk.size disk) (g.D.Disk.clock disk) (g.D.Disk.since disk) recovers got.1 got.2 (g.met.D.Disk.filled disk) (g.met.D.Disk.sized disk) (subst (IsOnDisk (g.D.Disk.size disk)) got.3 on) (g.met.D.Disk.only_now disk) in
-    let here : HasCore t0 (g.D.Disk.clock disk) (opened s) (adopted s) (g.D.Disk.state disk) (g.D.Disk.clock disk) (g.D.Disk.since disk) =
-    subst (λ (x : Super). HasCore t0 (g.D.Disk.clock disk) (opened x) (adopted x) (g.D.Disk.state disk) (g.D.Disk.clock disk) (g.D.Disk.since disk)) (sym got.3)
-    (hold t0 (g.D.Disk.clock disk) (opened (super_of got.0)) (adopted (super_of got.0)) (g.D.Disk.state disk) (g.D.Disk.clock disk) (g.D.Disk.since disk) core) in
-    subst (λ (x : View g.row.D.Denot). HasCore t0 (g.D.Disk.clock x.disk) space.view x.books (g.D.Disk.state x.disk) (g.D.Disk.clock x.disk) (g.D.Disk.since x.disk)) (sym is)
-    (subst (λ k. HasCore t0 (g.D.Disk.clock k) space.view d.books (g.D.Disk.state k) (g.D.Disk.clock k) (g.D.Disk.since k)) (sym same)
-    (subst (λ (b : Books). HasCore t0 (g.D.Disk.clock disk) space.view b (g.D.Disk.state disk) (g.D.Disk.clock disk) (g.D.Disk.since disk)) (sym books)
-    (subst (λ (x : SpaceBooks). HasCore t0 (g.D.Disk.clock disk) x.view (adopted s) (g.D.Disk.state disk) (g.D.Disk.clock disk) (g.D.Disk.since disk)) (sym c.in-Ok-open.ensures) here)))
+    c.in-Ok-open_replayed.ensures.core t0 got.0 got.2 (whole_recovers got.0 t0.tree (whole_of image got.0 t0.tree recovers got.1))

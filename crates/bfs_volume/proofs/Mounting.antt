@@ -1,0 +1,122 @@
+-- What a disk holds once its log was replayed and it was checked.
+use Rattle.std.proofs.Common.{◌≡◌, ◌≤◌, ◌*◌, ◌/◌, ◌∙◌, ◌⊎◌, inl, inr, ℕ, List, length, true, Option, Some, None, IfSome, refl, sym, ap, subst, arith}
+use Rattle.std.specs.Prelude.{is_some}
+use Rattle.std.proofs.lemmas.Bool.{true≢false}
+use Rattle.bfs_disk.specs.State.{State, Tells, Filled, Holds, ReadsAs}
+use Rattle.bfs_disk.specs.Disk.{HasSectors}
+use Rattle.bfs_disk.proofs.Images.{quiet_image}
+use Rattle.bfs_super.specs.declared.sup.Super.{Super}
+use Rattle.bfs_super.specs.Conditions.{IsValid, natural}
+use Rattle.bfs_log.specs.Replay.{Replayed, super_of}
+use Rattle.bfs_log.proofs.Replays.{replayed_empty}
+use Rattle.bfs_tree.specs.Trees.{Tree}
+use Rattle.bfs_sound.specs.Whole.{IsWhole, Recovers}
+use Rattle.bfs_replay.specs.Recover.{IsRecovered, IsShort}
+use Rattle.bfs_replay.specs.Steps.{sectors_of}
+use Rattle.bfs_replay.proofs.Homes.{image_of_reads}
+use Rattle.bfs_replay.proofs.Sizes.{has_two}
+use Rattle.bfs_core.proofs.Openings.{whole_of}
+use Rattle.bfs_check.specs.Checked.{IsCheckFault, IsFound, IsVerdict, IsWholeWith, HasCauseIn}
+use Rattle.bfs_check.specs.declared.checking.Verdict.{Verdict}
+use Rattle.bfs_check.specs.declared.checking.Verdict.TheVariants as verdicts
+use Rattle.bfs_check.specs.declared.checking.CheckFault.{CheckFault}
+use Rattle.bfs_check.specs.declared.checking.CheckFault.TheVariants as checking
+use Rattle.bfs_finding.specs.declared.finding.Finding.{Finding}
+use Rattle.bfs_passes.specs.declared.passes.Summary.{Summary}
+use Rattle.bfs_device.proofs.Stepping.{filled_state}
+use Rattle.bfs_volume.specs.Volumes.{MayBeMounted}
+use Rattle.bfs_volume.specs.Mounts.{IsHeld, IsHeldWhole, IsUnshort}
+
+pub reads : (told : Option State) (image : List ℕ) → Tells told (Holds image) → Tells told (λ s. ReadsAs s image)
+reads told image h = (h.0, h.1, h.2.reads)
+
+pub now_reads : (told now : Option State) (image : List ℕ) → now ≡ told → Tells told (Holds image) → Tells now (Holds image)
+now_reads told now image same h = (h.0, same ∙ h.1, h.2)
+
+-- an image that is whole recovers to its tree
+pub whole_recovers : (image : List ℕ) (tree : Tree) → IsWhole image tree → Recovers image tree
+whole_recovers image tree whole = record { result = image; replayed = replayed_empty image whole.valid (ap natural whole.whole.emptied); whole = whole }
+
+-- of a yes
+pub summed : (image : List ℕ) (v : Verdict) (s : Summary) → v ≡ verdicts.Yes s → IsVerdict image v → IsWholeWith image s
+summed image v s is w = subst (IsVerdict image) is w
+
+-- of a no
+pub found : (image : List ℕ) (v : Verdict) (f : Finding) → v ≡ verdicts.No f → IsVerdict image v → IsFound image f
+found image v f is w = subst (IsVerdict image) is w
+
+-- a cause in a call is one in it and calls before
+pub cause_from : (old mid new : ℕ) (fault : CheckFault) → old ≤ mid → HasCauseIn mid new fault → HasCauseIn old new fault
+cause_from old mid new (checking.Short count needed) low cause = tt
+cause_from old mid new (checking.Disk before after) low cause = (let first = cause.0 in omega (arith, low, first), cause.1, cause.2)
+cause_from old mid new checking.NoMemory low cause = tt
+
+pub held_some : (o : Option State) → o ≡ None → (st : State) → o ≡ Some st → ⊥
+held_some o none st is = true≢false (ap is_some (sym is ∙ none))
+
+same_state : (a b : State) → Some a ≡ Some b → a ≡ b
+same_state a b e = cc
+
+-- where the disk held an image, what it holds since is whole
+module _ (old told : Option State) (s : Super) (held : IsHeld old) (silent : old ≡ None → told ≡ None) (recovered : (image : List ℕ) → Tells old (Holds image) → IsRecovered true image told s) where
+  pub held_whole : ((image : List ℕ) → Tells told (Holds image) → (tree : Tree) × IsWhole image tree) → IsHeldWhole s told
+  held_whole whole st is = by_old old refl
+    where
+      by_old : (o : Option State) → old ≡ o → (image : List ℕ) × (tree : Tree) × Holds image st × IsWhole image tree × (s ≡ super_of image)
+      by_old None none = absurd (held_some told (silent none) st is)
+      by_old (Some was) before =
+          let h = held was before in
+          let got = recovered h.0 (was, before, h.1) in
+          let w = whole got.0 got.2 in
+          (got.0, w.0, subst (Holds got.0) (same_state got.2.0 st (sym got.2.1 ∙ is)) got.2.2, w.1, got.3)
+
+-- two images that a quiet disk holds are one
+pub one_image : (told : Option State) (st : State) (a b : List ℕ) → told ≡ Some st → IfSome told Filled → Holds a st → Tells told (Holds b) → a ≡ b
+one_image told st a b is filled ha hb =
+    let same : st ≡ hb.0 = same_state st hb.0 (sym is ∙ hb.1) in
+    quiet_image st b a ha.quiet (subst (λ (x : State). ReadsAs x b) (sym same) hb.2.reads) (image_of_reads st a (filled_state told st filled is) ha.reads)
+
+-- what is held whole may be mounted, and is what replay gives of itself
+pub may_mount : (s : Super) (told : Option State) → IsHeldWhole s told → MayBeMounted told
+may_mount s told whole st is = let h = whole st is in (h.0, h.1, h.2, whole_recovers h.0 h.1 h.3)
+
+pub held_recovered : (s : Super) (told : Option State) → IfSome told Filled → IsHeldWhole s told → (image : List ℕ) → Tells told (Holds image) → IsRecovered true image told s
+held_recovered s told filled whole image held =
+    let h = whole held.0 held.1 in
+    let same : h.0 ≡ image = one_image told held.0 h.0 image held.1 filled h.2 held in
+    let replayed = replayed_empty h.0 h.3.valid (ap natural h.3.whole.emptied) in
+    (h.0, subst (λ (x : List ℕ). Replayed x h.0) same replayed, (held.0, held.1, h.2), h.4)
+
+-- a volume that fits its disk isn't short
+module _ (image : List ℕ) (told : Option State) (size : Option ℕ) (s : Super) (held : Tells told (Holds image)) (sized : IfSome told (λ t. size ≡ Some t.size)) (valid : IsValid s) (on : HasSectors size (sectors_of s)) (is : s ≡ super_of image) where
+  has : (n : ℕ) → HasSectors size n → n ≤ held.0.size
+  has n h = subst (λ (z : Option ℕ). HasSectors z n) (subst (λ (o : Option State). IfSome o (λ t. size ≡ Some t.size)) held.1 sized) h
+
+  sectors : length image / 512 ≡ held.0.size
+  sectors = ap (λ (n : ℕ). n / 512) (held.2.reads.size) ∙ div512 held.0.size
+    where
+      div512 : (n : ℕ) → 512 * n / 512 ≡ n
+      div512 n = grind arith
+
+  never_short : (sectors needed : ℕ) → IsShort image sectors needed → ⊥
+  never_short count needed short = by_side short.2
+    where
+      by_side : (needed ≡ 2) ⊎ ((2 ≤ count) × IsValid (super_of image) × (needed ≡ sectors_of (super_of image))) → ⊥
+      by_side (inl two) = let low = has 2 (has_two s valid size on) in omega (arith, low, two, short.0, short.1, sectors)
+      by_side (inr more) = let low = has (sectors_of s) on in let e : sectors_of s ≡ sectors_of (super_of image) = ap sectors_of is in omega (arith, low, e, more.2, short.0, short.1, sectors)
+
+  pub unshort : (fault : CheckFault) → IsCheckFault image fault → IsUnshort fault
+  unshort (checking.Short count needed) short = absurd (never_short count needed short)
+  unshort (checking.Disk before after) h = tt
+  unshort checking.NoMemory h = tt
+
+-- what may be mounted is held whole once its log was replayed
+pub mounted_whole : (old told : Option State) (s : Super) → MayBeMounted old → (old ≡ None → told ≡ None) → ((image : List ℕ) → Tells old (Holds image) → IsRecovered true image told s) → IsHeldWhole s told
+mounted_whole old told s may silent recovered st is = by_old old refl
+  where
+    by_old : (o : Option State) → old ≡ o → (image : List ℕ) × (tree : Tree) × Holds image st × IsWhole image tree × (s ≡ super_of image)
+    by_old None none = absurd (held_some told (silent none) st is)
+    by_old (Some was) before =
+        let m = may was before in
+        let got = recovered m.0 (was, before, m.2) in
+        (got.0, m.1, subst (Holds got.0) (same_state got.2.0 st (sym got.2.1 ∙ is)) got.2.2, whole_of m.0 got.0 m.1 m.3 got.1, got.3)

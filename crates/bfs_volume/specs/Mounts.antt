@@ -1,0 +1,37 @@
+-- Mounting: what a disk holds, and why it isn't mounted.
+use Rattle.std.specs.Prelude.{◌≡◌, ℕ, List, Option, Some}
+use Rattle.bfs_disk.specs.State.{State, Holds}
+use Rattle.bfs_super.specs.declared.sup.Super.{Super}
+use Rattle.bfs_log.specs.Replay.{Replayed, super_of}
+use Rattle.bfs_tree.specs.Trees.{Tree}
+use Rattle.bfs_sound.specs.Whole.{IsWhole}
+use Rattle.bfs_replay.specs.Recover.{HasCauseIn, IsMountFault}
+use Rattle.bfs_check.specs.Checked.{IsFound}
+use Rattle.bfs_check.specs.declared.checking.CheckFault.{CheckFault}
+use Rattle.bfs_check.specs.declared.checking.CheckFault.TheVariants as checking
+use Rattle.bfs_volume.specs.declared.mount.Unmounted.{Unmounted}
+use Rattle.bfs_volume.specs.declared.mount.Unmounted.TheVariants.{Unread, Wrong}
+
+-- where the disk tells, it is quiet and holds an image
+abbrev pub IsHeld : Option State → Type 0
+IsHeld told = (st : State) → told ≡ Some st → (image : List ℕ) × Holds image st
+
+-- where the disk tells, it is quiet and holds an image that is whole with a tree, with this superblock
+abbrev pub IsHeldWhole : Super → Option State → Type 0
+IsHeldWhole sup told = (st : State) → told ≡ Some st → (image : List ℕ) × (tree : Tree) × Holds image st × IsWhole image tree × (sup ≡ super_of image)
+
+-- a check isn't hindered by a disk that is too short
+abbrev pub IsUnshort : CheckFault → Type 0
+IsUnshort (checking.Short sectors needed) = ⊥
+IsUnshort (checking.Disk before after) = Unit {0}
+IsUnshort checking.NoMemory = Unit {0}
+
+-- Why an image isn't mounted: it isn't recovered; or what replay gives of it isn't whole, and this is found.
+abbrev pub IsUnmounted : List ℕ → Unmounted → Type 0
+IsUnmounted image (Unread fault) = IsMountFault image fault
+IsUnmounted image (Wrong finding) = (result : List ℕ) × Replayed image result × IsFound result finding
+
+-- a failed disk has its cause in a count that rose
+abbrev pub HasUnmountedCause : ℕ → ℕ → Unmounted → Type 0
+HasUnmountedCause old new (Unread fault) = HasCauseIn old new fault
+HasUnmountedCause old new (Wrong finding) = Unit {0}

@@ -104,6 +104,11 @@ else
     skip 'no small disk can be mounted'
 fi
 
+# Status 0: a check tells what it found, and only reads.
+fresh
+check 'a check' ends 0 'whole nodes 1 used 529' '' "$program" "$image" check
+check 'leaves the image' cmp -s "$image" "$work/before.img"
+
 # Status 2: which word is wrong.
 fresh
 check 'a sign' ends 2 "$usage" 'not a number in range: +529' "$program" "$image" mk --blocks +529
@@ -114,7 +119,6 @@ check 'no size of blocks' ends 2 "$usage" 'not a number in range: 512' "$program
 check 'a name with a slash' ends 2 "$usage" 'not a label: a/b' "$program" "$image" mk --blocks 4096 --name a/b
 check 'an empty label' ends 2 "$usage" 'not a label: ' "$program" "$image" label ''
 check 'a label of 32 letters' ends 2 "$usage" 'not a label: letters-letters-letters-letters-' "$program" "$image" label letters-letters-letters-letters-
-check 'check' ends 2 "$usage" 'not built yet: check' "$program" "$image" check
 check 'sh' ends 2 "$usage" 'not built yet: sh' "$program" "$image" sh -j 4
 check 'soak' ends 2 "$usage" 'not built yet: soak' "$program" "$image" soak 7 1000
 check 'no command' begins 2 "$usage" "error: unrecognized subcommand 'LABEL'" "$program" "$image" LABEL new

@@ -36,6 +36,20 @@ print(f"{name:10} {statistics.median(times):8.3f} s {memory:8} KiB {calls:>9} ca
 PYTHON
 }
 
+# Ten folders with so many files of up to 1,024 bytes, as fill.py puts them into a volume.
+fill_folders() { # FILES
+    mkdir "$work/folders"
+    (cd "$work/folders" && python3 -c '
+import os, sys
+files = int(sys.argv[1])
+for folder in range(10):
+    os.mkdir("folder%04d" % folder)
+for i in range(files):
+    with open("folder%04d/file%07d" % (i % 10, i), "wb") as file:
+        file.write(b"z" * (1 + i % 1024))
+' "$1")
+}
+
 for files in "$@"; do
     blocks=$((files * 3 + 8192))
     echo "$files files"
@@ -44,16 +58,7 @@ for files in "$@"; do
     python3 "$root/tests/fill.py" "$work/bfs.img" "$files" 10 >/dev/null
     measure bfs "$program" "$work/bfs.img" check
     if command -v mke2fs >/dev/null 2>&1; then
-        mkdir "$work/folders"
-        (cd "$work/folders" && python3 -c '
-import os, sys
-files = int(sys.argv[1])
-for folder in range(10):
-    os.mkdir("folder%04d" % folder)
-for i in range(files):
-    with open("folder%04d/file%07d" % (i % 10, i), "wb") as file:
-        file.write(b"z" * (1 + i % 1024))
-' "$files")
+        fill_folders "$files"
         truncate -s $((blocks * 2048)) "$work/ext4.img"
         mke2fs -q -t ext4 -b 1024 -I 256 -N $((files + 1000)) -d "$work/folders" "$work/ext4.img"
         measure e2fsck e2fsck -f -n "$work/ext4.img"
@@ -62,16 +67,7 @@ for i in range(files):
         echo "e2fsck is not installed"
     fi
     if command -v mkfs.fat >/dev/null 2>&1 && command -v mcopy >/dev/null 2>&1; then
-        mkdir "$work/folders"
-        (cd "$work/folders" && python3 -c '
-import os, sys
-files = int(sys.argv[1])
-for folder in range(10):
-    os.mkdir("folder%04d" % folder)
-for i in range(files):
-    with open("folder%04d/file%07d" % (i % 10, i), "wb") as file:
-        file.write(b"z" * (1 + i % 1024))
-' "$files")
+        fill_folders "$files"
         truncate -s $((blocks * 2048)) "$work/fat.img"
         mkfs.fat -F 32 "$work/fat.img" >/dev/null
         mcopy -s -i "$work/fat.img" "$work/folders"/* ::

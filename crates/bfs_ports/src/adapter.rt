@@ -1,10 +1,42 @@
-// Ports over std's writers and the system's clock.
+// Ports over std's readers and writers and the system's clock.
 ghost use Rattle.std.specs.Prelude.{◌≡◌, None};
 
-use crate::{Clock, Failed, Sink};
-use std::io::Write;
+use crate::{Clock, Failed, Sink, Source};
+use std::io::{Read, Write};
 use std::time;
 use std::time::{SystemTime, UNIX_EPOCH};
+
+/// A source over a reader. It tells no bytes.
+#[derive(Drop)]
+pub struct Input<R> {
+    reader: R,
+    faults: u64,
+}
+
+impl<R: Read> Input<R> {
+    /// A source over this reader.
+    pub fn over(reader: R) -> Input<R>
+        ensures { ⟦<Input<R> as Source>⟧.faults result ≡ 0 }
+    {
+        Input { reader, faults: 0 }
+    }
+}
+
+impl<R: Read> Source for Input<R> {
+    ghost left = { λ _. None };
+
+    ghost faults = { λ s. s.faults };
+
+    fn take(&mut self, into: &mut [u8]) -> Result<usize, Failed> {
+        match self.reader.read(into) {
+            Ok(n) => Ok(n),
+            Err(_) => {
+                self.faults = self.faults.saturating_add(1);
+                Err(Failed)
+            }
+        }
+    }
+}
 
 /// A sink over a writer. It tells no bytes.
 #[derive(Drop)]

@@ -6,7 +6,7 @@ use Rattle.clap.specs.Walk.{Row, Text, first_of}
 use Rattle.clap.specs.Simple.{subcommand_of}
 use Rattle.clap.proofs.OnLiterals.{clap_on_literals}
 use Rattle.bfs_words.specs.Line.{bfs_line}
-use Rattle.bfs_words.specs.Words.{IsBlocks, IsSize, IsName, IsNewName, IsVolume, IsLabelCommand, IsMakeCommand, IsCheckCommand}
+use Rattle.bfs_words.specs.Words.{IsBlocks, IsSize, IsName, IsNewName, IsVolume, IsLabelCommand, IsMakeCommand, IsCheckCommand, IsShellCommand}
 
 -- ---- one value
 
@@ -70,6 +70,22 @@ no_check_make words blocks size label first second =
     let n : 5 ≡ 2 = ap (λ (p : Text × List Row). length p.0) (one_list (subcommand_of bfs_line words) (codes "check") (codes "mk") first.1.0 second.1.0 first.1.1 second.1.1) in
     omega (arith, n)
 
+-- the words of `sh` are none of `label`, none of `mk` and none of `check`
+pub no_shell_label : (words : List Text) (name : Text) → IsShellCommand words → IsLabelCommand words name → ⊥
+no_shell_label words name first second =
+    let n : 2 ≡ 5 = ap (λ (p : Text × List Row). length p.0) (one_list (subcommand_of bfs_line words) (codes "sh") (codes "label") first.1.0 second.1.0 first.1.1 second.1.1) in
+    omega (arith, n)
+
+pub no_shell_make : (words : List Text) (blocks size : ℕ) (label : Text) → IsShellCommand words → IsMakeCommand words blocks size label → ⊥
+no_shell_make words blocks size label first second =
+    let n : 115 ≡ 109 = ap (λ (p : Text × List Row). get_or p.0 0 0) (one_list (subcommand_of bfs_line words) (codes "sh") (codes "mk") first.1.0 second.1.0 first.1.1 second.1.1) in
+    omega (arith, n)
+
+pub no_shell_check : (words : List Text) → IsShellCommand words → IsCheckCommand words → ⊥
+no_shell_check words first second =
+    let n : 2 ≡ 5 = ap (λ (p : Text × List Row). length p.0) (one_list (subcommand_of bfs_line words) (codes "sh") (codes "check") first.1.0 second.1.0 first.1.1 second.1.1) in
+    omega (arith, n)
+
 nothing_found : subcommand_of bfs_line [] ≡ None
 unfolding clap_on_literals
 nothing_found = refl
@@ -86,6 +102,9 @@ no_words_make words blocks size label none is = none_some (codes "mk", is.1.0) (
 
 pub no_words_check : (words : List Text) → words ≡ [] → IsCheckCommand words → ⊥
 no_words_check words none is = none_some (codes "check", is.1.0) (sym nothing_found ∙ ap (subcommand_of bfs_line) (sym none) ∙ is.1.1)
+
+pub no_words_shell : (words : List Text) → words ≡ [] → IsShellCommand words → ⊥
+no_words_shell words none is = none_some (codes "sh", is.1.0) (sym nothing_found ∙ ap (subcommand_of bfs_line) (sym none) ∙ is.1.1)
 
 -- ---- what they ask for is good
 

@@ -1,6 +1,7 @@
 -- The plain spellings, by computing what `clap` makes of them.
 use Rattle.std.proofs.Common.{◌≡◌, ◌≤◌, ◌==◌, ℕ, List, [], ◌∷◌, ◌++◌, false, Option, Some, None, option_map, unwrap_or, codes, refl, sym, ap, subst, arith}
 use Rattle.std.proofs.lemmas.Bool.{ne_eqb}
+use Rattle.std.proofs.lemmas.List.Elements.{All-nil, All-cons}
 use Rattle.bfs_super.specs.Geometry.{IsBlockSize}
 use Rattle.bfs_super.specs.Label.{IsLabel}
 use Rattle.clap.specs.Walk.{Row, Text, first_of}
@@ -9,7 +10,7 @@ use Rattle.clap.specs.Faults.{fault_of}
 use Rattle.clap.proofs.OnLiterals.{clap_on_literals}
 use Rattle.bfs_words.specs.Line.{bfs_line}
 use Rattle.bfs_words.specs.Numbers.{IsNumber}
-use Rattle.bfs_words.specs.Words.{IsBlocks, IsSize, IsName, IsNewName, FindsLabel, FindsVolume, IsPlainWord, IsLabelCommand, IsMakeCommand, FindsCheck, IsCheckCommand}
+use Rattle.bfs_words.specs.Words.{IsBlocks, IsSize, IsName, IsNewName, FindsLabel, FindsVolume, IsPlainWord, IsLabelCommand, IsMakeCommand, FindsCheck, IsCheckCommand, IsWorkers, FindsShell, IsShellCommand}
 
 -- the subcommand's name and its values
 abbrev Reading : Type 0
@@ -101,6 +102,46 @@ as_check (Some p) e =
     let same : reading p ≡ (codes "check", None, None, None) = ap (λ (o : Option Reading). unwrap_or o (reading p)) e in
     (p.1, ap (λ (r : Reading). Some (r.0, p.1)) same)
 
+-- the subcommand's name and the value of `-j`
+abbrev ShellReading : Type 0
+ShellReading = Text × Option Text
+
+abbrev shell_reading : Text × List Row → ShellReading
+shell_reading p = (p.0, first_of (codes "workers") p.1)
+
+as_shell : (found : Option (Text × List Row)) (word : Option Text) → option_map shell_reading found ≡ Some (codes "sh", word) → IsWorkers word → FindsShell found
+as_shell None word e one = cc
+as_shell (Some p) word e one =
+    let same : shell_reading p ≡ (codes "sh", word) = ap (λ (o : Option ShellReading). unwrap_or o (shell_reading p)) e in (
+      p.1,
+      ap (λ (r : ShellReading). Some (r.0, p.1)) same,
+      subst IsWorkers (sym (ap (λ (r : ShellReading). r.1) same)) one,
+    )
+
+shell_fault : fault_of bfs_line (codes "sh" ∷ []) ≡ []
+unfolding clap_on_literals
+shell_fault = refl
+
+shell_found : option_map shell_reading (subcommand_of bfs_line (codes "sh" ∷ [])) ≡ Some (codes "sh", None)
+unfolding clap_on_literals
+shell_found = refl
+
+workers_fault : fault_of bfs_line (codes "sh" ∷ codes "-j" ∷ codes "1" ∷ []) ≡ []
+unfolding clap_on_literals
+workers_fault = refl
+
+workers_found : option_map shell_reading (subcommand_of bfs_line (codes "sh" ∷ codes "-j" ∷ codes "1" ∷ [])) ≡ Some (codes "sh", Some (codes "1"))
+unfolding clap_on_literals
+workers_found = refl
+
+joined_fault : fault_of bfs_line (codes "sh" ∷ codes "-j1" ∷ []) ≡ []
+unfolding clap_on_literals
+joined_fault = refl
+
+joined_found : option_map shell_reading (subcommand_of bfs_line (codes "sh" ∷ codes "-j1" ∷ [])) ≡ Some (codes "sh", Some (codes "1"))
+unfolding clap_on_literals
+joined_found = refl
+
 -- ---- the commands
 
 digit_first : (x : ℕ) (xs : Text) (n : ℕ) → IsNumber (x ∷ xs) n → (x == 45) ≡ false
@@ -143,3 +184,20 @@ plain_equals number bytes name n size is few bs fits good =
 
 pub plain_check : IsCheckCommand (codes "check" ∷ [])
 plain_check = (check_fault, as_check (subcommand_of bfs_line (codes "check" ∷ [])) check_found)
+
+one_digit : IsNumber (codes "1") 1
+one_digit = record {
+  some = omega arith;
+  short = omega arith;
+  digits = All-cons (λ d. (48 ≤ d) × (d ≤ 57)) 49 [] (omega arith, omega arith) (All-nil (λ d. (48 ≤ d) × (d ≤ 57)));
+  value = refl;
+}
+
+pub plain_shell : IsShellCommand (codes "sh" ∷ [])
+plain_shell = (shell_fault, as_shell (subcommand_of bfs_line (codes "sh" ∷ [])) None shell_found tt)
+
+pub plain_workers : IsShellCommand (codes "sh" ∷ codes "-j" ∷ codes "1" ∷ [])
+plain_workers = (workers_fault, as_shell (subcommand_of bfs_line (codes "sh" ∷ codes "-j" ∷ codes "1" ∷ [])) (Some (codes "1")) workers_found one_digit)
+
+pub plain_joined : IsShellCommand (codes "sh" ∷ codes "-j1" ∷ [])
+plain_joined = (joined_fault, as_shell (subcommand_of bfs_line (codes "sh" ∷ codes "-j1" ∷ [])) (Some (codes "1")) joined_found one_digit)

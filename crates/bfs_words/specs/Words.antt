@@ -30,6 +30,11 @@ abbrev pub IsNewName : Option Text → Text → Type 0
 IsNewName None name = ⊥
 IsNewName (Some word) name = (name ≡ word) × IsLabel word
 
+-- the value of `-j`, and 1 unless it is given; more workers than one aren't built yet
+abbrev pub IsWorkers : Option Text → Type 0
+IsWorkers None = Unit {0}
+IsWorkers (Some word) = IsNumber word 1
+
 -- the arguments of `mk` describe this volume
 pub record IsVolume (rows : List Row) (blocks size : ℕ) (label : Text) : Type 0 where
   pub blocks_are : IsBlocks (first_of (codes "blocks") rows) blocks
@@ -48,6 +53,10 @@ FindsVolume found blocks size label = (rows : List Row) × (found ≡ Some (code
 abbrev pub FindsCheck : Option (Text × List Row) → Type 0
 FindsCheck found = (rows : List Row) × (found ≡ Some (codes "check", rows))
 
+-- what was found is `sh` with one worker
+abbrev pub FindsShell : Option (Text × List Row) → Type 0
+FindsShell found = (rows : List Row) × (found ≡ Some (codes "sh", rows)) × IsWorkers (first_of (codes "workers") rows)
+
 -- `clap` refuses nothing in the words, and finds `label` with a good name in them
 abbrev pub IsLabelCommand : List Text → Text → Type 0
 IsLabelCommand words name = (fault_of bfs_line words ≡ []) × FindsLabel (subcommand_of bfs_line words) name
@@ -60,6 +69,10 @@ IsMakeCommand words blocks size label = (fault_of bfs_line words ≡ []) × Find
 abbrev pub IsCheckCommand : List Text → Type 0
 IsCheckCommand words = (fault_of bfs_line words ≡ []) × FindsCheck (subcommand_of bfs_line words)
 
+-- `clap` refuses nothing in the words, and finds `sh` with one worker in them
+abbrev pub IsShellCommand : List Text → Type 0
+IsShellCommand words = (fault_of bfs_line words ≡ []) × FindsShell (subcommand_of bfs_line words)
+
 -- a word that begins with no hyphen
 abbrev pub IsPlainWord : Text → Type 0
 IsPlainWord word = ¬ (slice_index_or word 0 45 ≡ 45)
@@ -70,6 +83,7 @@ pub record IsFaulty (words : List Text) : Type 0 where
   pub no_label : (name : Text) → IsLabelCommand words name → ⊥
   pub no_volume : (blocks size : ℕ) (label : Text) → IsMakeCommand words blocks size label → ⊥
   pub no_check : IsCheckCommand words → ⊥
+  pub no_shell : IsShellCommand words → ⊥
 
 -- what was found asks for
 abbrev pub Means : Option (Text × List Row) → Command → Type 0
@@ -77,7 +91,8 @@ Means found commands.Usage = ⊥
 Means found (commands.Label name) = FindsLabel found name.now
 Means found (commands.Make volume) = FindsVolume found volume.blocks volume.block_size volume.label.now
 Means found commands.Check = FindsCheck found
-Means found (commands.Faulty complaint) = ((name : Text) → FindsLabel found name → ⊥) × ((blocks size : ℕ) (label : Text) → FindsVolume found blocks size label → ⊥) × (FindsCheck found → ⊥)
+Means found commands.Shell = FindsShell found
+Means found (commands.Faulty complaint) = ((name : Text) → FindsLabel found name → ⊥) × ((blocks size : ℕ) (label : Text) → FindsVolume found blocks size label → ⊥) × (FindsCheck found → ⊥) × (FindsShell found → ⊥)
 
 -- what the words ask for
 abbrev pub Asks : List Text → Command → Type 0
@@ -85,4 +100,5 @@ Asks words commands.Usage = words ≡ []
 Asks words (commands.Label name) = IsLabelCommand words name.now
 Asks words (commands.Make volume) = IsMakeCommand words volume.blocks volume.block_size volume.label.now
 Asks words commands.Check = IsCheckCommand words
+Asks words commands.Shell = IsShellCommand words
 Asks words (commands.Faulty complaint) = IsFaulty words

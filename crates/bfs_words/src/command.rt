@@ -35,7 +35,9 @@ pub enum Command<'a> {
     Make(NewVolume<'a>),
     /// `check`.
     Check,
-    /// Anything else. `sh` and `soak` are declared, and stand here until they are built.
+    /// `sh`, with one worker.
+    Shell,
+    /// Anything else. `soak` is declared, and stands here until it is built.
     Faulty(Complaint<'a>),
 }
 

@@ -3,9 +3,9 @@ ghost use Rattle.std.specs.Prelude.{◌≡◌, ◌≤◌, ◌∷◌, ◌++◌, [
 ghost use Rattle.bfs_super.specs.Geometry.{IsBlockSize};
 ghost use Rattle.bfs_super.specs.Label.{IsLabel};
 ghost use Rattle.bfs_words.specs.Numbers.{IsNumber};
-ghost use Rattle.bfs_words.specs.Words.{IsPlainWord, IsLabelCommand, IsMakeCommand, IsCheckCommand};
+ghost use Rattle.bfs_words.specs.Words.{IsPlainWord, IsLabelCommand, IsMakeCommand, IsCheckCommand, IsShellCommand};
 
-/// The plain spellings of the three commands ask for what they say. A name that begins with a hyphen stands behind `=`.
+/// The plain spellings of the commands ask for what they say. A name that begins with a hyphen stands behind `=`.
 pub fn plain_spellings()
     ensures label { (name : List ℕ) → IsPlainWord name → IsLabel name → IsLabelCommand (codes "label" ∷ name ∷ []) name }
     ensures blocks { (number : List ℕ) (n : ℕ) → IsNumber number n → n ≤ 4194304
@@ -17,4 +17,7 @@ pub fn plain_spellings()
     ensures equals { (number bytes name : List ℕ) (n size : ℕ) → IsNumber number n → n ≤ 4194304 → IsNumber bytes size → IsBlockSize size → IsLabel name
         → IsMakeCommand (codes "mk" ∷ (codes "--blocks=" ++ number) ∷ (codes "--block-size=" ++ bytes) ∷ (codes "--name=" ++ name) ∷ []) n size name }
     ensures check { IsCheckCommand (codes "check" ∷ []) }
+    ensures shell { IsShellCommand (codes "sh" ∷ []) }
+    ensures workers { IsShellCommand (codes "sh" ∷ codes "-j" ∷ codes "1" ∷ []) }
+    ensures joined { IsShellCommand (codes "sh" ∷ codes "-j1" ∷ []) }
 {}

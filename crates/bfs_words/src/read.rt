@@ -2,7 +2,7 @@
 ghost use Rattle.std.specs.Prelude.{◌≡◌, ℕ, List, IfOk, MatchResult, option_map, codes};
 ghost use Rattle.clap.specs.Words.{found_of, rows_of, subcommand_rows_of};
 ghost use Rattle.clap.specs.Walk.{first_of};
-ghost use Rattle.bfs_words.specs.Words.{IsBlocks, IsSize, IsName, IsNewName, IsVolume, Means, Asks};
+ghost use Rattle.bfs_words.specs.Words.{IsBlocks, IsSize, IsName, IsNewName, IsWorkers, IsVolume, Means, Asks};
 
 use crate::argument::Argument;
 use crate::command::{Command, Complaint, NewVolume};
@@ -73,6 +73,19 @@ fn new_name_in(word: Option<&str>) -> Result<&[u8], Complaint<'_>>
     }
 }
 
+// Reads the number of workers, which is one.
+fn one_worker_in(word: Option<&str>) -> Result<(), Complaint<'_>>
+    ensures { MatchResult result (λ _. IsWorkers (option_map (λ s. s.now) word.entry)) (λ _. IsWorkers (option_map (λ s. s.now) word.entry) → ⊥) }
+{
+    let Some(word) = word else {
+        return Ok(());
+    };
+    match read_number(word.as_bytes(), 1) {
+        Some(1) => Ok(()),
+        _ => Err(Complaint::Number(word)),
+    }
+}
+
 // Reads the arguments of `mk`.
 fn read_volume<'a>(found: &ArgMatches<'a>) -> Result<NewVolume<'a>, Complaint<'a>>
     ensures { MatchResult result (λ v. IsVolume (rows_of (found_of found.now)) v.blocks v.block_size v.label.now)
@@ -109,6 +122,12 @@ fn read_found<'a>(matches: &ArgMatches<'a>) -> Command<'a>
     }
     if name == "check" {
         return Command::Check;
+    }
+    if name == "sh" {
+        return match one_worker_in(word_of(found, "workers")) {
+            Ok(()) => Command::Shell,
+            Err(complaint) => Command::Faulty(complaint),
+        };
     }
     Command::Faulty(Complaint::Unbuilt(name))
 }

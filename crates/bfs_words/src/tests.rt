@@ -14,7 +14,7 @@ fn words(alloc: Global, texts: &[&str]) -> Result<Vec<Argument>, AllocError> {
 #[test]
 fn every_other_spelling_is_faulty(rt: HostRuntime) -> Result<(), Fail> {
     let alloc = rt.alloc();
-    let cases: [&[&str]; 38] = [
+    let cases: [&[&str]; 49] = [
         &["mk", "--blocks"],
         &[""],
         &["--"],
@@ -53,6 +53,17 @@ fn every_other_spelling_is_faulty(rt: HostRuntime) -> Result<(), Fail> {
         &["check", "-j4"],
         &["check", "check"],
         &["sh", "-j4"],
+        &["sh", "-j"],
+        &["sh", "-j="],
+        &["sh", "-j", "2"],
+        &["sh", "-j0"],
+        &["sh", "-j", "one"],
+        &["sh", "-j", "000000000000000000001"],
+        &["sh", "-j1", "-j1"],
+        &["sh", "1"],
+        &["sh", "x"],
+        &["soak", "1", "2"],
+        &["soak", "1", "2", "-j1"],
     ];
     for texts in cases {
         let words = words(alloc, texts)?;
@@ -152,6 +163,25 @@ fn a_check_takes_no_more_words(rt: HostRuntime) -> Result<(), Fail> {
     let alloc = rt.alloc();
     let words = words(alloc, &["check"])?;
     assert!(rt; matches!(read_words(alloc, &words)?, Command::Check));
+    Ok(())
+}
+
+#[test]
+fn a_shell_has_one_worker(rt: HostRuntime) -> Result<(), Fail> {
+    let alloc = rt.alloc();
+    let cases: [&[&str]; 6] = [
+        &["sh"],
+        &["sh", "-j", "1"],
+        &["sh", "-j1"],
+        &["sh", "-j=1"],
+        &["sh", "-j", "00000000000000000001"],
+        &["sh", "--"],
+    ];
+    for texts in cases {
+        let words = words(alloc, texts)?;
+        let command = read_words(alloc, &words)?;
+        assert!(rt; matches!(command, Command::Shell));
+    }
     Ok(())
 }
 

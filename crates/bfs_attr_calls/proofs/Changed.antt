@@ -44,7 +44,7 @@ use Rattle.bfs_shift.proofs.Widens.{widened}
 use Rattle.bfs_attr.specs.Changed.{attribute_blocks, AttributesNow}
 use Rattle.bfs_attr_write.proofs.Beside.{each_of}
 use Rattle.bfs_attr_write.proofs.Follows.{exchange_of}
-use Rattle.bfs_leave.specs.Leaving.{IsClear, IsGivenSince, GivesBack, IsLeft}
+use Rattle.bfs_unmake.specs.Leaving.{IsClear, IsGivenSince, GivesBack, IsLeft}
 use Rattle.bfs_attr_calls.specs.Attributed.{with_attributes, KeepsName}
 use Rattle.bfs_attr_calls.proofs.Exchange.{used_means, exchange_shifts}
 use Rattle.bfs_attr_calls.proofs.Inode.{own_rest, own_same, data_same, directory_content, short_same, node_attributed}

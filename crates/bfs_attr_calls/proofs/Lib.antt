@@ -13,3 +13,4 @@ pub mod Under
 pub mod Whole
 pub mod Leaves
 pub mod Allowing
+pub use Rattle.bfs_unmake.proofs.Streams

@@ -27,7 +27,7 @@ use Rattle.bfs_attr.specs.Changed.{HasTaken}
 use Rattle.bfs_attr_write.specs.Removal.{KeepsClear}
 use Rattle.bfs_attrs.specs.Removed.{IsNotRemoved, LosesItem}
 use Rattle.bfs_query.proofs.Bearing.{attributes_are}
-use Rattle.bfs_leave.specs.Leaving.{IsClear, IsLeft}
+use Rattle.bfs_unmake.specs.Leaving.{IsClear, IsLeft}
 use Rattle.bfs_attr_calls.specs.Attributed.{with_attributes}
 use Rattle.bfs_calls.specs.Faults.{take_fault}
 use Rattle.bfs_attr_calls.proofs.Changed.{attributes_left}

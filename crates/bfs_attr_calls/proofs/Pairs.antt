@@ -14,7 +14,7 @@ use Rattle.bfs_shift.specs.Lists.{Lists, Agrees}
 use Rattle.bfs_shift.proofs.Following.{same_or_not}
 use Rattle.bfs_shift.proofs.Leaves.{taken_none}
 use Rattle.bfs_shift.proofs.Made.{taken_other}
-use Rattle.bfs_leave.specs.Leaving.{tree_without}
+use Rattle.bfs_unmake.specs.Leaving.{tree_without}
 
 module _ (tree : Tree) (lists : Lists) (id : ℕ) (n : Node) (index : List ℕ) (value : ℤ) (key : List ℕ) (agrees : Agrees tree lists) (is : IsNode tree id n) (row : assoc Text lists.names index ≡ Some value) (was : key_in tree.root index (lists.kinds index) id n ≡ Some key) where
   abbrev bare : Tree

@@ -11,8 +11,8 @@ use Rattle.bfs_shift.specs.Lists.{Lists}
 use Rattle.bfs_shift.specs.Work.{IsStepped}
 use Rattle.bfs_shift.proofs.Made.{put_here}
 use Rattle.bfs_look.specs.Ready.{IsReady}
-use Rattle.bfs_leave.specs.Leaving.{IsClear, GivesBack, IsLeft}
-use Rattle.bfs_leave.proofs.Steps.{goes_on_gives, gives_back_twice}
+use Rattle.bfs_unmake.specs.Leaving.{IsClear, GivesBack, IsLeft}
+use Rattle.bfs_unmake.proofs.Steps.{goes_on_gives, gives_back_twice}
 use Rattle.bfs_attr_calls.specs.Attributed.{with_attributes}
 use Rattle.bfs_attr_calls.specs.Removed.{node_without, tree_with, HasBearerAt, HasUnlistedUnder, IsAttributeRemoved}
 use Rattle.bfs_attr_calls.specs.Stamped.{with_changed}

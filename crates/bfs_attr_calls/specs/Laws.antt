@@ -14,7 +14,7 @@ use Rattle.bfs_attr.specs.Changed.{Holds, AttributesNow}
 use Rattle.bfs_shift.specs.Inodes.{HasBytes}
 use Rattle.bfs_shift.specs.Lists.{Lists}
 use Rattle.bfs_shift.specs.Work.{IsAtWork}
-use Rattle.bfs_leave.specs.Leaving.{IsClear, IsLeft}
+use Rattle.bfs_unmake.specs.Leaving.{IsClear, IsLeft}
 use Rattle.bfs_attr_calls.specs.Attributed.{with_attributes, KeepsName}
 
 -- Where the attributes of a node's inode are others since, its own name is what it was, and no block that was given back is marked, the volume

@@ -16,7 +16,7 @@ use Rattle.bfs_tree.specs.declared.call.Call.TheVariants.{AttrRemove}
 use Rattle.bfs_tree.specs.declared.reply.Reply.TheVariants.{Done}
 use Rattle.bfs_shift.specs.Lists.{Lists, Agrees}
 use Rattle.bfs_shift.specs.Work.{IsAtWork, IsStepped}
-use Rattle.bfs_leave.specs.Leaving.{IsLeft}
+use Rattle.bfs_unmake.specs.Leaving.{IsLeft}
 
 -- the node's record without an attribute, with the stamp of that change
 abbrev pub node_without : Node → List ℕ → ℤ → Node

@@ -13,7 +13,7 @@ ghost use Rattle.bfs_tree.specs.Trees.{Node, Tree, IsNode};
 ghost use Rattle.bfs_maps.specs.Refused.{IsUndone};
 ghost use Rattle.bfs_shift.specs.Lists.{Lists};
 ghost use Rattle.bfs_shift.specs.Work.{IsAtWork};
-ghost use Rattle.bfs_leave.specs.Leaving.{IsClear, IsLeft};
+ghost use Rattle.bfs_unmake.specs.Leaving.{IsClear, IsLeft};
 ghost use Rattle.bfs_calls.specs.Done.{HasAnswerCause};
 ghost use Rattle.bfs_attr_calls.specs.Attributed.{with_attributes};
 ghost use Rattle.bfs_attr_calls.specs.Removed.{HasBearerAt};

@@ -17,7 +17,7 @@ use Rattle.bfs_look.specs.Ready.{IsReady}
 use Rattle.bfs_query.proofs.Bearing.{bears}
 use Rattle.bfs_calls.specs.Allowances.{inodes_left, left_alone, allowance}
 use Rattle.bfs_calls.proofs.Allowed.{AllLeast, rows_least, least_joined, least_index, min_less}
-use Rattle.bfs_unmake.proofs.Streams.{alone_few}
+use Rattle.bfs_attr_calls.proofs.Streams.{alone_few}
 use Rattle.bfs_attr_calls.proofs.Allowing.{least_row, least_listed}
 
 -- where what is left counts only so far as the bitmap has blocks

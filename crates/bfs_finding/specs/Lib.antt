@@ -8,3 +8,4 @@ pub mod TreeFaults
 pub mod Findings
 pub mod Laws
 pub mod Worked
+pub use Rattle.bfs_sound.specs.Owners

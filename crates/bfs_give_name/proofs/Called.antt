@@ -29,8 +29,8 @@ use Rattle.bfs_shift.proofs.Rewritten.{words_same}
 use Rattle.bfs_shift.proofs.Stamped.{Holds}
 use Rattle.bfs_attr.specs.Bearers.{HasAttributes, attributes_at, entries_with}
 use Rattle.bfs_attr.specs.Changed.{name_item}
-use Rattle.bfs_attr_calls.proofs.Alike.{stream_alike}
-use Rattle.bfs_attr_calls.proofs.Inode.{own_rest, short_same}
+use Rattle.bfs_attr_put.proofs.Alike.{stream_alike}
+use Rattle.bfs_attr_put.proofs.Inode.{own_rest, short_same}
 use Rattle.bfs_give_name.proofs.Items.{HasName}
 
 holds_of : (u : Volume) (id : ℕ) (n : Node) (k : Kind) → HasContent u id n k → Holds u id n k (is_short u id)

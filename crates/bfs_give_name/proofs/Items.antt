@@ -7,7 +7,7 @@ use Rattle.bfs_smalldata.specs.Items.{Item, items_of}
 use Rattle.bfs_smalldata.specs.Edits.{named, without, with_item}
 use Rattle.bfs_sound.specs.Attributes.{own_name}
 use Rattle.bfs_attr.specs.Changed.{name_item}
-use Rattle.bfs_attr_calls.proofs.Names.{all_left}
+use Rattle.bfs_attr_put.proofs.Names.{all_left}
 use Rattle.bfs_set_name.specs.Renamed.{without_each}
 
 -- what holds of all items and of one more holds of them with this one

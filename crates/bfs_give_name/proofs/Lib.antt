@@ -4,3 +4,4 @@ pub mod Stepped
 pub mod Dots
 pub mod Faulting
 pub mod Joined
+pub use Rattle.bfs_attr_put.proofs.AttrCallsWhole

@@ -43,9 +43,9 @@ use Rattle.bfs_attr.specs.Bearers.{attributes_at}
 use Rattle.bfs_attr.specs.Changed.{attribute_blocks}
 use Rattle.bfs_attr_write.proofs.Beside.{each_of}
 use Rattle.bfs_attr_write.proofs.Follows.{exchange_of}
-use Rattle.bfs_attr_calls.proofs.Changed.{node_parts}
-use Rattle.bfs_attr_calls.proofs.Exchange.{exchange_shifts}
-use Rattle.bfs_attr_calls.proofs.Inode.{own_rest, own_same, data_same, directory_content, short_same}
+use Rattle.bfs_attr_put.proofs.Changed.{node_parts}
+use Rattle.bfs_attr_put.proofs.Exchange.{exchange_shifts}
+use Rattle.bfs_attr_put.proofs.Inode.{own_rest, own_same, data_same, directory_content, short_same}
 use Rattle.bfs_give_name.specs.Named.{with_name, IsNamed}
 use Rattle.bfs_give_name.proofs.Items.{has_name}
 use Rattle.bfs_give_name.proofs.Called.{node_called}

@@ -1,1 +1,2 @@
 pub mod Named
+pub use Rattle.bfs_attr_put.specs.Written

@@ -6,7 +6,7 @@ use Rattle.bfs_base.specs.declared.kind.KeyKind.{KeyKind}
 use Rattle.bfs_tree.specs.Listings.{key_at, key_in, key_of_attribute}
 use Rattle.bfs_tree.specs.Refusals.{is_built_in}
 use Rattle.bfs_tree.specs.Trees.{Node, Tree, IsNode}
-use Rattle.bfs_attr_calls.proofs.Keys.{attribute_key}
+use Rattle.bfs_attr_put.proofs.Keys.{attribute_key}
 use Rattle.bfs_index_make.specs.Gathered.{pair_at, pairs_at}
 
 -- an index that isn't built in lists a node by its attribute

@@ -3,3 +3,4 @@ pub mod Born
 pub mod Grown
 pub mod Laws
 pub mod Statuses
+pub use Rattle.bfs_index.specs.Refused

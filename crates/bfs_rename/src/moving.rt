@@ -13,7 +13,7 @@ ghost use Rattle.bfs_shift.specs.Lists.{Lists};
 ghost use Rattle.bfs_shift.specs.Work.{IsAtWork, IsStepped};
 ghost use Rattle.bfs_look.specs.Ready.{IsReady};
 ghost use Rattle.bfs_calls.specs.Done.{IsUnanswered};
-ghost use Rattle.bfs_attr_put.specs.Written.{HasWriteCause};
+ghost use Rattle.bfs_give_name.specs.Written.{HasWriteCause};
 ghost use Rattle.bfs_give_name.specs.Named.{HoldsProper};
 ghost use Rattle.bfs_rename.specs.Moved.{HasListedMove, HasMove, HasMoved, IsMove, with_seat};
 ghost use Rattle.bfs_rename.specs.Refused.{IsPlace};

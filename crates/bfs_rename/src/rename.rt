@@ -13,7 +13,7 @@ ghost use Rattle.bfs_maps.specs.Refused.{IsUndone};
 ghost use Rattle.bfs_shift.specs.Lists.{Lists};
 ghost use Rattle.bfs_look.specs.Ready.{IsReady, HasReady};
 ghost use Rattle.bfs_calls.specs.Done.{IsUnanswered, HasAnswerCause};
-ghost use Rattle.bfs_attr_put.specs.Written.{HasWriteCause};
+ghost use Rattle.bfs_give_name.specs.Written.{HasWriteCause};
 ghost use Rattle.bfs_rename.specs.Counted.{AreOf};
 ghost use Rattle.bfs_rename.specs.Done.{HasVacated, HasVacating, IsRenamedIn, IsVacating};
 ghost use Rattle.bfs_rename.specs.Refused.{IsPlace};

@@ -10,7 +10,7 @@ use Rattle.bfs_base.specs.declared.kind.KeyKind.TheVariants.{Text}
 use Rattle.bfs_node.specs.Page.{Row}
 use Rattle.bfs_stream.specs.Places.{HasStream}
 use Rattle.bfs_stream.proofs.Doubles.{times-append}
-use Rattle.bfs_stream_pages.specs.Moves.{KeepsInode}
+use Rattle.bfs_maps.specs.Moves.{KeepsInode}
 use Rattle.bfs_tree.specs.declared.call.Kind.{Kind}
 use Rattle.bfs_tree.specs.declared.call.Kind.TheVariants.{Dir}
 use Rattle.bfs_tree.specs.Trees.{Node, Nodes, Tree, IsNode, is_link}

@@ -9,7 +9,7 @@ use Rattle.bfs_bitmap.specs.Runs.{Room}
 use Rattle.bfs_super.specs.Conditions.{natural}
 use Rattle.bfs_node.specs.Page.{Row}
 use Rattle.bfs_pages.specs.Maps.{assoc}
-use Rattle.bfs_stream_pages.specs.Moves.{Moved}
+use Rattle.bfs_maps.specs.Moves.{Moved}
 use Rattle.bfs_values.specs.Reached.{IsWholeTree, AreWritten}
 use Rattle.bfs_stream.specs.Told.{contents}
 use Rattle.bfs_stream.specs.Grown.{IsOfVolume}

@@ -8,8 +8,8 @@ use Rattle.bfs_bitmap.specs.Runs.{Room, marked, per_block}
 use Rattle.bfs_stream.specs.Places.{whole_at}
 use Rattle.bfs_stream.specs.Told.{contents}
 use Rattle.bfs_stream.specs.Grown.{IsOfVolume, is_new}
-use Rattle.bfs_stream_pages.specs.Moves.{Moved}
-use Rattle.bfs_stream_pages.specs.MovesLaws.{whole_moves}
+use Rattle.bfs_maps.specs.Moves.{Moved}
+use Rattle.bfs_maps.specs.MovesLaws.{whole_moves}
 use Rattle.bfs_sound.specs.Volumes.{sizes, bitmap_blocks, IsMarked}
 use Rattle.bfs_shift.specs.Stocked.{Shifts}
 use Rattle.bfs_shift.specs.Shifts.{volume_in}

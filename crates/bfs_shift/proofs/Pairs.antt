@@ -11,7 +11,7 @@ use Rattle.bfs_node.specs.Page.{Row}
 use Rattle.bfs_pages.specs.Maps.{assoc}
 use Rattle.bfs_stream.specs.Places.{HasStream}
 use Rattle.bfs_stream.proofs.Doubles.{times-append}
-use Rattle.bfs_stream_pages.specs.Moves.{KeepsInode}
+use Rattle.bfs_maps.specs.Moves.{KeepsInode}
 use Rattle.bfs_tree.specs.Trees.{Tree}
 use Rattle.bfs_values.specs.Rows.{rows_in}
 use Rattle.bfs_values.specs.Reached.{IsWholeTree, AreWritten}

@@ -12,7 +12,7 @@ use Rattle.bfs_inode.specs.Inode.{Inode}
 use Rattle.bfs_inode.specs.Refusals.{IsInode, Names}
 use Rattle.bfs_smalldata.specs.Items.{Item, items_of}
 use Rattle.bfs_stream.specs.Sizes.{first_block}
-use Rattle.bfs_stream_pages.specs.Moves.{KeepsInode}
+use Rattle.bfs_maps.specs.Moves.{KeepsInode}
 use Rattle.bfs_tree.specs.Trees.{Node}
 use Rattle.bfs_sound.specs.Volumes.{Volume, sizes}
 use Rattle.bfs_sound.specs.Inodes.{HasBit, mode_bits, inode_blocks, is_short}

@@ -10,7 +10,7 @@ use Rattle.bfs_stream.specs.Grown.{IsOfVolume, Grown, is_new}
 use Rattle.bfs_stream.specs.Trimmed.{Trimmed}
 use Rattle.bfs_stream.proofs.Doubles.{times-append}
 use Rattle.bfs_stream.proofs.Taking.{some_test}
-use Rattle.bfs_stream_pages.specs.MovesLaws.{moved_grown}
+use Rattle.bfs_maps.specs.MovesLaws.{moved_grown}
 use Rattle.bfs_sound.specs.Volumes.{sizes, bitmap_blocks, IsMarked}
 use Rattle.bfs_shift.specs.Stocked.{Shifts}
 use Rattle.bfs_shift.specs.Shifts.{volume_in}

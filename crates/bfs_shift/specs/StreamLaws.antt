@@ -19,7 +19,7 @@ use Rattle.bfs_stream.specs.Places.{HasStream, whole_at}
 use Rattle.bfs_stream.specs.Told.{contents, AreTold}
 use Rattle.bfs_stream.specs.Grown.{IsOfVolume, Owns, Grown}
 use Rattle.bfs_stream.specs.Trimmed.{Trimmed}
-use Rattle.bfs_stream_pages.specs.Moves.{KeepsInode, Moved}
+use Rattle.bfs_maps.specs.Moves.{KeepsInode, Moved}
 use Rattle.bfs_tree.specs.declared.call.Kind.TheVariants.{Dir}
 use Rattle.bfs_tree.specs.Listings.{key_in}
 use Rattle.bfs_tree.specs.Trees.{Node, Tree, IsNode, HasPlainNodes, IsPlain}

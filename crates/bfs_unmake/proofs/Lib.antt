@@ -1,3 +1,5 @@
 pub mod Numbers
 pub mod Gone
 pub mod Streams
+pub use Rattle.bfs_leave.proofs.Standing
+pub use Rattle.bfs_leave.proofs.Steps

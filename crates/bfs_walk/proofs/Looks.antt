@@ -7,7 +7,7 @@ use Rattle.bfs_txn.specs.Pages.{IsPageAt, HasLength}
 use Rattle.bfs_pages.proofs.Reading.{page-there}
 use Rattle.bfs_pages.specs.Answers.{IsChild}
 use Rattle.bfs_pages.specs.Trees.{page_in, place_of, is_page}
-use Rattle.bfs_sound.specs.Owners.{In}
+use Rattle.bfs_finding.specs.Owners.{In}
 use Rattle.bfs_finding.specs.Walks.{inners_in}
 use Rattle.bfs_finding.specs.TreeFaults.{IsInTree, IsLinkFault, no_page, to_child, to_last, wanted_link}
 use Rattle.bfs_walk.specs.Wrong.{pages_at}

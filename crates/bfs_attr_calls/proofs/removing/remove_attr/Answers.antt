@@ -5,7 +5,7 @@ use Rattle.std.specs.FinMap.{remove}
 use Rattle.bfs_bitmap.specs.Runs.{Room}
 use Rattle.bfs_super.specs.Geometry.{geometry_of}
 use Rattle.bfs_shift.specs.Work.{IsStepped}
-use Rattle.bfs_leave.proofs.Standing.{same_standing}
+use Rattle.bfs_unmake.proofs.Standing.{same_standing}
 use Rattle.bfs_make.proofs.Telling.{told_back}
 use Rattle.bfs_attr_calls.specs.Attributed.{with_attributes}
 use Rattle.bfs_attr_calls.specs.Stamped.{with_changed}

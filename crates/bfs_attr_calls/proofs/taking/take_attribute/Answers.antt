@@ -4,7 +4,7 @@ use Rattle.bfs_super.specs.Geometry.{geometry_of}
 use Rattle.bfs_make.proofs.Pieces.{told_long, sized_at}
 use Rattle.bfs_maps.specs.Refused.{IsUndone}
 use Rattle.bfs_shift.proofs.AtWork.{inode_told}
-use Rattle.bfs_leave.specs.Leaving.{IsLeft}
+use Rattle.bfs_unmake.specs.Leaving.{IsLeft}
 use Rattle.bfs_attr_calls.specs.Attributed.{with_attributes}
 use Rattle.bfs_attr_calls.proofs.Holding.{node_holds}
 use Rattle.bfs_attr_calls.proofs.Lost.{found_undone, taken_left}

@@ -4,7 +4,7 @@ use Rattle.bfs_make.proofs.Pieces.{told_long, sized_at}
 use Rattle.bfs_shift.specs.Work.{IsStepped}
 use Rattle.bfs_shift.proofs.AtWork.{inode_told}
 use Rattle.bfs_shift.proofs.Basics.{some_bytes}
-use Rattle.bfs_query.proofs.Bearing.{attributes_are}
+use Rattle.bfs_attr_put.proofs.Bearing.{attributes_are}
 use Rattle.bfs_give_name.specs.Named.{with_name}
 use Rattle.bfs_give_name.proofs.Stepped.{named_step}
 use Rattle.bfs_give_name.proofs.naming.give_name.Goals as goal

@@ -5,7 +5,7 @@ use Rattle.bfs_make.proofs.Telling.{told_back, one_map}
 use Rattle.bfs_attr.specs.Bearers.{bearer_of, volume_at}
 use Rattle.bfs_attr.specs.Changed.{IsNamePut}
 use Rattle.bfs_calls.proofs.Faulting.{read_cause, undone_unanswered}
-use Rattle.bfs_attr_calls.proofs.Holding.{node_holds}
+use Rattle.bfs_attr_put.proofs.Holding.{node_holds}
 use Rattle.bfs_attr_put.proofs.Faulting.{answer_write, write_earlier}
 use Rattle.bfs_give_name.specs.Named.{HoldsProper}
 use Rattle.bfs_give_name.proofs.Dots.{own_named}

@@ -6,7 +6,7 @@ use Rattle.bfs_tree.specs.Trees.{Node, Nodes, Tree}
 use Rattle.bfs_shift.specs.TreeLaws.{moved_node}
 use Rattle.bfs_shift.specs.Work.{IsStepped}
 use Rattle.bfs_shift.proofs.Made.{put_here}
-use Rattle.bfs_attr_calls.proofs.Whole.{put_again}
+use Rattle.bfs_give_name.proofs.AttrCallsWhole.{put_again}
 use Rattle.bfs_moves.proofs.Stepping.{stepped_twice}
 use Rattle.bfs_give_name.specs.Named.{with_name}
 use Rattle.bfs_rename.specs.Moved.{with_seat}

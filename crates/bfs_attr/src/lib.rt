@@ -24,6 +24,3 @@ pub use longest::longest_attribute;
 pub use reading::{attribute_of, directory_at, rows_of};
 pub use rows::{AttrItem, AttrRows};
 pub use storing::store_attribute;
-
-#[cfg(test)]
-mod tests;

@@ -15,6 +15,3 @@ pub use directory::{rows_in, visit_directory};
 pub use owner::find_stored;
 pub use places::push_places;
 pub use stored::visit_stored;
-
-#[cfg(test)]
-mod tests;

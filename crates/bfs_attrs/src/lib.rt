@@ -21,6 +21,3 @@ pub use moving::move_out;
 pub use putting::put_new;
 pub use replacing::put;
 pub use taking::take;
-
-#[cfg(test)]
-mod tests;

@@ -9,3 +9,4 @@ pub mod Passing
 pub mod Sharing
 pub mod Searched
 pub mod Telling
+pub use Rattle.bfs_nodes_walk.proofs.Leading

@@ -1,2 +1,3 @@
 pub mod Attributes
 pub mod Passes
+pub use Rattle.bfs_nodes_walk.specs.declared.lead.NodeLead

@@ -13,6 +13,3 @@ pub use names::check_names;
 pub use node::visit_attributes;
 pub use owners::{find_attribute, find_before, find_node, find_owner_in};
 pub use pass::visit_all;
-
-#[cfg(test)]
-mod tests;

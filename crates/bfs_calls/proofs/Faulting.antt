@@ -18,7 +18,7 @@ use Rattle.bfs_stream_pages.specs.Causes.{HasFailed}
 use Rattle.bfs_txn.specs.Faults.{Counts, AreLater, IsCauseOf}
 use Rattle.bfs_txn.specs.declared.fault.BlockFault.{BlockFault}
 use Rattle.bfs_txn.specs.declared.fault.BlockFault.TheVariants as block
-use Rattle.bfs_index.specs.Refused.{IsPairFault, HasPairCause}
+use Rattle.bfs_moves.specs.Refused.{IsPairFault, HasPairCause}
 use Rattle.bfs_maps.specs.Refused.{IsUndone, IsPutFault, HasReadCause, HasPutCause}
 use Rattle.bfs_moves.specs.Written.{IsFewFault, IsListFault, IsSoundFault}
 use Rattle.bfs_txn.specs.Told.{with_block}

@@ -18,6 +18,3 @@ pub use indices::{BuiltIn, built_in_indices};
 pub use making::{make, make_node};
 pub use refusal::make_refusal;
 pub use setting::{set_mode, set_mode_refusal};
-
-#[cfg(test)]
-mod tests;

@@ -18,6 +18,3 @@ pub use removing::dups_remove;
 pub use settling::{move_to_slot, settle, settle_few};
 pub use shrinking::{fold_all, fold_next};
 pub use unlinking::{Gone, leave_first, leave_page, lessen, lessen_page, pass_page};
-
-#[cfg(test)]
-mod tests;

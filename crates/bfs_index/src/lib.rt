@@ -12,8 +12,3 @@ mod taking;
 pub use found::{Pair, Pairs};
 pub use index::Index;
 pub use laws::{added_is_written, pairs_ascend, taken_is_written, written_is_unique};
-
-#[cfg(test)]
-mod number_tests;
-#[cfg(test)]
-mod tests;

@@ -6,7 +6,7 @@ use Rattle.bfs_sound.specs.Owners.{fixed_blocks, node_blocks}
 use Rattle.bfs_finding.specs.Findings.{IsRowless, Standing}
 use Rattle.bfs_claims.specs.Claims.{Claimed}
 use Rattle.bfs_tour.specs.Tours.{Toured, toured_tree}
-use Rattle.bfs_nodes_walk.specs.declared.lead.NodeLead.{NodeLead}
+use Rattle.bfs_attrs_walk.specs.NodeLead.{NodeLead}
 use Rattle.bfs_attrs_walk.specs.Passes.{IsWhole}
 use Rattle.bfs_index_walk.specs.declared.found.FoundIndex.{FoundIndex}
 use Rattle.bfs_index_walk.specs.Indices.{kinds_of, AreWalked}

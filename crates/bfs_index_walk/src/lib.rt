@@ -21,6 +21,3 @@ pub use laws::{none_is_rowless, walk_is_tour, walk_stands};
 pub use owners::find_index_owner;
 pub use values::read_values;
 pub use walk::visit_indices;
-
-#[cfg(test)]
-mod tests;

@@ -18,6 +18,3 @@ pub use listing::list;
 pub use looking::lookup;
 pub use node::node_at;
 pub use target::read_link;
-
-#[cfg(test)]
-mod tests;

@@ -12,6 +12,3 @@ mod walk;
 pub use lead::NodeLead;
 pub use places::node_places;
 pub use walk::walk_nodes;
-
-#[cfg(test)]
-mod tests;

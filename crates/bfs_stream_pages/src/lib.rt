@@ -13,8 +13,3 @@ pub use fault::MapFault;
 pub use laws::others_stay;
 pub use pages::StreamPages;
 pub use reader::StreamReader;
-
-#[cfg(test)]
-mod reader_tests;
-#[cfg(test)]
-mod tests;

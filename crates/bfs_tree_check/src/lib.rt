@@ -31,6 +31,3 @@ pub use opening::open_page;
 pub use order::{go_on, order_rows};
 pub use shape::check_shape;
 pub use survey::{Survey, survey_tree};
-
-#[cfg(test)]
-mod tests;

@@ -13,6 +13,3 @@ mod walk;
 mod words;
 
 pub use walk::walk_values;
-
-#[cfg(test)]
-mod tests;

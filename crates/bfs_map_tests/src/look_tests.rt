@@ -1,0 +1,170 @@
+// The calls that read, over the volume that `mk --blocks 4096` makes at 1,000 seconds: the root alone, at block 514. Behind it
+// stand its two pages, and from block 517 on the index directory and the indices, none of which is a node.
+ghost use Rattle.std.specs.Prelude.{◌≡◌, IfOk, length};
+ghost use Rattle.bfs_super.specs.Conditions.{IsValid};
+
+use bfs_bitmap::Bitmap;
+use bfs_disk::{Disk, MemDisk};
+use bfs_look::{list, lookup, node_at, read_link, stat};
+use bfs_mkfs::{format, layout_of};
+use bfs_stream_pages::MapFault;
+use bfs_super::Super;
+use bfs_tree::{Kind, Reply};
+use bfs_txn::{BlockFault, Blocks, Changed, MemBlocks, Overlay};
+use std::alloc::{AllocError, Global};
+use std::test::Fail;
+
+const ROOT: u64 = 514;
+
+/// Blocks in memory, which tell nothing of what they hold, so that a test need not prove what stands there.
+#[derive(Drop)]
+struct Silent {
+    blocks: MemBlocks,
+}
+
+impl Blocks for Silent {
+    ghost use Rattle.std.specs.Prelude.{None, [], false};
+    ghost use Rattle.bfs_txn.specs.Told.{read_last};
+
+    ghost told = { λ s. None };
+
+    ghost size = { λ s. s.blocks.block_size };
+
+    ghost counts = { λ s. record { faults = 0; stops = 0; stop = None } };
+
+    ghost changed = { λ s k. false };
+
+    ghost pairs = { λ s. 0 };
+
+    ghost last = { λ s. read_last s.blocks };
+
+    ghost Note = { Unit {0} };
+
+    ghost frame = { λ s. record { note = tt; names = []; kept = []; below = None } };
+
+    ghost sized = { λ s. tt };
+
+    fn get(&mut self, block: u64, into: &mut [u8]) -> Result<(), BlockFault> {
+        self.blocks.get(block, into)
+    }
+}
+
+fn zeros(alloc: Global, count: usize) -> Result<Vec<u8>, AllocError> {
+    vec![in alloc; 0u8; count]
+}
+
+/// The blocks of 1,024 bytes of such an image.
+fn blocks_of(bytes: Vec<u8>) -> Silent
+    requires { length bytes.items ≡ 4194304 }
+    ensures { result.blocks.block_size ≡ 1024 }
+{
+    Silent {
+        blocks: MemBlocks::new(bytes, 1024),
+    }
+}
+
+/// Formats a disk that is large enough with 4,096 blocks of 1,024 bytes, and tells whether it worked.
+fn make(alloc: Global, disk: &mut MemDisk) -> bool {
+    let Ok(geometry) = layout_of(4096, 1024) else {
+        return false;
+    };
+    let Ok(sectors) = disk.sectors() else {
+        return false;
+    };
+    if sectors < geometry.blocks * u64::from(geometry.block_size / 512) {
+        return false;
+    }
+    format(alloc, disk, &geometry, b"untitled", 65_536_000).is_ok()
+}
+
+/// Which of some numbers are nodes: a directory, or none.
+fn are_nodes(
+    alloc: Global,
+    sup: &Super,
+    bitmap: &mut Bitmap,
+    edits: &mut Overlay<'_, Silent>,
+) -> Result<[bool; 5], MapFault>
+    requires valid { IsValid sup.now }
+    requires size { edits.old.under.now.blocks.block_size ≡ sup.now.block_size }
+    ensures size { edits.new.under.now.blocks.block_size ≡ sup.now.block_size }
+{
+    let root = node_at(alloc, sup, bitmap, edits, ROOT)? == Some(Kind::Dir);
+    let page = node_at(alloc, sup, bitmap, edits, ROOT + 1)?.is_none();
+    let index = node_at(alloc, sup, bitmap, edits, 517)?.is_none();
+    let log = node_at(alloc, sup, bitmap, edits, 2)?.is_none();
+    let past = node_at(alloc, sup, bitmap, edits, u64::MAX)?.is_none();
+    Ok([root, page, index, log, past])
+}
+
+/// A reply is an empty list of names.
+fn is_empty_list(reply: &Reply) -> bool {
+    match reply {
+        Reply::Names { names } => names.as_slice().is_empty(),
+        _ => false,
+    }
+}
+
+/// A reply is the record of the root.
+fn is_root(reply: &Reply) -> bool {
+    match reply {
+        Reply::Info { info } => {
+            info.kind == Kind::Dir
+                && info.parent == ROOT
+                && info.mode == 0o755
+                && info.created == 65_536_000
+                && info.size == 0
+                && info.name.as_slice().is_empty()
+        }
+        _ => false,
+    }
+}
+
+/// What is answered: the list of the root, a name that it hasn't, a directory that is none, the record of the root, and that it is no
+/// link.
+fn answers(
+    alloc: Global,
+    sup: &Super,
+    bitmap: &mut Bitmap,
+    edits: &mut Overlay<'_, Silent>,
+) -> Result<[bool; 5], MapFault>
+    requires valid { IsValid sup.now }
+    requires size { edits.old.under.now.blocks.block_size ≡ sup.now.block_size }
+{
+    let names = list(alloc, sup, bitmap, edits, ROOT)?;
+    let absent = lookup(alloc, sup, bitmap, edits, ROOT, b"a")?;
+    let nowhere = lookup(alloc, sup, bitmap, edits, 517, b"name")?;
+    let record = stat(alloc, sup, bitmap, edits, ROOT)?;
+    let link = read_link(alloc, sup, bitmap, edits, ROOT)?;
+    Ok([
+        is_empty_list(&names),
+        matches!(absent, Reply::NotFound),
+        matches!(nowhere, Reply::NotFound),
+        is_root(&record),
+        matches!(link, Reply::NotLink),
+    ])
+}
+
+#[test]
+fn the_root_of_a_new_volume_is_its_one_node(rt: HostRuntime) -> Result<(), Fail> {
+    let alloc = rt.alloc();
+    let image = zeros(alloc, 4_194_304)?;
+    assert_eq!(rt; image.len(), 4_194_304);
+    let mut disk = MemDisk::new(alloc, image);
+    assert!(rt; make(alloc, &mut disk));
+    let bytes = disk.bytes().to_vec(alloc)?;
+    assert_eq!(rt; bytes.len(), 4_194_304);
+    let mut sector = [0u8; 512];
+    sector.copy_from_slice(&bytes[512..1024]);
+    let sup = Super::parse(&sector)?;
+    assert_eq!(rt; sup.block_size, 1024);
+    let mut under = blocks_of(bytes);
+    let mut bitmap = Bitmap::of(alloc, &sup);
+    let mut open = Changed::new(alloc);
+    let mut edits = Overlay::begin(&mut open, &mut under);
+    let nodes = are_nodes(alloc, &sup, &mut bitmap, &mut edits);
+    let replies = answers(alloc, &sup, &mut bitmap, &mut edits);
+    edits.drop_call();
+    assert_eq!(rt; nodes?, [true; 5]);
+    assert_eq!(rt; replies?, [true; 5]);
+    Ok(())
+}

@@ -12,7 +12,7 @@ use Rattle.bfs_device.specs.Seals.{sealed_with}
 use Rattle.bfs_device.proofs.Forward.{sealed_durable}
 use Rattle.bfs_core.specs.Spaces.{SpaceView, IsGroupFor, sealed_space}
 use Rattle.bfs_core.specs.Cores.{HasVersions, IsKnown, RecoversFrom}
-use Rattle.bfs_core.specs.Moments.{Kept, IsCore, DeviceMoves, DeviceWrites}
+use Rattle.bfs_core.specs.Moments.{Adoption, Kept, IsCore, DeviceMoves, DeviceWrites}
 use Rattle.bfs_core.specs.Stories.{Words, Story, IsStory, SpaceFits, DeviceFits, FitsSince, IsMetadataIn, IsPair, Longer, with_numbers, end_of}
 use Rattle.bfs_core.proofs.Devices.{device_longer, device_on, device_written, other_block}
 use Rattle.bfs_core.proofs.Events.{passed_kept}
@@ -28,7 +28,7 @@ fit_recovers : (y : Story) (w : Words) (s : Super) (b : Books) (t : ℕ → Bool
 fit_recovers y w s b t st image story covered fits one =
     from_within y.t0 y.history (durable_of b) (sealed_of b) image (let e = fits.sealed in omega (arith, e, covered)) (device_recovers y w s b t st story covered fits image one)
 
-pub fit_moved : (y : Story) (w : Words) (s : Super) (adopted : ℕ) (b new : Books) (told told' : Option State) (clock clock' : ℕ) (past since : ℕ → List ℕ → Type 0) → IsStory y w.left → w.sealed ≤ end_of y
+pub fit_moved : (y : Story) (w : Words) (s : Super) (adopted : Adoption) (b new : Books) (told told' : Option State) (clock clock' : ℕ) (past since : ℕ → List ℕ → Type 0) → IsStory y w.left → w.sealed ≤ end_of y
     → DeviceMoves b new told told' clock clock' past since → FitsSince y w s adopted b told clock past → FitsSince y (with_numbers w new) s adopted new told' clock' since
 fit_moved y w s adopted b new told told' clock clock' past since story covered moves fits =
     let old : DeviceFits y w s b fits.0.2.0 fits.0.0 = fits.0.2.1 in
@@ -41,7 +41,7 @@ fit_moved y w s adopted b new told told' clock clock' past since story covered m
           (λ c one. fit_recovers y w s b fits.0.2.0 fits.0.0 c story covered old one) moves.ahead.durable fits.1,
     )
 
-pub fit_written : (y : Story) (w : Words) (s : Super) (adopted : ℕ) (block : ℕ) (b new : Books) (told told' : Option State) (clock clock' : ℕ) (past since : ℕ → List ℕ → Type 0) → IsStory y w.left → w.sealed ≤ end_of y
+pub fit_written : (y : Story) (w : Words) (s : Super) (adopted : Adoption) (block : ℕ) (b new : Books) (told told' : Option State) (clock clock' : ℕ) (past since : ℕ → List ℕ → Type 0) → IsStory y w.left → w.sealed ≤ end_of y
     → IsMarked (y.faces (end_of y)) block → ¬ IsMetadataIn y (end_of y) block → DeviceWrites block b new told told' clock clock' past since → FitsSince y w s adopted b told clock past → FitsSince y w s adopted new told' clock' since
 fit_written y w s adopted block b new told told' clock clock' past since story covered marked apart writes fits =
     let t : ℕ → Bool = fits.0.2.0 in
@@ -63,7 +63,7 @@ fit_written y w s adopted block b new told told' clock clock' past since story c
           (omega (arith, same)) fits.1,
     )
 
-pub fit_longer : (y z : Story) (w : Words) (s : Super) (adopted : ℕ) (b : Books) (told : Option State) (clock : ℕ) (since : ℕ → List ℕ → Type 0) (e : Entry) → Longer y z e → IsKnown b e → w.sealed ≤ end_of y
+pub fit_longer : (y z : Story) (w : Words) (s : Super) (adopted : Adoption) (b : Books) (told : Option State) (clock : ℕ) (since : ℕ → List ℕ → Type 0) (e : Entry) → Longer y z e → IsKnown b e → w.sealed ≤ end_of y
     → FitsSince y w s adopted b told clock since → FitsSince z w s adopted b told clock since
 fit_longer y z w s adopted b told clock since e longer known covered fits = (
   (fits.0.0, fits.0.1, (fits.0.2.0, device_longer y z w s b fits.0.2.0 fits.0.0 e longer known covered fits.0.2.1)),
@@ -71,7 +71,7 @@ fit_longer y z w s adopted b told clock since e longer known covered fits = (
       (subst (λ (h : List Entry). Kept y.t0 h adopted b.marks (durable_of b) b.moment clock since) (sym longer.history) (kept_more y.t0 y.history (e ∷ []) adopted b.marks (durable_of b) b.moment clock since fits.1)),
 )
 
-pub fit_sealed : (y : Story) (w : Words) (sp : SpaceView) (adopted : ℕ) (b : Books) (g : Group) (told : Option State) (clock : ℕ) (since : ℕ → List ℕ → Type 0) → IsStory y w.left → SpaceFits y w sp → IsGroupFor sp g
+pub fit_sealed : (y : Story) (w : Words) (sp : SpaceView) (adopted : Adoption) (b : Books) (g : Group) (told : Option State) (clock : ℕ) (since : ℕ → List ℕ → Type 0) → IsStory y w.left → SpaceFits y w sp → IsGroupFor sp g
     → FitsSince y w sp.sup adopted b told clock since → (let u : Words = record w { sealed = end_of y } in SpaceFits y u (sealed_space sp) × FitsSince y u sp.sup adopted (sealed_with b g) told clock since)
 fit_sealed y w sp adopted b g told clock since story space group fits =
     let pair : IsPair y w sp b fits.0.2.0 fits.0.0 = record { story = story; space = space; device = fits.0.2.1 } in
@@ -80,7 +80,7 @@ fit_sealed y w sp adopted b g told clock since story space group fits =
       ((fits.0.0, fits.0.1, (fits.0.2.0, next.device)), subst (λ (n : ℕ). Kept y.t0 y.history adopted b.marks n b.moment clock since) (sym (sealed_durable b g)) fits.1),
     )
 
-pub fit_core : (y : Story) (w : Words) (sp : SpaceView) (adopted : ℕ) (b : Books) (told : Option State) (clock : ℕ) (since : ℕ → List ℕ → Type 0) → IsStory y w.left → SpaceFits y w sp
+pub fit_core : (y : Story) (w : Words) (sp : SpaceView) (adopted : Adoption) (b : Books) (told : Option State) (clock : ℕ) (since : ℕ → List ℕ → Type 0) → IsStory y w.left → SpaceFits y w sp
     → FitsSince y w sp.sup adopted b told clock since → IsCore y.t0 adopted sp b told clock since
 fit_core y w sp adopted b told clock since story space fits = (
   (fits.0.0, fits.0.1, (fits.0.2.0, pair_is_core y w sp b fits.0.2.0 fits.0.0 story space fits.0.2.1)),

@@ -15,7 +15,7 @@ use Rattle.bfs_device.specs.declared.journal.Phase.TheVariants.{Log, LogSafe, Op
 use Rattle.bfs_device.specs.Books.{Books}
 use Rattle.bfs_device.specs.Steps.{HasMoved, still_touched, stepped, touched_front}
 use Rattle.bfs_core.specs.Cores.{RecoversFrom}
-use Rattle.bfs_core.specs.Moments.{Kept, KeptSince, IsKept, IsLessTouched, Marked}
+use Rattle.bfs_core.specs.Moments.{Adoption, Kept, KeptSince, IsKept, IsLessTouched, Marked}
 
 -- fewer entries
 pub recovers_less : (t0 : Mounted) (history : List Entry) (m n : ℕ) (c : List ℕ) → m ≤ n → RecoversFrom t0 history n c → RecoversFrom t0 history m c
@@ -30,16 +30,17 @@ recovers_more t0 history more n c from = (
   subst (λ (h : List Entry). Recovers c (after t0 h)) (sym (take-append-le from.0 history more from.2)) from.3,
 )
 
-pub kept_more : (t0 : Mounted) (history more : List Entry) (adopted : ℕ) (marks : List Mark) (durable moment clock : ℕ) (since : ℕ → List ℕ → Type 0) → Kept t0 history adopted marks durable moment clock since → Kept t0 (history ++ more) adopted marks durable moment clock since
+pub kept_more : (t0 : Mounted) (history more : List Entry) (adopted : Adoption) (marks : List Mark) (durable moment clock : ℕ) (since : ℕ → List ℕ → Type 0) → Kept t0 history adopted marks durable moment clock since → Kept t0 (history ++ more) adopted marks durable moment clock since
 kept_more t0 history more adopted marks durable moment clock since kept = record {
   slow = kept.slow;
+  early = kept.early;
   low = kept.low;
   first = λ t c low high is. recovers_more t0 history more 0 c (kept.first t c low high is);
   marked = λ k d lt early t c low high is. recovers_more t0 history more _ c (kept.marked k d lt early t c low high is);
   reached = kept.reached;
 }
 
-module _ (t0 : Mounted) (history : List Entry) (adopted durable moment clock durable' moment' clock' : ℕ) (past since : ℕ → List ℕ → Type 0) (during : List ℕ → Type 0)
+module _ (t0 : Mounted) (history : List Entry) (adopted : Adoption) (durable moment clock durable' moment' clock' : ℕ) (past since : ℕ → List ℕ → Type 0) (during : List ℕ → Type 0)
     (time : Passed clock clock' past since during) (meanwhile : (c : List ℕ) → during c → RecoversFrom t0 history durable c) (now : (c : List ℕ) → since clock' c → RecoversFrom t0 history durable' c)
     (moved : HasMoved clock moment clock' moment') (later : durable ≤ durable') where
   one_more : clock' ≤ clock + 1
@@ -56,7 +57,7 @@ module _ (t0 : Mounted) (history : List Entry) (adopted durable moment clock dur
       recovers_less t0 history n durable' c (omega (arith, le, later)) (now c (subst (λ (x : ℕ). since x c) at_end is)))
       (le_or t clock)
 
-  still_slow : (moment < 2 ^ 64 - 1 → clock ≤ adopted + moment) → moment' < 2 ^ 64 - 1 → clock' ≤ adopted + moment'
+  still_slow : (moment < 2 ^ 64 - 1 → clock ≤ adopted.moment + moment) → moment' < 2 ^ 64 - 1 → clock' ≤ adopted.moment + moment'
   still_slow slow early = ⊎_elim
       (λ stays. let e = stays.0 in let m = stays.1 in let le = slow (omega (arith, m, early)) in omega (arith, e, m, le))
       (λ goes.
@@ -67,7 +68,7 @@ module _ (t0 : Mounted) (history : List Entry) (adopted durable moment clock dur
       moved
 
   -- a mark of this moment
-  pub new_mark : (moment < 2 ^ 64 - 1 → clock ≤ adopted + moment) → (m : Mark) → m.moment ≡ moment' → m.number ≤ durable' → IsKept t0 history adopted clock' since m
+  pub new_mark : (moment < 2 ^ 64 - 1 → clock ≤ adopted.moment + moment) → (m : Mark) → m.moment ≡ moment' → m.number ≤ durable' → IsKept t0 history adopted clock' since m
   new_mark slow m at low early t c from high is =
       let le = still_slow slow (omega (arith, at, early)) in
       let at_end : t ≡ clock' = omega (arith, at, from, high, le) in
@@ -76,8 +77,9 @@ module _ (t0 : Mounted) (history : List Entry) (adopted durable moment clock dur
   pub kept_on : (marks marks' : List Mark) → Kept t0 history adopted marks durable moment clock past → Marked marks marks' durable' moment' → Kept t0 history adopted marks' durable' moment' clock' since
   kept_on marks marks' kept how = record {
     slow = still_slow kept.slow;
+    early = kept.early;
     low = (let le = time.later in let low = kept.low in omega (arith, le, low));
-    first = still_since adopted 0 (omega arith) kept.first;
+    first = still_since adopted.begun 0 (omega arith) kept.first;
     marked = ⊎_elim
         (λ same. subst (All (IsKept t0 history adopted clock' since)) (sym same) old_marks)
         (λ more. subst (All (IsKept t0 history adopted clock' since)) (sym more.1) (All-push (IsKept t0 history adopted clock' since) marks more.0 old_marks (new_mark kept.slow more.0 more.2 more.3)))

@@ -14,20 +14,30 @@ use Rattle.bfs_device.specs.Ahead.{IsSteady, GoesOn}
 use Rattle.bfs_core.specs.Spaces.{SpaceView}
 use Rattle.bfs_core.specs.Cores.{Core, RecoversFrom}
 
+-- When a device adopted its disk, and when what led there began: by the disk's clock, the moment before replay, and that of adoption.
+pub record Adoption : Type 0 where
+  pub begun : ℕ
+  pub moment : ℕ
+
+-- since a moment, and adopted at another one
+abbrev pub adopted_at : ℕ → ℕ → Adoption
+adopted_at begun moment = record { begun = begun; moment = moment }
+
 -- what a crash since a time might have left recovers to at least so many entries
 abbrev pub KeptSince : Mounted → List Entry → ℕ → (ℕ → List ℕ → Type 0) → ℕ → ℕ → Type 0
 KeptSince t0 history clock since from n = (t : ℕ) (c : List ℕ) → from ≤ t → t ≤ clock → since t c → RecoversFrom t0 history n c
 
 -- that of a mark, whose moment counts from adoption, unless the count had come to its end
-abbrev pub IsKept : Mounted → List Entry → ℕ → ℕ → (ℕ → List ℕ → Type 0) → Mark → Type 0
-IsKept t0 history adopted clock since m = m.moment < 2 ^ 64 - 1 → KeptSince t0 history clock since (adopted + m.moment) m.number
+abbrev pub IsKept : Mounted → List Entry → Adoption → ℕ → (ℕ → List ℕ → Type 0) → Mark → Type 0
+IsKept t0 history adopted clock since m = m.moment < 2 ^ 64 - 1 → KeptSince t0 history clock since (adopted.moment + m.moment) m.number
 
--- Since each mark, and since adoption, what a crash might have left recovers to at least its entries, and no mark is above the
--- durable number. The disk's clock goes no faster than the device's count, until that has come to its end.
-pub record Kept (t0 : Mounted) (history : List Entry) (adopted : ℕ) (marks : List Mark) (durable moment clock : ℕ) (since : ℕ → List ℕ → Type 0) : Type 0 where
-  pub slow : moment < 2 ^ 64 - 1 → clock ≤ adopted + moment
-  pub low : adopted ≤ clock
-  pub first : KeptSince t0 history clock since adopted 0
+-- Since each mark what a crash might have left recovers to at least its entries, and since what led to adoption began it recovers. No mark is above
+-- the durable number. The disk's clock goes no faster than the device's count, until that has come to its end.
+pub record Kept (t0 : Mounted) (history : List Entry) (adopted : Adoption) (marks : List Mark) (durable moment clock : ℕ) (since : ℕ → List ℕ → Type 0) : Type 0 where
+  pub slow : moment < 2 ^ 64 - 1 → clock ≤ adopted.moment + moment
+  pub early : adopted.begun ≤ adopted.moment
+  pub low : adopted.moment ≤ clock
+  pub first : KeptSince t0 history clock since adopted.begun 0
   pub marked : All (IsKept t0 history adopted clock since) marks
   pub reached : All (λ (m : Mark). m.number ≤ durable) marks
 
@@ -36,7 +46,7 @@ abbrev pub Marked : List Mark → List Mark → ℕ → ℕ → Type 0
 Marked old new durable moment = (new ≡ old) ⊎ ((m : Mark) × (new ≡ old ++ m ∷ []) × (m.moment ≡ moment) × (m.number ≤ durable))
 
 -- Core from adoption on: the disk tells, Core holds of what it tells, and what a crash might have left since each mark is kept.
-abbrev pub IsCore : Mounted → ℕ → SpaceView → Books → Option State → ℕ → (ℕ → List ℕ → Type 0) → Type 0
+abbrev pub IsCore : Mounted → Adoption → SpaceView → Books → Option State → ℕ → (ℕ → List ℕ → Type 0) → Type 0
 IsCore t0 adopted sp b told clock since = Tells told (λ st. (t : ℕ → Bool) × Core t0 sp b t st) × Kept t0 sp.history adopted b.marks (durable_of b) b.moment clock since
 
 -- fewer blocks are touched, and where a group has left, none is

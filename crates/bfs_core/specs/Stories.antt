@@ -19,7 +19,7 @@ use Rattle.bfs_device.specs.Books.{Books, IsRight, IsVersion, durable_of, sealed
 use Rattle.bfs_device.specs.Ahead.{IsSteady, IsGroupOf, geometry_with}
 use Rattle.bfs_core.specs.Spaces.{SpaceView, IsHeld, IsFresh}
 use Rattle.bfs_core.specs.Cores.{IsKnown}
-use Rattle.bfs_core.specs.Moments.{Kept}
+use Rattle.bfs_core.specs.Moments.{Adoption, Kept}
 
 -- how many entries are sealed, are durable, and have left the log
 pub record Words : Type 0 where
@@ -132,7 +132,7 @@ abbrev pub with_numbers : Words → Books → Words
 with_numbers w b = record { sealed = w.sealed; durable = durable_of b; left = b.left }
 
 -- DeviceFits from adoption on: the disk tells, the device fits, and what a crash might have left since each mark is kept.
-abbrev pub FitsSince : Story → Words → Super → ℕ → Books → Option State → ℕ → (ℕ → List ℕ → Type 0) → Type 0
+abbrev pub FitsSince : Story → Words → Super → Adoption → Books → Option State → ℕ → (ℕ → List ℕ → Type 0) → Type 0
 FitsSince y w s adopted b told clock since = Tells told (λ st. (t : ℕ → Bool) × DeviceFits y w s b t st) × Kept y.t0 y.history adopted b.marks (durable_of b) b.moment clock since
 
 -- a space and a device over one story

@@ -27,6 +27,3 @@ pub use pairs::{
     device_writes_apart, pair_is_core, pair_is_opened, pair_is_sealed, space_is_entered,
     space_is_raised, space_is_released, story_is_raised,
 };
-
-#[cfg(test)]
-mod tests;

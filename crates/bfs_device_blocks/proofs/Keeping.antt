@@ -12,7 +12,8 @@ use Rattle.bfs_device.specs.Books.{Books, AreSame, IsRight, RecoversOne, durable
 use Rattle.bfs_device.specs.Data.{IsRested}
 use Rattle.bfs_core.specs.Spaces.{SpaceView}
 use Rattle.bfs_core.specs.Cores.{Core, RecoversFrom}
-use Rattle.bfs_core.specs.Moments.{Kept, KeptSince, IsCore, IsLessTouched}
+use Rattle.bfs_core.specs.KnownBytes.{HasKnown}
+use Rattle.bfs_core.specs.Moments.{Adoption, Kept, KeptSince, IsCore, IsLessTouched}
 use Rattle.bfs_core.specs.Stories.{Story, Words, IsStory, DeviceFits, FitsSince, with_numbers, end_of}
 use Rattle.bfs_core.proofs.Calls.{read_ahead, read_stops}
 use Rattle.bfs_core.proofs.Devices.{device_on}
@@ -28,10 +29,10 @@ use Rattle.bfs_device_blocks.proofs.Going.{right_rested, steady_rested}
 le_or : (m n : ℕ) → (m ≤ n) ⊎ (n < m)
 le_or m n = grind arith
 
-later_clock : (adopted clock later m m' : ℕ) → clock ≤ adopted + m → (m ≤ m') × (later + m ≤ clock + m') → later ≤ adopted + m'
-later_clock adopted clock later m m' le both = let a = both.0 in let z = both.1 in omega (arith, le, a, z)
+later_clock : (begun clock later m m' : ℕ) → clock ≤ begun + m → (m ≤ m') × (later + m ≤ clock + m') → later ≤ begun + m'
+later_clock begun clock later m m' le both = let a = both.0 in let z = both.1 in omega (arith, le, a, z)
 
-module _ (t0 : Mounted) (history : List Entry) (adopted : ℕ) (b new : Books) (told told' : Option State) (clock later : ℕ) (past since : ℕ → List ℕ → Type 0) (read : HasBeenRead b new told told' clock later past since)
+module _ (t0 : Mounted) (history : List Entry) (adopted : Adoption) (b new : Books) (told told' : Option State) (clock later : ℕ) (past since : ℕ → List ℕ → Type 0) (read : HasBeenRead b new told told' clock later past since)
     (only : (c : List ℕ) → past clock c → MayLeave told c) (fewer : (t u : ℕ) (c : List ℕ) → t ≤ u → since u c → since t c) (touched : ℕ → Bool) (right : Tells told (IsRight b touched))
     (within : (c : List ℕ) → RecoversOne b touched right.0 c → RecoversFrom t0 history (durable_of b) c) where
   time : Passed clock later past since (λ c. Tells told (λ s. RecoversOne b touched s c))
@@ -58,9 +59,10 @@ module _ (t0 : Mounted) (history : List Entry) (adopted : ℕ) (b new : Books) (
 
   pub kept_read : Kept t0 history adopted b.marks (durable_of b) b.moment clock past → Kept t0 history adopted new.marks (durable_of new) new.moment later since
   kept_read kept = subst (λ (x : Books). Kept t0 history adopted x.marks (durable_of x) new.moment later since) (sym read.rests) (record {
-    slow = λ low. later_clock adopted clock later b.moment new.moment (kept.slow (let le = (read.slow low).0 in omega (arith, le, low))) (read.slow low);
+    slow = λ low. later_clock adopted.moment clock later b.moment new.moment (kept.slow (let le = (read.slow low).0 in omega (arith, le, low))) (read.slow low);
+    early = kept.early;
     low = (let le = kept.low in let more = time.later in omega (arith, le, more));
-    first = still_since adopted 0 (omega arith) kept.first;
+    first = still_since adopted.begun 0 (omega arith) kept.first;
     marked = λ k d lt early. still_since _ _ (kept.reached k d lt) (kept.marked k d lt early);
     reached = kept.reached;
   })
@@ -86,7 +88,22 @@ fit_rested y w s b new t st covered rests fits =
 pub core_half : (t0 : Mounted) (sp : SpaceView) (b new : Books) (told told' : Option State) → IsRested b new → told' ≡ told → Tells told (λ st. (t : ℕ → Bool) × Core t0 sp b t st) → Tells told' (λ st. (t : ℕ → Bool) × Core t0 sp new t st)
 core_half t0 sp b new told told' rests same core = (core.0, same ∙ core.1, (core.2.0, core_rested t0 sp b new core.2.0 core.0 rests core.2.1))
 
-module _ (t0 : Mounted) (adopted : ℕ) (sp : SpaceView) (b new : Books) (told told' : Option State) (clock later : ℕ) (past since : ℕ → List ℕ → Type 0)
+-- known bytes, of which nothing is read but what stays
+known_later : (t0 : Mounted) (sp : SpaceView) (b : Books) (m : ℕ) (st : State) → HasKnown t0 sp b st → (let new : Books = record b { moment = m } in HasKnown t0 sp new st)
+known_later t0 sp b m st known = known
+
+pub known_rested : (t0 : Mounted) (sp : SpaceView) (b new : Books) (st : State) → IsRested b new → HasKnown t0 sp b st → HasKnown t0 sp new st
+known_rested t0 sp b new st rests known = subst (λ (x : Books). HasKnown t0 sp x st) (sym rests) (known_later t0 sp b new.moment st known)
+
+-- Core without them
+pub core_alone : (t0 : Mounted) (sp : SpaceView) (b : Books) (told : Option State) → Tells told (λ st. (t : ℕ → Bool) × Core t0 sp b t st × HasKnown t0 sp b st) → Tells told (λ st. (t : ℕ → Bool) × Core t0 sp b t st)
+core_alone t0 sp b told core = (core.0, core.1, (core.2.0, core.2.1))
+
+both_halves : (t0 : Mounted) (sp : SpaceView) (b new : Books) (told told' : Option State) → IsRested b new → told' ≡ told → Tells told (λ st. (t : ℕ → Bool) × Core t0 sp b t st × HasKnown t0 sp b st)
+    → Tells told' (λ st. (t : ℕ → Bool) × Core t0 sp new t st × HasKnown t0 sp new st)
+both_halves t0 sp b new told told' rests same core = (core.0, same ∙ core.1, (core.2.0, core_rested t0 sp b new core.2.0 core.0 rests core.2.1, known_rested t0 sp b new core.0 rests core.2.2))
+
+module _ (t0 : Mounted) (adopted : Adoption) (sp : SpaceView) (b new : Books) (told told' : Option State) (clock later : ℕ) (past since : ℕ → List ℕ → Type 0)
     (only : (c : List ℕ) → past clock c → MayLeave told c) (fewer : (t u : ℕ) (c : List ℕ) → t ≤ u → since u c → since t c) where
   time_half : HasBeenRead b new told told' clock later past since → Tells told (λ st. (t : ℕ → Bool) × Core t0 sp b t st) → Kept t0 sp.history adopted b.marks (durable_of b) b.moment clock past
       → Kept t0 sp.history adopted new.marks (durable_of new) new.moment later since
@@ -98,8 +115,8 @@ module _ (t0 : Mounted) (adopted : ℕ) (sp : SpaceView) (b new : Books) (told t
 
   pub core_given_back : ∥ HasBeenRead b new told told' clock later past since ∥₁ → IsRested b new → told' ≡ told → HasCore t0 adopted sp b told clock past → HasCore t0 adopted sp new told' later since
   core_given_back reads rests same core = (
-    core_half t0 sp b new told told' rests same core.0,
-    ∥∥₁_elim reads (Prim.hlevel props) (λ read. ∥∥₁_map core.1 (λ kept. time_half read core.0 kept)),
+    both_halves t0 sp b new told told' rests same core.0,
+    ∥∥₁_elim reads (Prim.hlevel props) (λ read. ∥∥₁_map core.1 (λ kept. time_half read (core_alone t0 sp b told core.0) kept)),
   )
 
 -- ---- a device that fits a story
@@ -108,7 +125,7 @@ fit_recovers : (y : Story) (w : Words) (s : Super) (b : Books) (t : ℕ → Bool
 fit_recovers y w s b t st image story covered fits one =
     from_within y.t0 y.history (durable_of b) (sealed_of b) image (let e = fits.sealed in omega (arith, e, covered)) (device_recovers y w s b t st story covered fits image one)
 
-pub fit_read : (y : Story) (w : Words) (s : Super) (adopted : ℕ) (b new : Books) (told told' : Option State) (clock later : ℕ) (past since : ℕ → List ℕ → Type 0)
+pub fit_read : (y : Story) (w : Words) (s : Super) (adopted : Adoption) (b new : Books) (told told' : Option State) (clock later : ℕ) (past since : ℕ → List ℕ → Type 0)
     → ((c : List ℕ) → past clock c → MayLeave told c) → ((t u : ℕ) (c : List ℕ) → t ≤ u → since u c → since t c) → IsStory y w.left → w.sealed ≤ end_of y → HasBeenRead b new told told' clock later past since
     → FitsSince y w s adopted b told clock past → FitsSince y (with_numbers w new) s adopted new told' later since
 fit_read y w s adopted b new told told' clock later past since only fewer story covered read fits =

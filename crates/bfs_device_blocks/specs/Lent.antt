@@ -8,7 +8,8 @@ use Rattle.bfs_device.specs.Books.{Books, View, IsRight, RecoversOne, durable_of
 use Rattle.bfs_device.specs.Data.{IsRested}
 use Rattle.bfs_core.specs.Spaces.{SpaceView}
 use Rattle.bfs_core.specs.Cores.{Core}
-use Rattle.bfs_core.specs.Moments.{Kept}
+use Rattle.bfs_core.specs.Moments.{Adoption, Kept}
+use Rattle.bfs_core.specs.KnownBytes.{HasKnown}
 
 -- what is noted for the owner of a lent device: the device as it was lent, and the name of the reference to it
 pub record Lent (D : Type 0) : Type 0 where
@@ -26,6 +27,7 @@ pub record HasBeenRead (b new : Books) (told after_it : Option State) (clock lat
   pub meanwhile : (t : ℕ → Bool) → Tells told (IsRight b t) → Passed clock later past since (λ c. Tells told (λ s. RecoversOne b t s c))
   pub slow : new.moment < 2 ^ 64 - 1 → (b.moment ≤ new.moment) × (later + b.moment ≤ clock + new.moment)
 
--- Core from adoption on, where no more is said of what a crash since each mark might have left than that it is kept.
-abbrev pub HasCore : Mounted → ℕ → SpaceView → Books → Option State → ℕ → (ℕ → List ℕ → Type 0) → Type 0
-HasCore t0 adopted sp b told clock since = Tells told (λ st. (t : ℕ → Bool) × Core t0 sp b t st) × ∥ Kept t0 sp.history adopted b.marks (durable_of b) b.moment clock since ∥₁
+-- Core from adoption on, with the known bytes of files, each of which the disk reads at its place. No more is said of what a crash
+-- since each mark might have left than that it is kept.
+abbrev pub HasCore : Mounted → Adoption → SpaceView → Books → Option State → ℕ → (ℕ → List ℕ → Type 0) → Type 0
+HasCore t0 adopted sp b told clock since = Tells told (λ st. (t : ℕ → Bool) × Core t0 sp b t st × HasKnown t0 sp b st) × ∥ Kept t0 sp.history adopted b.marks (durable_of b) b.moment clock since ∥₁

@@ -6,6 +6,7 @@ ghost use Rattle.bfs_txn.specs.Told.{AreSized};
 ghost use Rattle.bfs_device.specs.Data.{IsRested};
 ghost use Rattle.bfs_core.specs.Spaces.{SpaceView};
 ghost use Rattle.bfs_core.specs.Cores.{newest_map};
+ghost use Rattle.bfs_core.specs.Moments.{Adoption};
 ghost use Rattle.bfs_device_blocks.specs.Lent.{HasBeenRead, HasCore};
 
 use bfs_device::{Device, DeviceFault};
@@ -56,7 +57,7 @@ impl<'a, D: Disk> DeviceBlocks<'a, D> {
         ensures state { D.state self.entry.device.now.disk ≡ D.state self.entry.start.value.disk }
         ensures faults { D.faults self.entry.start.value.disk ≤ D.faults self.entry.device.now.disk }
         ensures reads { ∥ HasBeenRead self.entry.start.value.books self.entry.device.now.books (D.state self.entry.start.value.disk) (D.state self.entry.device.now.disk) (D.clock self.entry.start.value.disk) (D.clock self.entry.device.now.disk) (D.since self.entry.start.value.disk) (D.since self.entry.device.now.disk) ∥₁ }
-        ensures core { (t0 : Mounted) (adopted : ℕ) (sp : SpaceView) → HasCore t0 adopted sp self.entry.start.value.books (D.state self.entry.start.value.disk) (D.clock self.entry.start.value.disk) (D.since self.entry.start.value.disk)
+        ensures core { (t0 : Mounted) (adopted : Adoption) (sp : SpaceView) → HasCore t0 adopted sp self.entry.start.value.books (D.state self.entry.start.value.disk) (D.clock self.entry.start.value.disk) (D.since self.entry.start.value.disk)
             → HasCore t0 adopted sp self.entry.device.now.books (D.state self.entry.device.now.disk) (D.clock self.entry.device.now.disk) (D.since self.entry.device.now.disk) }
     {
         let DeviceBlocks {

@@ -7,6 +7,7 @@ ghost use Rattle.bfs_device.specs.Layouts.{IsSameVolume};
 ghost use Rattle.bfs_device.specs.Data.{IsRested};
 ghost use Rattle.bfs_device.specs.Seals.{adopted};
 ghost use Rattle.bfs_core.specs.Spaces.{SpaceView, IsSoundOver};
+ghost use Rattle.bfs_core.specs.Moments.{Adoption};
 ghost use Rattle.bfs_device_blocks.specs.Lent.{HasCore};
 
 use crate::{
@@ -173,7 +174,7 @@ fn read_of<D: Disk>(
 ) -> Result<(), BlockFault>
     requires size { device.old.books.sup.block_size ≡ 1024 }
     ensures rests { IsRested device.old.books device.new.books }
-    ensures core { (t0 : Mounted) (adopted : ℕ) (sp : SpaceView) → HasCore t0 adopted sp device.old.books (D.state device.old.disk) (D.clock device.old.disk) (D.since device.old.disk)
+    ensures core { (t0 : Mounted) (adopted : Adoption) (sp : SpaceView) → HasCore t0 adopted sp device.old.books (D.state device.old.disk) (D.clock device.old.disk) (D.since device.old.disk)
         → HasCore t0 adopted sp device.new.books (D.state device.new.disk) (D.clock device.new.disk) (D.since device.new.disk) }
 {
     let mut blocks = DeviceBlocks::over(device);
@@ -198,7 +199,7 @@ fn read_with_core<D: Disk>(
     into: &mut [u8; 1024],
 ) -> Result<(), BlockFault>
     requires size { device.old.books.sup.block_size ≡ 1024 }
-    requires core { (t0 : Mounted) × (adopted : ℕ) × (sp : SpaceView) × HasCore t0 adopted sp device.old.books (D.state device.old.disk) (D.clock device.old.disk) (D.since device.old.disk) }
+    requires core { (t0 : Mounted) × (adopted : Adoption) × (sp : SpaceView) × HasCore t0 adopted sp device.old.books (D.state device.old.disk) (D.clock device.old.disk) (D.since device.old.disk) }
 {
     let mut blocks = DeviceBlocks::over(device);
     let result = read_standing(&mut blocks, block, into);

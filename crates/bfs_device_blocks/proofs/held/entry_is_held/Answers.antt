@@ -3,4 +3,4 @@ use Rattle.bfs_device_blocks.proofs.held.entry_is_held.Goals as goal
 
 pub returns : goal.returns
 returns g c =
-    λ t0 adopted sp new b e entered known core. hold_entered t0 adopted sp b (g.D.Disk.state c.args.disk.now) (g.D.Disk.clock c.args.disk.now) (g.D.Disk.since c.args.disk.now) new e entered known core
+    λ t0 adopted sp new b e entered known keeps core. hold_entered t0 adopted sp b (g.D.Disk.state c.args.disk.now) (g.D.Disk.clock c.args.disk.now) (g.D.Disk.since c.args.disk.now) new e entered known keeps core

@@ -1,0 +1,5 @@
+pub mod Once
+pub mod Parting
+pub mod Writing
+pub mod Spreading
+pub mod Stepping

@@ -5,8 +5,6 @@ use Rattle.bfs_bitmap.specs.Runs.{Room, is_reserved}
 use Rattle.bfs_tree.specs.declared.call.Call.{Call}
 use Rattle.bfs_tree.specs.declared.reply.Reply.{Reply}
 use Rattle.bfs_tree.specs.declared.state.Hold.{Hold}
-use Rattle.bfs_tree.specs.States.{State}
-use Rattle.bfs_tree.specs.Steps.{Reads}
 use Rattle.bfs_tree.specs.Trees.{Tree}
 use Rattle.bfs_sound.specs.Owners.{IsMetadata}
 use Rattle.bfs_shift.specs.Lists.{Lists}
@@ -17,7 +15,8 @@ use Rattle.bfs_look.specs.Ready.{IsReady}
 use Rattle.bfs_calls.specs.Done.{IsDone, IsDoneSo}
 use Rattle.bfs_core.specs.Spaces.{IsFresh}
 use Rattle.bfs_space.specs.Called.{IsCalled}
-use Rattle.bfs_space.specs.Answered.{IsAnswered}
+use Rattle.bfs_space.specs.Answered.{AnswersIn, IsAnswered}
+use Rattle.bfs_space.proofs.Keeping.{goes_on_keeps, still_keeps}
 
 module _ (g : Geometry) (v now : Room) (m : ℕ → Option (List ℕ)) (tree : Tree) (lists : Lists) (told : Option (ℕ → Option (List ℕ))) (old new : ℕ → Bool) (ready : IsReady g v m tree lists) where
   module _ (after : Tree) (done : IsDone g v now m tree after told old new) where
@@ -56,13 +55,14 @@ module _ (g : Geometry) (v now : Room) (m : ℕ → Option (List ℕ)) (tree : T
     is = so.done.step.is;
     after = so.after;
     called = done_is_called so.after so.done;
-    by_tree = λ s same held. so.answers s same;
+    by_tree = λ s same held session. let a = so.answers s same in (a.0, a.1, a.2 session);
+    blocks = goes_on_keeps g v now m so.done.step.map tree so.after old new call so.done.step.goes_on;
   }
 
 -- a call that was answered and has changed nothing
 pub read_is_answered : (g : Geometry) (v : Room) (m : ℕ → Option (List ℕ)) (tree : Tree) (holds : List Hold) (lists : Lists) (told : Option (ℕ → Option (List ℕ))) (old : ℕ → Bool) (stamp : ℤ) (call : Call) (reply : Reply)
-    → IsReady g v m tree lists → told ≡ Some m → ((s : State) → s.tree ≡ tree → s.holds ≡ holds → Reads call s reply) → IsAnswered g v v m tree holds stamp call reply told old old
-read_is_answered g v m tree holds lists told old stamp call reply ready is reads = record {
+    → IsReady g v m tree lists → told ≡ Some m → AnswersIn stamp call reply tree holds tree → IsAnswered g v v m tree holds stamp call reply told old old
+read_is_answered g v m tree holds lists told old stamp call reply ready is answers = record {
   map = m;
   is = is;
   after = tree;
@@ -72,5 +72,6 @@ read_is_answered g v m tree holds lists told old stamp call reply ready is reads
     agrees = ready.agrees;
     root = refl;
   });
-  by_tree = λ s same held. (s, same, λ session. reads s same held session stamp);
+  by_tree = answers;
+  blocks = still_keeps (volume_in g m) tree call;
 }

@@ -23,6 +23,7 @@ use Rattle.bfs_space.specs.Answered.{IsKept}
 use Rattle.bfs_space.specs.Books.{SpaceBooks, IsIdle, entry_noted}
 use Rattle.bfs_space.specs.Called.{IsCalled, IsFaceTold, is_changed, with_entry}
 use Rattle.bfs_space.specs.Faces.{IsFaceOf, HasEntered}
+use Rattle.bfs_space.specs.Files.{KeepsBlocks}
 use Rattle.bfs_space.specs.Holds.{holds_after}
 use Rattle.bfs_space.proofs.Called.{face_is_ready, call_entered, call_set, call_told}
 use Rattle.bfs_space.proofs.Following.{follows, tree_after, tree_unsynced}
@@ -53,7 +54,7 @@ module _ (t0 : Mounted) (old : SpaceBooks) (m : ℕ → Option (List ℕ)) (face
       since = with_entry old.view kept.room group entry
 
       turn : (t : State) × (t.tree ≡ kept.after) × ByTree session entry.stamp call reply (state_after t0 old.view.history) t
-      turn = let a = kept.by_tree (state_after t0 old.view.history) refl refl in (a.0, a.1, a.2 session)
+      turn = kept.by_tree (state_after t0 old.view.history) refl refl session
 
       unsynced : (upto : ℕ) → reply ≡ replies.Synced upto → ⊥
       unsynced = tree_unsynced session entry.stamp call reply (state_after t0 old.view.history) turn.0 no_sync turn.2
@@ -69,6 +70,9 @@ module _ (t0 : Mounted) (old : SpaceBooks) (m : ℕ → Option (List ℕ)) (face
 
       entered : Entered t0 old.view since m entry
       entered = call_entered t0 old.view m face_of.sound some old.room kept.room group entry given sized follow called
+
+      blocks : KeepsBlocks (face old.view m) (face since m) (after t0 old.view.history) (after t0 since.history) call
+      blocks = subst (λ (t : Tree). KeepsBlocks (volume_in (geometry_of old.view.sup) (over old.view.group m)) (volume_in (geometry_of old.view.sup) (over group m)) (after t0 old.view.history) t call) tree_is kept.blocks
 
       has_entered : (books : SpaceBooks) → books.view ≡ since → books.room ≡ new → HasEntered t0 old books m session tag now call
       has_entered books view room = record {
@@ -86,6 +90,7 @@ module _ (t0 : Mounted) (old : SpaceBooks) (m : ℕ → Option (List ℕ)) (face
           within = subst (λ (x : Room). IsWithin logged taken old.room x m old.view.group books.view.group) (sym room) (subst (λ (v : SpaceView). IsWithin logged taken old.room new m old.view.group v.group) (sym view) done.within);
           unchanged = λ no. (ap (λ (v : SpaceView). v.group) view ∙ (done.unchanged no).0, ap (λ (x : Room). x.tally.used) room ∙ (done.unchanged no).1);
         });
+        blocks = subst (λ (v : SpaceView). KeepsBlocks (face old.view m) (face v m) (after t0 old.view.history) (after t0 v.history) call) (sym view) blocks;
       }
         where
           logged : ℕ
@@ -137,6 +142,7 @@ module _ (t0 : Mounted) (old : SpaceBooks) (m : ℕ → Option (List ℕ)) (face
           fits = subst (λ (x : Room). Fits x (over books.view.group m)) (sym room) (subst (λ (v : SpaceView). Fits old.room (over v.group m)) (sym view) face_of.fits);
         };
         caused = inr (ap (λ (v : SpaceView). v.group) view, room, why);
+        blocks = subst (λ (v : SpaceView). KeepsBlocks (face old.view m) (face v m) (after t0 old.view.history) (after t0 v.history) call) (sym view) (λ id n x is file later regular. inl refl);
       }
 
       pub away_with : (new : Room) (group : List (ℕ × List ℕ)) (history : List Entry) (promised : List ℕ) (stop : Option Stop) (left : ℕ) → new ≡ old.room → group ≡ old.view.group → history ≡ old.view.history ++ entry ∷ []

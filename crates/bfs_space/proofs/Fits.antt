@@ -28,6 +28,7 @@ use Rattle.bfs_space.specs.Books.{MayBeSealed}
 use Rattle.bfs_moves.specs.Laws.{IsApart}
 use Rattle.bfs_space.specs.Called.{IsCalled, is_changed}
 use Rattle.bfs_space.specs.Answered.{IsAnswered, IsKept, IsStray, IsUnfit, IsCallFault, IsCrowding, AreFit, room_kept}
+use Rattle.bfs_space.specs.Files.{KeepsBlocks}
 use Rattle.bfs_space.proofs.Called.{same_place, some_is, is_there, some_or}
 
 below_or_at : (j i : ℕ) → j < i + 1 → (j < i) ⊎ (i ≡ j)
@@ -126,6 +127,7 @@ kept_of g v room new m tree holds stamp call reply before now kept told is reads
   called = called;
   fits = keeps (over kept m) called.work.fits;
   by_tree = answered.by_tree;
+  blocks = subst (λ (map : ℕ → Option (List ℕ)). KeepsBlocks (volume_in g (over before m)) (volume_in g map) tree answered.after call) (sym map_is ∙ sym same_over) answered.blocks;
 }
   where
     same_over : over kept m ≡ over now m

@@ -19,21 +19,21 @@ use Rattle.bfs_space.specs.Answered.{AnswersIn}
 -- of a node that is removed
 pub removed_answers : (tree after : Tree) (holds : List Hold) (dir : ℕ) (name : List ℕ) (stamp : ℤ) → ((s : State) → s.tree ≡ tree → s.holds ≡ holds → own_refusal (Remove dir name) s ≡ None)
     → ((s : State) → s.tree ≡ tree → (removed s dir stamp (child s.tree dir name)).tree ≡ after) → AnswersIn stamp (Remove dir name) Done tree holds after
-removed_answers tree after holds dir name stamp fine follows = λ s same held.
-    (removed s dir stamp (child s.tree dir name), follows s same, λ session. ByTree.answered (fine s same held) refl refl)
+removed_answers tree after holds dir name stamp fine follows = λ s same held session.
+    (removed s dir stamp (child s.tree dir name), follows s same, ByTree.answered (fine s same held) refl refl)
 
 -- of a node that is renamed: another one may have gone for it
 pub renamed_answers : (tree after : Tree) (holds : List Hold) (dir : ℕ) (name : List ℕ) (to_dir : ℕ) (to_name : List ℕ) (stamp : ℤ)
     → ((s : State) → s.tree ≡ tree → s.holds ≡ holds → own_refusal (Rename dir name to_dir to_name) s ≡ None)
     → ((s : State) → s.tree ≡ tree → (renamed s dir to_dir to_name stamp (child s.tree dir name)).tree ≡ after) → AnswersIn stamp (Rename dir name to_dir to_name) Done tree holds after
-renamed_answers tree after holds dir name to_dir to_name stamp fine follows = λ s same held.
-    (renamed s dir to_dir to_name stamp (child s.tree dir name), follows s same, λ session. ByTree.answered (fine s same held) refl refl)
+renamed_answers tree after holds dir name to_dir to_name stamp fine follows = λ s same held session.
+    (renamed s dir to_dir to_name stamp (child s.tree dir name), follows s same, ByTree.answered (fine s same held) refl refl)
 
 -- of an index
 pub unindexed_answers : (tree after : Tree) (holds : List Hold) (name : List ℕ) (stamp : ℤ) → ((s : State) → s.tree ≡ tree → own_refusal (IndexRemove name) s ≡ None)
     → ((s : State) → s.tree ≡ tree → after ≡ record s.tree { indices = remove s.tree.indices name }) → AnswersIn stamp (IndexRemove name) Done tree holds after
-unindexed_answers tree after holds name stamp fine follows = λ s same held.
-    (record s { tree = record s.tree { indices = remove s.tree.indices name } }, sym (follows s same), λ session. ByTree.answered (fine s same) refl refl)
+unindexed_answers tree after holds name stamp fine follows = λ s same held session.
+    (record s { tree = record s.tree { indices = remove s.tree.indices name } }, sym (follows s same), ByTree.answered (fine s same) refl refl)
 
 -- a call that removes an index has no refusal of its own only where the index is there and isn't built in
 pub own_index : (s : State) (name : List ℕ) → own_refusal (IndexRemove name) s ≡ None → IsOwnIndex s.tree name
@@ -47,8 +47,8 @@ own_index s name fine = by_kind (get s.tree.indices name) refl (is_built_in name
 -- of an attribute that is removed
 pub unattributed_answers : (tree after : Tree) (holds : List Hold) (id : ℕ) (name : List ℕ) (stamp : ℤ) → ((s : State) → s.tree ≡ tree → own_refusal (AttrRemove id name) s ≡ None)
     → ((s : State) → s.tree ≡ tree → (changed 0 stamp (AttrRemove id name) Done s).tree ≡ after) → AnswersIn stamp (AttrRemove id name) Done tree holds after
-unattributed_answers tree after holds id name stamp fine follows = λ s same held.
-    (changed 0 stamp (AttrRemove id name) Done s, follows s same, λ session. ByTree.answered (fine s same) refl refl)
+unattributed_answers tree after holds id name stamp fine follows = λ s same held session.
+    (changed 0 stamp (AttrRemove id name) Done s, follows s same, ByTree.answered (fine s same) refl refl)
 
 -- a call that removes an attribute has no refusal of its own only where the node is there and has it
 pub own_attribute : (s : State) (id : ℕ) (name : List ℕ) → own_refusal (AttrRemove id name) s ≡ None → HasAttributeAt s.tree id name

@@ -13,6 +13,7 @@ use Rattle.bfs_tree.specs.Histories.{Mounted, start}
 use Rattle.bfs_tree.specs.States.{State, last_hold}
 use Rattle.bfs_tree.specs.Steps.{is_done, next}
 use Rattle.bfs_tree.specs.Trees.{Node, child}
+use Rattle.bfs_space.specs.Faces.{promised_after}
 use Rattle.bfs_space.specs.Holds.{holds_after, held_by, held_next, held_since, without_hold, keeps_holds, KeepsHolds}
 
 removed_holds : (s : State) (dir : ℕ) (stamp : ℤ) (o : Option (ℕ × Node)) → (removed s dir stamp o).holds ≡ s.holds
@@ -92,6 +93,11 @@ next_same holds e (inl keeps) = by_test (is_done e.reply)
     by_test true = since_same e.session e.call holds keeps
     by_test false = refl
 next_same holds e (inr undone) = ap (λ (b : Bool). cond {A = List Hold} b (held_since e.session e.call holds) holds) undone
+
+-- nor does it promise anything
+pub kept_promises : (session : ℕ) (call : Call) (reply : Reply) (promised : List ℕ) → keeps_holds call ≡ true → promised_after session call reply promised ≡ promised
+kept_promises session (calls.Hold id at count writes) reply promised keeps = absurd (let bad : false ≡ true = keeps in cc)
+kept_promises session _ reply promised keeps = refl
 
 pub entry_is_held : (history : List Entry) (e : Entry) → held_by (history ++ e ∷ []) ≡ held_next (held_by history) e
 entry_is_held history e = fold-append held_next [] history (e ∷ [])

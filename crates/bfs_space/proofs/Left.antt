@@ -26,6 +26,7 @@ use Rattle.bfs_set_size.proofs.Steps.{sized_is_left}
 use Rattle.bfs_core.specs.Spaces.{IsFresh}
 use Rattle.bfs_space.specs.Called.{IsCalled, StaysAs}
 use Rattle.bfs_space.specs.Answered.{AnswersIn, IsAnswered}
+use Rattle.bfs_space.proofs.Keeping.{given_back_keeps, resized_keeps}
 
 -- a reserved block of runs without a number was given back since the last seal
 fresh_of : (gs : List Given) (k : ℕ) → AllByRecursion (λ run. run.group ≡ None) gs → is_reserved gs k ≡ true → IsFresh gs k
@@ -86,6 +87,7 @@ left_is_answered g v now m tree after before lists holds stamp call reply told o
   after = after;
   called = left_is_called g v now m left.map tree after before lists old new ready settled left.work agrees root left.gives;
   by_tree = answers;
+  blocks = given_back_keeps g v now m left.map tree after lists old new call left.work left.gives;
 }
 
 -- the answer of a call that has given a file a size
@@ -96,5 +98,6 @@ sized_is_answered g v now m tree lists holds stamp id size told old new ready se
   is = sized.step.is;
   after = sized.after;
   called = ended_is_called g v now m sized.step.map tree sized.after sized.lists old new sized.step.work sized.agrees sized.root (sized_is_left g v now m tree lists holds stamp id size told old new settled ready sized);
-  by_tree = λ s same held. let a = sized.answers s same held in (a.0, a.1, a.3);
+  by_tree = λ s same held session. let a = sized.answers s same held in (a.0, a.1, a.3 session);
+  blocks = resized_keeps g v now m sized.step.map tree sized.after id size sized.grows old new sized.step.resizes;
 }

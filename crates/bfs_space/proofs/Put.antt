@@ -17,8 +17,8 @@ use Rattle.bfs_space.specs.Answered.{AnswersIn}
 -- of an attribute that is written
 pub written_answers : (tree after : Tree) (holds : List Hold) (id : ℕ) (name : List ℕ) (kind : ℕ) (bytes : List ℕ) (stamp : ℤ) → ((s : State) → s.tree ≡ tree → own_refusal (AttrWrite id name kind bytes) s ≡ None)
     → ((s : State) → s.tree ≡ tree → (changed 0 stamp (AttrWrite id name kind bytes) Done s).tree ≡ after) → AnswersIn stamp (AttrWrite id name kind bytes) Done tree holds after
-written_answers tree after holds id name kind bytes stamp fine follows = λ s same held.
-    (changed 0 stamp (AttrWrite id name kind bytes) Done s, follows s same, λ session. ByTree.answered (fine s same) refl refl)
+written_answers tree after holds id name kind bytes stamp fine follows = λ s same held session.
+    (changed 0 stamp (AttrWrite id name kind bytes) Done s, follows s same, ByTree.answered (fine s same) refl refl)
 
 -- a call that writes an attribute has no refusal of its own only where the node is there
 pub own_written : (s : State) (id : ℕ) (name : List ℕ) (kind : ℕ) (bytes : List ℕ) → own_refusal (AttrWrite id name kind bytes) s ≡ None → HasNodeAt s.tree id

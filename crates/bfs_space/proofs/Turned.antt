@@ -1,5 +1,5 @@
 -- What becomes of a call that what lies below has refused.
-use Rattle.std.proofs.Common.{◌≡◌, ◌≤◌, ◌+◌, ◌∙◌, ◌⊎◌, inr, ℕ, ℤ, List, false, Option, Some, refl, sym, subst, arith}
+use Rattle.std.proofs.Common.{◌≡◌, ◌≤◌, ◌+◌, ◌∙◌, ◌⊎◌, inr, ℕ, ℤ, List, false, Option, Some, refl, sym, ap, subst, arith}
 use Rattle.std.specs.Prelude.{Result, Ok, Err, IfOk, IfErr}
 use Rattle.bfs_super.specs.declared.geometry.Geometry.{Geometry}
 use Rattle.bfs_super.specs.declared.sup.Super.{Super}
@@ -25,7 +25,7 @@ use Rattle.bfs_tree.specs.States.{State}
 use Rattle.bfs_tree.specs.Steps.{Turn}
 use Rattle.bfs_tree.specs.Trees.{Tree}
 use Rattle.bfs_device.specs.declared.journal.Stop.{Stop}
-use Rattle.bfs_calls.specs.Done.{IsUnanswered}
+use Rattle.bfs_calls.specs.Done.{HasAnswerCause, IsUnanswered}
 use Rattle.bfs_attr_put.specs.Written.{HasWriteCause}
 use Rattle.bfs_sound.specs.Need.{need}
 use Rattle.bfs_shift.specs.Shifts.{volume_in}
@@ -69,6 +69,31 @@ step_caused blocks old new stop (tree.Pages (grow.NoRun wanted free)) r is cause
 step_caused blocks old new stop (tree.Pages (grow.Full room)) r is cause = absurd cc
 step_caused blocks old new stop (tree.Pages (grow.Block f)) r is cause = block_caused old new stop f r is cause
 step_caused blocks old new stop tree.NoMemory r is cause = absurd cc
+
+pub step_answered : (old new : Counts) (stop : Option Stop) (f : TreeFault GrowFault) (r : Reply) → reply_to f ≡ Some r → HasAnswerCause old new f → HasReplyCause old new stop r
+step_answered old new stop tree.Exists r is cause = absurd cause
+step_answered old new stop tree.Absent r is cause = absurd cause
+step_answered old new stop (tree.Damaged page sort) r is cause = absurd cc
+step_answered old new stop (tree.Pages (grow.NoRun wanted free)) r is cause = absurd cc
+step_answered old new stop (tree.Pages (grow.Full room)) r is cause = absurd cc
+step_answered old new stop (tree.Pages (grow.Block f)) r is cause = block_caused old new stop f r is cause
+step_answered old new stop tree.NoMemory r is cause = absurd cc
+
+-- a reply to a fault says of no call that it was done
+pub block_undone : (f : BlockFault) (r : Reply) → reply_to_block f ≡ Some r → r ≡ replies.Done → ⊥
+block_undone (block.Disk before after) r is done = let bad : Some (replies.DiskFault before after false) ≡ Some replies.Done = is ∙ ap (λ (x : Reply). Some x) done in absurd cc
+block_undone (block.Stopped durable faults) r is done = let bad : Some (replies.Stopped durable faults) ≡ Some replies.Done = is ∙ ap (λ (x : Reply). Some x) done in absurd cc
+block_undone (block.Damaged b) r is done = let bad : Some (replies.Damaged b) ≡ Some replies.Done = is ∙ ap (λ (x : Reply). Some x) done in absurd cc
+block_undone block.NoMemory r is done = absurd cc
+
+pub step_undone : (f : TreeFault GrowFault) (r : Reply) → reply_to f ≡ Some r → r ≡ replies.Done → ⊥
+step_undone tree.Exists r is done = absurd cc
+step_undone tree.Absent r is done = absurd cc
+step_undone (tree.Damaged page sort) r is done = absurd cc
+step_undone (tree.Pages (grow.NoRun wanted free)) r is done = absurd cc
+step_undone (tree.Pages (grow.Full room)) r is done = absurd cc
+step_undone (tree.Pages (grow.Block f)) r is done = block_undone f r is done
+step_undone tree.NoMemory r is done = absurd cc
 
 -- what holds of the one reply that there may be
 pub that_ok : (o : Option Reply) (P : Reply → Type 0) (result : Result Reply NoReply) → IsThat o result → ((r : Reply) → o ≡ Some r → P r) → IfOk result P

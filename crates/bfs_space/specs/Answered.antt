@@ -12,7 +12,7 @@ use Rattle.bfs_tree.specs.declared.call.Call.TheVariants as calls
 use Rattle.bfs_tree.specs.declared.reply.Reply.{Reply}
 use Rattle.bfs_tree.specs.declared.state.Hold.{Hold}
 use Rattle.bfs_tree.specs.States.{State}
-use Rattle.bfs_tree.specs.Steps.{Writes}
+use Rattle.bfs_tree.specs.Steps.{ByTree}
 use Rattle.bfs_tree.specs.Trees.{Tree}
 use Rattle.bfs_device.specs.Layouts.{Layout, IsData, ring_count}
 use Rattle.bfs_calls.specs.Done.{IsDoneSo, IsUnanswered}
@@ -20,25 +20,28 @@ use Rattle.bfs_attr_put.specs.Written.{HasWriteCause}
 use Rattle.bfs_look.specs.Ready.{IsReady}
 use Rattle.bfs_leave.specs.Leaving.{IsLeft}
 use Rattle.bfs_shift.specs.Lists.{Lists, Agrees}
+use Rattle.bfs_shift.specs.Shifts.{volume_in}
 use Rattle.bfs_space.specs.Called.{IsCalled, is_changed}
+use Rattle.bfs_space.specs.Files.{KeepsBlocks}
 use Rattle.bfs_space.specs.declared.answers.Allowance.{Allowance}
 use Rattle.bfs_space.specs.declared.calling.CallFault.{CallFault}
 use Rattle.bfs_space.specs.declared.calling.CallFault.TheVariants as calling
 use Rattle.bfs_space.specs.declared.keep.Unkept.{Unkept}
 use Rattle.bfs_space.specs.declared.keep.Unkept.TheVariants.{Damaged, TooMany, Beyond}
 
--- the answer and the tree since are those of the plain tree, in every state that has this tree and these holds
+-- the answer and the tree since are those of the plain tree, in every state that has this tree and these holds, whatever the session
 abbrev pub AnswersIn : ℤ → Call → Reply → Tree → List Hold → Tree → Type 0
-AnswersIn stamp call reply tree holds after = (s : State) → s.tree ≡ tree → s.holds ≡ holds → (t : State) × (t.tree ≡ after) × Writes stamp call reply s t
+AnswersIn stamp call reply tree holds after = (s : State) → s.tree ≡ tree → s.holds ≡ holds → (session : ℕ) → (t : State) × (t.tree ≡ after) × ByTree session stamp call reply s t
 
 -- A call was answered: what is told now is what the call has made of the volume, and the answer and the tree since are those of the plain
--- tree, in every state that has this tree and these holds.
+-- tree, in every state that has this tree and these holds; and files have kept their blocks.
 pub record IsAnswered (g : Geometry) (v now : Room) (m : ℕ → Option (List ℕ)) (tree : Tree) (holds : List Hold) (stamp : ℤ) (call : Call) (reply : Reply) (told : Option (ℕ → Option (List ℕ))) (old new : ℕ → Bool) : Type 0 where
   pub map : ℕ → Option (List ℕ)
   pub is : told ≡ Some map
   pub after : Tree
   pub called : IsCalled g v now m map tree after old new
   pub by_tree : AnswersIn stamp call reply tree holds after
+  pub blocks : KeepsBlocks (volume_in g m) (volume_in g map) tree after call
 
 -- Why a call isn't answered, or its changes may not be kept: over a volume that is told no block is changed that no group may have; but more
 -- may be changed than the log has room for, or more changed or taken than the call is allowed
@@ -92,7 +95,7 @@ abbrev pub room_kept : Room → Room
 room_kept v = record v { given = map settled v.given; tally_kept = v.tally }
 
 -- A call was answered and kept: what its open group has made of the volume, over what is told below it, by the bitmap as it was when the
--- call was answered; and answer and tree are those of the plain tree.
+-- call was answered; answer and tree are those of the plain tree; and files have kept their blocks.
 pub record IsKept (g : Geometry) (v new : Room) (m : ℕ → Option (List ℕ)) (before now : List (ℕ × List ℕ)) (tree : Tree) (holds : List Hold) (stamp : ℤ) (call : Call) (reply : Reply) : Type 0 where
   pub room : Room
   pub kept : new ≡ room_kept room
@@ -100,6 +103,7 @@ pub record IsKept (g : Geometry) (v new : Room) (m : ℕ → Option (List ℕ)) 
   pub called : IsCalled g v room (over before m) (over now m) tree after (is_changed before) (is_changed now)
   pub fits : Fits new (over now m)
   pub by_tree : AnswersIn stamp call reply tree holds after
+  pub blocks : KeepsBlocks (volume_in g (over before m)) (volume_in g (over now m)) tree after call
 
 -- At most so many blocks of what is told are other ones since a call was kept, and at most so many more are used: the first are those that the
 -- log holds, and among the second are the data blocks that a file has gained, which aren't written.

@@ -5,16 +5,19 @@ use Rattle.bfs_bitmap.specs.Runs.{Fits}
 use Rattle.bfs_txn.specs.Changed.{over}
 use Rattle.bfs_txn.specs.Faults.{Counts}
 use Rattle.bfs_tree.specs.declared.call.Call.{Call}
+use Rattle.bfs_tree.specs.declared.call.Call.TheVariants as calls
 use Rattle.bfs_tree.specs.declared.reply.Reply.{Reply}
+use Rattle.bfs_tree.specs.declared.reply.Reply.TheVariants as replies
 use Rattle.bfs_tree.specs.Histories.{Mounted, after}
 use Rattle.bfs_tree.specs.Steps.{is_done}
 use Rattle.bfs_calls.specs.Refusals.{is_own}
 use Rattle.bfs_sound.specs.Need.{logged_need, need}
 use Rattle.bfs_shift.specs.Shifts.{volume_in}
-use Rattle.bfs_core.specs.Spaces.{Entered, HasSet, IsSoundOver, SameSeals}
+use Rattle.bfs_core.specs.Spaces.{Entered, HasSet, IsSoundOver, SameSeals, face as face_of}
 use Rattle.bfs_space.specs.Answered.{IsWithin}
 use Rattle.bfs_space.specs.Books.{SpaceBooks, IsIdle, entry_noted}
 use Rattle.bfs_space.specs.Called.{IsFaceTold}
+use Rattle.bfs_space.specs.Files.{KeepsBlocks}
 use Rattle.bfs_space.specs.Holds.{holds_after}
 use Rattle.bfs_space.specs.Replies.{HasReplyCause, IsOutside, IsPutOff}
 use Rattle.bfs_space.specs.declared.space.Outcome.{Outcome}
@@ -45,7 +48,7 @@ IsCaused t0 old new m call reply =
     ⊎ ((new.view.group ≡ old.view.group) × (new.room ≡ old.room) × IsOutside (geometry_of old.view.sup) old.room (over old.view.group m) (after t0 old.view.history) (holds_after t0 old.view.history) (IsIdle old) call reply)
 
 -- A call was entered: its entry may follow the history, Face stays sound with the tree after it, and what it set is in the open group; the
--- space still stands over what is told; and blocks and reply are as Need and the causes of replies say.
+-- space still stands over what is told; blocks and reply are as Need and the causes of replies say; and files have kept their blocks.
 pub record HasEntered (t0 : Mounted) (old new : SpaceBooks) (m : ℕ → Option (List ℕ)) (session tag now : ℕ) (call : Call) : Type 0 where
   pub reply : Reply
   pub set : ℕ → Bool
@@ -53,6 +56,12 @@ pub record HasEntered (t0 : Mounted) (old new : SpaceBooks) (m : ℕ → Option 
   pub has_set : HasSet t0 old.view new.view m set
   pub face : IsFaceOf t0 new m
   pub caused : IsCaused t0 old new m call reply
+  pub blocks : KeepsBlocks (face_of old.view m) (face_of new.view m) (after t0 old.view.history) (after t0 new.view.history) call
+
+-- a hold that was taken promises its session an entry, that of its release
+abbrev pub promised_after : ℕ → Call → Reply → List ℕ → List ℕ
+promised_after session (calls.Hold id at count writes) replies.Done promised = promised ++ session ∷ []
+promised_after session call reply promised = promised
 
 -- An entry was appended, whose stamp was drawn from the clock; a reply by the disk has its cause; what only a seal, a promise, a release or a
 -- note changes is as it was; and where no block waits for a seal, none did before, and as many are used as then.
@@ -62,7 +71,7 @@ pub record HasReplied (before after : Counts) (old new : SpaceBooks) (session ta
   pub cause : HasReplyCause before after old.stop reply
   pub same : SameSeals old.view new.view
   pub idle : new.view.group ≡ [] → (old.view.group ≡ []) × (new.view.used ≡ old.view.used)
-  pub promised : new.promised ≡ old.promised
+  pub promised : new.promised ≡ promised_after session call reply old.promised
   pub stop : new.stop ≡ old.stop
   pub left : new.left ≡ old.left
 

@@ -6,3 +6,7 @@ pub mod BuiltLaws
 pub mod Answered
 pub mod Replies
 pub mod Faces
+pub mod Files
+pub mod Taken
+pub mod FileLaws
+pub use Rattle.bfs_hold.specs.Places

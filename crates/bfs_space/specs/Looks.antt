@@ -1,13 +1,13 @@
 -- What a look at a call finds of a volume.
-use Rattle.std.specs.Prelude.{◌≡◌, ◌≤◌, ◌<◌, ◌+◌, ℕ, List, Bool, Option, None, true, false}
+use Rattle.std.specs.Prelude.{◌≡◌, ◌≤◌, ◌<◌, ◌+◌, ℕ, ℤ, List, Bool, Option, None, true, false}
 use Rattle.bfs_super.specs.declared.geometry.Geometry.{Geometry}
 use Rattle.bfs_super.specs.declared.sup.Super.{Super}
 use Rattle.bfs_tree.specs.declared.call.Call.{Call}
 use Rattle.bfs_tree.specs.declared.state.Hold.{Hold}
 use Rattle.bfs_tree.specs.Refusals.{own_refusal}
 use Rattle.bfs_tree.specs.States.{State}
-use Rattle.bfs_tree.specs.Steps.{Reads, changes_tree}
-use Rattle.bfs_tree.specs.Trees.{Tree}
+use Rattle.bfs_tree.specs.Steps.{changes_tree, is_done}
+use Rattle.bfs_tree.specs.Trees.{Node, Tree, IsNode, is_file}
 use Rattle.bfs_sound.specs.Need.{cost_of, logged_need, need}
 use Rattle.bfs_shift.specs.Shifts.{volume_in}
 use Rattle.bfs_calls.specs.Allowances.{allowance}
@@ -18,6 +18,7 @@ use Rattle.bfs_index_make.specs.Made.{MayIndex}
 use Rattle.bfs_rename.specs.Refused.{IsPlace}
 use Rattle.bfs_super.specs.Conditions.{natural}
 use Rattle.bfs_tree.specs.declared.call.Call.TheVariants as calls
+use Rattle.bfs_space.specs.Answered.{AnswersIn}
 use Rattle.bfs_space.specs.declared.answers.Allowance.{Allowance}
 use Rattle.bfs_space.specs.declared.answers.Looked.{Looked}
 use Rattle.bfs_space.specs.declared.answers.Looked.TheVariants.{Answered, Allowed}
@@ -32,15 +33,28 @@ pub record IsAllowed (g : Geometry) (m : ℕ → Option (List ℕ)) (tree : Tree
   pub logged : a.logged ≤ logged_need (volume_in g m) tree call
   pub taken : a.taken ≤ need (volume_in g m) tree call
 
--- The tree alone answers the call so, in every state that has it and these holds, and nothing is to be changed; or it is allowed so many blocks.
+-- The tree alone answers the call so, in every state that has it and these holds, and the tree stays; or it is allowed so many blocks.
 abbrev pub IsLooked : Geometry → (ℕ → Option (List ℕ)) → Tree → List Hold → Call → Looked → Type 0
-IsLooked g m tree holds call (Answered reply) = (s : State) → s.tree ≡ tree → s.holds ≡ holds → Reads call s reply
+IsLooked g m tree holds call (Answered reply) = (stamp : ℤ) → AnswersIn stamp call reply tree holds tree
 IsLooked g m tree holds call (Allowed a) = IsAllowed g m tree holds call a
 
 -- a reply that a look finds is one that the tree alone gives
 abbrev pub FindsOwn : Looked → Type 0
 FindsOwn (Answered reply) = is_own reply ≡ true
 FindsOwn (Allowed a) = Unit {0}
+
+-- the call is to be done: it is answered so, or it is allowed so many blocks
+abbrev pub is_to_do : Looked → Bool
+is_to_do (Answered reply) = is_done reply
+is_to_do (Allowed a) = true
+
+-- a piece of at most 65,536 bytes lies in a file
+pub record IsHeldIn (tree : Tree) (id at count : ℕ) : Type 0 where
+  pub node : Node
+  pub there : IsNode tree id node
+  pub file : is_file node.kind ≡ true
+  pub few : count ≤ 65536
+  pub below : at + count ≤ node.size
 
 -- what is found of a call that may be done holds whatever the volume
 abbrev pub FindsMay : (Super → Call → Type 0) → Super → Call → Looked → Type 0
@@ -68,8 +82,13 @@ is_built calls.IndexList = true
 is_built (calls.IndexFind name low high) = true
 is_built _ = false
 
+-- and with them the call that holds a piece of a file
+abbrev pub is_served : Call → Bool
+is_served (calls.Hold id at count writes) = true
+is_served call = is_built call
+
 -- what is found of those that change a tree: a node that may be made, its directory a block of the volume, its name and target good; a node
--- whose mode is set, a block of the volume; a file that gets a size, a block of the volume, and the size not too big; the directory of a node
+-- whose mode is set, a block of the volume; a file that gets a size, a block of the volume, and the size not too big; a file of which a piece is held, a block of the volume; the directory of a node
 -- that is removed, a block of the volume; both directories of a node that is renamed, blocks of the volume, and its new name good; the node of an
 -- attribute that is written, a block of the volume, its name good and its bytes not too many; an index that is made, its name good and its keys
 -- no floats; and nothing of an attribute or an index that is removed
@@ -83,4 +102,5 @@ MayBeDone sup (calls.AttrWrite id name kind bytes) = MayBear (natural sup.num_bl
 MayBeDone sup (calls.AttrRemove id name) = Unit {0}
 MayBeDone sup (calls.IndexMake name kind) = MayIndex name kind
 MayBeDone sup (calls.IndexRemove name) = Unit {0}
+MayBeDone sup (calls.Hold id at count writes) = id < natural sup.num_blocks
 MayBeDone sup _ = ⊥

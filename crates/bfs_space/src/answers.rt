@@ -19,7 +19,6 @@ ghost use Rattle.bfs_calls.specs.Done.{IsUnanswered, HasAnswerCause};
 ghost use Rattle.bfs_calls.specs.Refusals.{is_own};
 ghost use Rattle.bfs_attr_put.specs.Written.{HasWriteCause};
 ghost use Rattle.bfs_space.specs.Answered.{IsAnswered, asked};
-ghost use Rattle.bfs_space.specs.Holds.{keeps_holds};
 ghost use Rattle.bfs_space.specs.Looks.{IsLooked, FindsMay, FindsOwn};
 
 use bfs_bitmap::Bitmap;
@@ -52,9 +51,6 @@ pub trait Answers {
 
     /// What a look has found of a call that is to be done, whatever the volume.
     ghost may: { sup.Super → calls.Call → Type 0 };
-
-    /// A call that it answers leaves the holds of sessions as they are.
-    ghost stays: { (call : calls.Call) → serves call ≡ true → keeps_holds call ≡ true };
 
     /// Looks at a call with these holds of sessions, and changes nothing.
     fn look<E: Edits>(

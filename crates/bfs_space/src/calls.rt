@@ -1,5 +1,5 @@
-// The calls that are built so far: those that make a node and an index, set a mode, give a file a size, write an attribute, rename a node,
-// remove a node, an attribute and an index, and those that only read.
+// The calls that are built so far: those that make a node and an index, set a mode, give a file a size, hold a piece of it, write an attribute,
+// rename a node, remove a node, an attribute and an index, and those that only read.
 ghost use Rattle.std.specs.Prelude.{◌≡◌, ◌≤◌, ℕ, ℤ, List, Option, Some, true, IfOk, IfErr, MatchResult, length};
 ghost use Rattle.bfs_super.specs.Conditions.{IsValid, natural};
 ghost use Rattle.bfs_super.specs.Geometry.{geometry_of};
@@ -19,6 +19,7 @@ ghost use Rattle.bfs_calls.specs.Done.{IsUnanswered, HasAnswerCause};
 ghost use Rattle.bfs_calls.specs.Refusals.{is_own};
 ghost use Rattle.bfs_space.specs.Looks.{IsLooked, FindsMay, FindsOwn, MayBeDone};
 
+use crate::holding::{hold_file, look_hold};
 use crate::indexing::{build_index, look_make_index};
 use crate::moving::{look_rename, rename};
 use crate::sizing::{give_size, look_set_size};
@@ -38,7 +39,7 @@ use bfs_tree::{Call, Hold, MakeKind, Reply};
 use bfs_txn::Edits;
 use std::alloc::Global;
 
-/// Answers Make, SetMode, SetSize, Remove, Rename, AttrWrite, AttrRemove, IndexMake, IndexRemove, and the calls that only read: Lookup, List,
+/// Answers Make, SetMode, SetSize, Hold, Remove, Rename, AttrWrite, AttrRemove, IndexMake, IndexRemove, and the calls that only read: Lookup, List,
 /// Stat, ReadLink, AttrRead, AttrList, IndexList and IndexFind.
 #[derive(Clone, Copy, Debug, Drop)]
 pub struct Calls {}
@@ -170,14 +171,11 @@ fn look_set_mode<E: Edits>(
 }
 
 impl Answers for Calls {
-    ghost use Rattle.bfs_space.specs.Looks.{MayBeDone, is_built};
-    ghost use Rattle.bfs_space.specs.BuiltLaws.{built_stays};
+    ghost use Rattle.bfs_space.specs.Looks.{MayBeDone, is_served};
 
-    ghost serves = { is_built };
+    ghost serves = { is_served };
 
     ghost may = { MayBeDone };
-
-    ghost stays = { built_stays };
 
     fn look<E: Edits>(
         &self,
@@ -241,6 +239,12 @@ impl Answers for Calls {
             Call::IndexRemove { name } => {
                 look_remove_index(alloc, sup, bitmap, edits, name.as_slice())
             }
+            Call::Hold {
+                id,
+                at,
+                length,
+                write,
+            } => look_hold(alloc, sup, bitmap, edits, holds, *id, *at, *length, *write),
             Call::Lookup { dir, name } => {
                 looked(lookup(alloc, sup, bitmap, edits, *dir, name.as_slice()))
             }
@@ -351,6 +355,14 @@ impl Answers for Calls {
                 build_index(alloc, sup, bitmap, edits, name, *kind, stamp)
             }
             Call::IndexRemove { name } => drop_index(alloc, sup, bitmap, edits, name.as_slice()),
+            Call::Hold {
+                id,
+                at,
+                length,
+                write,
+            } => hold_file(
+                alloc, sup, bitmap, edits, holds, *id, *at, *length, *write, stamp,
+            ),
             _ => Err(TreeFault::NoMemory),
         }
     }

@@ -1,6 +1,8 @@
 // What a call of a space begins with, and what it leaves.
 ghost use Rattle.bfs_space.specs.Called.{FaceIsAtWork, FaceIsReady, CallIsEntered, DoneIsCalled, LeftIsCalled};
 ghost use Rattle.bfs_space.specs.Answered.{DoneIsAnswered, LeftIsAnswered};
+ghost use Rattle.bfs_space.specs.FileLaws.{EnteredKeepsFiles, NoteKeepsFiles};
+ghost use Rattle.bfs_space.specs.Files.{KnownStays};
 ghost use Rattle.bfs_space.specs.Holds.{EntryIsHeld, EntryKeepsHolds, HeldIsAfter};
 
 /// A call begins.
@@ -51,4 +53,19 @@ pub fn entry_keeps_holds()
 /// The holds that a history leaves with one entry more.
 pub fn entry_is_held()
     ensures { EntryIsHeld }
+{}
+
+/// What is known after an entry that lets no piece go was known before it, at a place of a file that is one still.
+pub fn known_stays()
+    ensures { KnownStays }
+{}
+
+/// A call that was entered, and lets no piece go, has kept the files: what is known stays in its blocks.
+pub fn entered_keeps_files()
+    ensures { EnteredKeepsFiles }
+{}
+
+/// And so has a note of one that leaves the tree.
+pub fn note_keeps_files()
+    ensures { NoteKeepsFiles }
 {}

@@ -6,6 +6,7 @@
 mod answers;
 mod calling;
 mod calls;
+mod holding;
 mod holds;
 mod indexing;
 mod keep;
@@ -13,6 +14,8 @@ mod lacking;
 mod laws;
 mod looking;
 mod moving;
+mod pieces;
+mod promises;
 mod replying;
 mod sizing;
 mod space;
@@ -23,12 +26,11 @@ mod writing;
 pub use answers::{Allowance, Answers, Looked};
 pub use calling::{CallFault, answer_call};
 pub use calls::Calls;
+pub use holds::note_holds;
 pub use keep::Unkept;
 pub use laws::{
-    call_is_entered, done_is_answered, done_is_called, entry_is_held, entry_keeps_holds,
-    face_is_at_work, face_is_ready, held_is_after, left_is_answered, left_is_called,
+    call_is_entered, done_is_answered, done_is_called, entered_keeps_files, entry_is_held,
+    entry_keeps_holds, face_is_at_work, face_is_ready, held_is_after, known_stays,
+    left_is_answered, left_is_called, note_keeps_files,
 };
 pub use space::{Outcome, Space};
-
-#[cfg(test)]
-mod tests;

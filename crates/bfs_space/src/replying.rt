@@ -13,6 +13,7 @@ ghost use Rattle.bfs_tree.specs.declared.state.Hold as hold;
 ghost use Rattle.bfs_tree.specs.Answers.{KeepsRanges};
 ghost use Rattle.bfs_tree.specs.Refusals.{own_refusal};
 ghost use Rattle.bfs_tree.specs.States.{State};
+ghost use Rattle.bfs_tree.specs.Steps.{is_done};
 ghost use Rattle.bfs_tree.specs.Histories.{is_stopped};
 ghost use Rattle.bfs_tree.specs.Trees.{Tree};
 ghost use Rattle.bfs_device.specs.declared.journal.Stop as stops;
@@ -23,7 +24,7 @@ ghost use Rattle.bfs_shift.specs.Shifts.{volume_in};
 ghost use Rattle.bfs_look.specs.Ready.{IsReady, HasReady};
 ghost use Rattle.bfs_space.specs.Answered.{StaysIdle};
 ghost use Rattle.bfs_space.specs.Books.{MayBeSealed};
-ghost use Rattle.bfs_space.specs.Looks.{IsAllowed};
+ghost use Rattle.bfs_space.specs.Looks.{IsAllowed, IsLooked, FindsMay, FindsOwn, is_to_do};
 ghost use Rattle.bfs_space.specs.Replies.{HasReplyCause, IsChange, IsNoReply, IsOutside, IsReplied, IsThat, IsTooLong, reply_to};
 ghost use Rattle.bfs_space.specs.declared.replying.NoReply.TheVariants as none;
 
@@ -50,7 +51,7 @@ pub enum NoReply {
 }
 
 /// The reply to a fault of a step, or want of memory.
-fn reply_to_step(fault: MapFault) -> Result<Reply, NoReply>
+pub fn reply_to_step(fault: MapFault) -> Result<Reply, NoReply>
     ensures { IsThat (reply_to fault) result }
 {
     match fault {
@@ -145,6 +146,58 @@ fn is_no_run(fault: &MapFault) -> bool {
     matches!(fault, TreeFault::Pages(GrowFault::NoRun { .. }))
 }
 
+/// Answers a call by what a look at it has found over an open group and what lies below, with these holds of sessions: it is answered so, or it is
+/// performed.
+pub fn reply_looked<A: Answers, B: Blocks>(
+    alloc: Global,
+    sup: &Super,
+    answers: &A,
+    bitmap: &mut Bitmap,
+    group: &mut Changed,
+    under: &mut B,
+    idle: bool,
+    holds: &[Hold],
+    call: &Call,
+    stamp: i64,
+    looked: Looked,
+) -> Result<Reply, NoReply>
+    requires valid { IsValid sup.now }
+    requires size { B.size under.old ≡ sup.now.block_size }
+    requires volume { IsOfVolume (sizes_of sup.now) bitmap.old }
+    requires settled { IsSettled bitmap.old }
+    requires group { MayBeSealed (layout_of sup.now) sup.now.block_size group.old }
+    requires serves { A.serves call.now ≡ true }
+    requires ranges { KeepsRanges call.now }
+    requires ready { (m : ℕ → Option (List ℕ)) → B.told under.old ≡ Some m → HasReady (geometry_of sup.now) bitmap.old (over group.old m) }
+    requires looked { (m : ℕ → Option (List ℕ)) (tree : Tree) (lists : Lists) → B.told under.old ≡ Some m → IsReady (geometry_of sup.now) bitmap.old (over group.old m) tree lists → IsLooked (geometry_of sup.now) (over group.old m) tree holds.now call.now looked }
+    requires own { FindsOwn looked }
+    requires may { FindsMay A.may sup.now call.now looked }
+    requires empty { idle ≡ true → group.old ≡ [] }
+    ensures replied { (m : ℕ → Option (List ℕ)) (tree : Tree) (lists : Lists) → B.told under.old ≡ Some m → IsReady (geometry_of sup.now) bitmap.old (over group.old m) tree lists → IfOk result (IsReplied (geometry_of sup.now) bitmap.old bitmap.new m group.old group.new tree holds.now (idle ≡ true) stamp call.now) }
+    ensures put_off { (m : ℕ → Option (List ℕ)) (tree : Tree) (lists : Lists) → B.told under.old ≡ Some m → IsReady (geometry_of sup.now) bitmap.old (over group.old m) tree lists → IfErr result (IsNoReply (geometry_of sup.now) bitmap.old (over group.old m) (length group.old) tree holds.now (idle ≡ true) call.now) }
+    ensures taken { IfOk result (λ reply. is_done reply ≡ true → is_to_do looked ≡ true) }
+    ensures cause { (stop : Option stops.Stop) → IfOk result (HasReplyCause (B.counts under.old) (B.counts under.new) stop) }
+    ensures left { OnErr result ((group.new ≡ group.old) × (bitmap.new ≡ bitmap.old)) }
+    ensures idle { StaysIdle bitmap.old bitmap.new group.old group.new }
+    ensures group { MayBeSealed (layout_of sup.now) sup.now.block_size group.new }
+    ensures settled { IsSettled bitmap.new }
+    ensures volume { IsOfVolume (sizes_of sup.now) bitmap.new }
+    ensures last { bitmap.new.last ≡ bitmap.old.last }
+    ensures told { B.told under.new ≡ B.told under.old }
+    ensures note { (B.frame under.new).note ≡ (B.frame under.old).note }
+    ensures size { B.size under.new ≡ B.size under.old }
+{
+    match looked {
+        Looked::Answered(reply) => {
+            bitmap.keep();
+            Ok(reply)
+        }
+        Looked::Allowed(allowed) => perform(
+            alloc, sup, answers, bitmap, group, under, idle, holds, call, stamp, allowed,
+        ),
+    }
+}
+
 /// Answers a call over an open group and what lies below, with these holds of sessions: what it changed is in the open group, or nothing
 /// is. `idle` says that nothing is held back.
 pub fn reply_call<A: Answers, B: Blocks>(
@@ -185,15 +238,9 @@ pub fn reply_call<A: Answers, B: Blocks>(
         Ok(looked) => looked,
         Err(fault) => return reply_to_step(fault),
     };
-    match looked {
-        Looked::Answered(reply) => {
-            bitmap.keep();
-            Ok(reply)
-        }
-        Looked::Allowed(allowed) => perform(
-            alloc, sup, answers, bitmap, group, under, idle, holds, call, stamp, allowed,
-        ),
-    }
+    reply_looked(
+        alloc, sup, answers, bitmap, group, under, idle, holds, call, stamp, looked,
+    )
 }
 
 /// The same; but once an entry has told that the device has stopped, each call is answered so.

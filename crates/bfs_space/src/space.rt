@@ -3,16 +3,27 @@ ghost use Rattle.std.specs.Prelude.{◌≡◌, ◌≢◌, ◌≤◌, ◌<◌, �
 ghost use Rattle.std.specs.Vec.{vec_capacity};
 ghost use Rattle.bfs_base.specs.Lists.{times, Has};
 ghost use Rattle.bfs_super.specs.Conditions.{IsValid, natural};
+ghost use Rattle.bfs_super.specs.Geometry.{geometry_of};
 ghost use Rattle.bfs_tree.specs.declared.call.Call.TheVariants.{Sync};
+ghost use Rattle.bfs_tree.specs.declared.call.Call.TheVariants as calls;
 ghost use Rattle.bfs_tree.specs.Answers.{KeepsRanges};
+ghost use Rattle.bfs_tree.specs.Steps.{is_done};
+ghost use Rattle.bfs_tree.specs.declared.reply.Entry as entries;
+ghost use Rattle.bfs_tree.specs.declared.reply.Reply.TheVariants.{Done};
 ghost use Rattle.bfs_tree.specs.Histories.{Mounted};
 ghost use Rattle.bfs_core.specs.Spaces.{IsGroupFor, sealed_space, released_space};
 ghost use Rattle.bfs_space.specs.Faces.{IsFaceOf, HasFace, HasOutcome, IsOutcome};
+ghost use Rattle.bfs_space.specs.Holds.{keeps_holds};
+ghost use Rattle.bfs_space.specs.Taken.{ArePlaces, HavePiece};
 ghost use Rattle.bfs_bitmap.specs.Runs.{Fits};
+ghost use Rattle.bfs_stream.specs.Grown.{IsOfVolume};
+ghost use Rattle.bfs_stream.specs.Sizes.{sizes_of};
 ghost use Rattle.bfs_space.specs.Books.{IsIdle, fresh, without, with_note, entry_noted, stop_after, sealed_room, released_room};
 
 use crate::Answers;
 use crate::holds::note_holds;
+use crate::pieces::{Piece, hold_of, hold_or_stopped};
+use crate::promises::{make_room, take_entry};
 use crate::replying::{NoReply, reply_or_stopped};
 use crate::stamp::draw;
 use bfs_bitmap::Bitmap;
@@ -109,6 +120,22 @@ impl Space {
         self.history.as_slice()
     }
 
+    /// The block of the root's inode. Takes no memory.
+    pub fn root(&self) -> u64
+        ensures { result ≡ (geometry_of self.now.view.sup).root }
+    {
+        self.sup.geometry().root
+    }
+
+    /// How many bytes a block has, which are at most 8,192. Takes no memory.
+    pub fn block_size(&self) -> u32
+        ensures value { result ≡ self.now.view.sup.block_size }
+        ensures small { result ≤ 8192 }
+        ensures volume { IsOfVolume (sizes_of self.now.view.sup) self.now.room }
+    {
+        self.sup.block_size
+    }
+
     /// Gives the entries up. Takes no memory.
     pub fn into_history(self) -> Vec<Entry>
         ensures { result.items ≡ self.view.history }
@@ -190,6 +217,7 @@ impl Space {
         requires session { session ≢ 0 }
         requires call { call ≢ Sync }
         requires serves { A.serves call ≡ true }
+        requires stays { keeps_holds call ≡ true }
         requires ranges { KeepsRanges call }
         requires size { B.size under.old ≡ self.old.view.sup.block_size }
         requires faced { (m : ℕ → Option (List ℕ)) → B.told under.old ≡ Some m → HasFace self.old m }
@@ -232,6 +260,88 @@ impl Space {
                     reply,
                 };
                 append(&mut self.history, entry);
+                Ok(Outcome::Replied)
+            }
+            Err(NoReply::Drain) => Ok(Outcome::Drain(call)),
+            Err(NoReply::NoMemory) => Err(without_call(call)),
+        }
+    }
+
+    /// Holds a piece of a file to be read or written, and finds the blocks that have its bytes: they are put in `places`, in the place of what
+    /// that held. Else as `call`. A hold that was taken promises its session an entry, that of its release.
+    pub fn hold<B: Blocks>(
+        &mut self,
+        under: &mut B,
+        session: u32,
+        tag: u32,
+        now: u64,
+        id: u64,
+        at: u64,
+        length: u64,
+        write: bool,
+        places: &mut Vec<u64>,
+    ) -> Result<Outcome, AllocError>
+        requires now { now < 2 ^ 40 }
+        requires session { session ≢ 0 }
+        requires unpromised { times session self.old.promised ≡ 0 }
+        requires size { B.size under.old ≡ self.old.view.sup.block_size }
+        requires faced { (m : ℕ → Option (List ℕ)) → B.told under.old ≡ Some m → HasFace self.old m }
+        ensures entered { (t0 : Mounted) (m : ℕ → Option (List ℕ)) → B.told under.old ≡ Some m → IsFaceOf t0 self.old m → IfOk result (IsOutcome t0 self.old self.new m session tag now (calls.Hold id at length write)) }
+        ensures noted { IfOk result (HasOutcome (B.counts under.old) (B.counts under.new) self.old self.new session tag now (calls.Hold id at length write)) }
+        ensures places { IfOk result (λ o. ArePlaces self.old self.new at length places.new.items) }
+        ensures piece { (t0 : Mounted) (m : ℕ → Option (List ℕ)) → B.told under.old ≡ Some m → IsFaceOf t0 self.old m → IfOk result (λ o. HavePiece self.old self.new m id at length places.new.items) }
+        // A hold that is done is answered Done.
+        ensures done { IfOk result (λ o. (e : entries.Entry) → self.new.view.history ≡ self.old.view.history ++ e ∷ [] → is_done e.reply ≡ true → e.reply ≡ Done) }
+        ensures no_memory { OnErr result (self.new ≡ self.old) }
+        ensures told { B.told under.new ≡ B.told under.old }
+        ensures note { (B.frame under.new).note ≡ (B.frame under.old).note }
+        ensures size { B.size under.new ≡ B.size under.old }
+    {
+        if self.history.len() >= MOST - 1 - self.promised.len() {
+            return Err(AllocError);
+        }
+        match make_room(&mut self.history, &mut self.promised, &mut self.holds) {
+            Ok(()) => {}
+            Err(fault) => return Err(fault),
+        }
+        let piece = Piece {
+            id,
+            at,
+            length,
+            write,
+        };
+        let call = hold_of(piece);
+        let stamp = draw(self.last, now);
+        let idle = self.is_idle();
+        match hold_or_stopped(
+            self.stop,
+            self.alloc,
+            &self.sup,
+            &mut self.bitmap,
+            &mut self.group,
+            under,
+            idle,
+            self.holds.as_slice(),
+            &call,
+            stamp,
+            piece,
+            places,
+        ) {
+            Ok(reply) => {
+                self.last = stamp;
+                let entry = Entry {
+                    session,
+                    tag,
+                    stamp,
+                    call,
+                    reply,
+                };
+                take_entry(
+                    &mut self.history,
+                    &mut self.promised,
+                    &mut self.holds,
+                    entry,
+                );
                 Ok(Outcome::Replied)
             }
             Err(NoReply::Drain) => Ok(Outcome::Drain(call)),
@@ -306,7 +416,7 @@ fn without_call(_call: Call) -> AllocError {
 }
 
 /// Appends an entry, for which there is room.
-fn append(history: &mut Vec<Entry>, entry: Entry)
+pub fn append(history: &mut Vec<Entry>, entry: Entry)
     requires { length history.old.items < vec_capacity history.old }
     ensures items { history.new.items ≡ history.old.items ++ entry ∷ [] }
     ensures room { vec_capacity history.old ≤ vec_capacity history.new }

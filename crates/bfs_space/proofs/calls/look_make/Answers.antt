@@ -17,8 +17,8 @@ returns-in-Err-clause-unanswered g c m tree lists told ready =
     undone_unanswered c.in-Err.fault (c.in-Err.ensures.refused m tree lists (record { tree = tree; holds = []; known = empty }) 0 told ready refl)
 
 pub returns-in-Some-clause-looked : goal.returns-in-Some-clause-looked
-returns-in-Some-clause-looked g c m tree lists holds mode told ready = λ s same held session stamp.
-    ByTree.refused (sym (sym c.in-Some.is ∙ c.in-Ok.ensures.refused m tree lists s mode told ready same)) refl
+returns-in-Some-clause-looked g c m tree lists holds mode told ready = λ stamp s same held session.
+    (s, same, ByTree.refused (sym (sym c.in-Some.is ∙ c.in-Ok.ensures.refused m tree lists s mode told ready same)) refl)
 
 pub make_allowance-requires-clause-ready : goal.make_allowance-requires-clause-ready
 make_allowance-requires-clause-ready g c m told =

@@ -17,7 +17,7 @@ pub returns-in-Some-clause-looked : goal.returns-in-Some-clause-looked
 returns-in-Some-clause-looked g c m tree lists holds mode uid gid told ready =
     IfOk-weaker c.found.result (λ l. l ≡ Answered c.in-Some.reply) (IsLooked (geometry_of c.args.sup.now) m tree holds (SetMode c.args.id mode uid gid))
     (λ l e. subst (IsLooked (geometry_of c.args.sup.now) m tree holds (SetMode c.args.id mode uid gid)) (sym e)
-    (λ s same held session stamp. ByTree.refused (sym (sym c.in-Some.is ∙ c.in-Ok.ensures.refused m tree lists s mode uid gid told ready same)) refl)) c.found.ensures.that
+    (λ stamp s same held session. (s, same, ByTree.refused (sym (sym c.in-Some.is ∙ c.in-Ok.ensures.refused m tree lists s mode uid gid told ready same)) refl))) c.found.ensures.that
 
 pub returns-in-None-clause-looked : goal.returns-in-None-clause-looked
 returns-in-None-clause-looked g c m tree lists holds mode uid gid told ready = record {

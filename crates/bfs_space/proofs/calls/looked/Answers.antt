@@ -13,4 +13,4 @@ use Rattle.bfs_space.proofs.calls.looked.Goals as goal
 pub returns-in-Ok-clause-looked : goal.returns-in-Ok-clause-looked
 returns-in-Ok-clause-looked c = λ g m tree holds call reads.
     IfOk-weaker c.found.result (λ l. l ≡ Answered c.in-Ok.reply) (IsLooked g m tree holds call)
-    (λ l e. subst (IsLooked g m tree holds call) (sym e) (λ s same held. subst (λ (r : Result Reply (TreeFault GrowFault)). MatchResult r (Reads call s) IsUndone) c.in-Ok.is (reads s same))) c.found.ensures.that
+    (λ l e. subst (IsLooked g m tree holds call) (sym e) (λ stamp s same held session. (s, same, subst (λ (r : Result Reply (TreeFault GrowFault)). MatchResult r (Reads call s) IsUndone) c.in-Ok.is (reads s same) session stamp))) c.found.ensures.that

@@ -16,8 +16,8 @@ returns-in-Err-clause-unanswered g c m tree lists told ready =
     undone_unanswered c.in-Err.fault (c.in-Err.ensures.refused m tree lists (record { tree = tree; holds = []; known = empty }) told ready refl)
 
 pub returns-in-Some-clause-looked : goal.returns-in-Some-clause-looked
-returns-in-Some-clause-looked g c m tree lists holds told ready = λ s same held session stamp.
-    ByTree.refused (sym (sym c.in-Some.is ∙ c.in-Ok.ensures.refused m tree lists s told ready same)) refl
+returns-in-Some-clause-looked g c m tree lists holds told ready = λ stamp s same held session.
+    (s, same, ByTree.refused (sym (sym c.in-Some.is ∙ c.in-Ok.ensures.refused m tree lists s told ready same)) refl)
 
 pub index_make_allowance-requires-clause-ready : goal.index_make_allowance-requires-clause-ready
 index_make_allowance-requires-clause-ready g c m told =

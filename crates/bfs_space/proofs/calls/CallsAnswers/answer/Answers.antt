@@ -3,7 +3,7 @@ use Rattle.std.specs.FinMap.{empty}
 use Rattle.std.specs.Prelude.{IfOk}
 use Rattle.bfs_super.specs.Geometry.{geometry_of}
 use Rattle.bfs_tree.specs.declared.call.Call.{Call}
-use Rattle.bfs_tree.specs.declared.call.Call.TheVariants.{Make, SetMode, SetSize, Remove, Rename, AttrWrite, AttrRemove, IndexMake, IndexRemove}
+use Rattle.bfs_tree.specs.declared.call.Call.TheVariants.{Make, SetMode, SetSize, Remove, Rename, AttrWrite, AttrRemove, IndexMake, IndexRemove, Hold}
 use Rattle.bfs_tree.specs.declared.reply.Reply.TheVariants.{Done, Made}
 use Rattle.bfs_tree.specs.declared.reply.Reply.{Reply}
 use Rattle.bfs_tree.specs.Refusals.{own_refusal}
@@ -60,6 +60,19 @@ returns-in-SetSize-clause-answered g c m tree lists told ready =
     let so : ℤ → Call → Reply → Type 0 = λ z x reply. IsAnswered v c.args.bitmap.now n.bitmap m tree c.args.holds.now z x reply (g.E.Blocks.told n.edits) (g.E.Blocks.changed c.args.edits.now) (g.E.Blocks.changed n.edits) in
     subst (λ (x : Call). IfOk c.give_size.result (so c.args.stamp x)) (sym c.in-SetSize.is)
     (subst (λ (z : ℤ). IfOk c.give_size.result (so z (SetSize c.in-SetSize.id c.in-SetSize.size))) e (c.give_size.ensures.answered m tree lists told ready))
+
+pub hold_file-requires-clause-fine : goal.hold_file-requires-clause-fine
+hold_file-requires-clause-fine g c m tree lists s told ready same held =
+    subst (λ (x : Call). own_refusal x s ≡ None) c.in-Hold.is (c.requires.fine m tree lists s told ready same held)
+
+pub returns-in-Hold-clause-answered : goal.returns-in-Hold-clause-answered
+returns-in-Hold-clause-answered g c m tree lists told ready =
+    let v = geometry_of c.args.sup.now in
+    let n = c.hold_file.new in
+    let e : to_z w64 (of_z w64 c.args.stamp) ≡ c.args.stamp = search rules in
+    let so : ℤ → Call → Reply → Type 0 = λ z x reply. IsAnswered v c.args.bitmap.now n.bitmap m tree c.args.holds.now z x reply (g.E.Blocks.told n.edits) (g.E.Blocks.changed c.args.edits.now) (g.E.Blocks.changed n.edits) in
+    subst (λ (x : Call). IfOk c.hold_file.result (so c.args.stamp x)) (sym c.in-Hold.is)
+    (subst (λ (z : ℤ). IfOk c.hold_file.result (so z (Hold c.in-Hold.id c.in-Hold.at c.in-Hold.length c.in-Hold.write))) e (c.hold_file.ensures.answered m tree lists told ready))
 
 pub remove-requires-clause-fine : goal.remove-requires-clause-fine
 remove-requires-clause-fine g c m tree lists s told ready same held =

@@ -35,6 +35,14 @@ pub returns-in-SetSize-clause-may : goal.returns-in-SetSize-clause-may
 returns-in-SetSize-clause-may g c =
     subst (λ (x : Call). IfOk c.look_set_size.result (FindsMay MayBeDone c.args.sup.now x)) (sym c.in-SetSize.is) c.look_set_size.ensures.may
 
+pub returns-in-Hold-clause-looked : goal.returns-in-Hold-clause-looked
+returns-in-Hold-clause-looked g c m tree lists told ready =
+    subst (λ (x : Call). IfOk c.look_hold.result (IsLooked (geometry_of c.args.sup.now) m tree c.args.holds.now x)) (sym c.in-Hold.is) (c.look_hold.ensures.looked m tree lists told ready)
+
+pub returns-in-Hold-clause-may : goal.returns-in-Hold-clause-may
+returns-in-Hold-clause-may g c =
+    subst (λ (x : Call). IfOk c.look_hold.result (FindsMay MayBeDone c.args.sup.now x)) (sym c.in-Hold.is) c.look_hold.ensures.may
+
 pub returns-in-Lookup-clause-looked : goal.returns-in-Lookup-clause-looked
 returns-in-Lookup-clause-looked g c m tree lists told ready =
     let is : c.args.call.now ≡ calls.Lookup c.in-Lookup.dir c.as_slice-in-Lookup.result.now = c.in-Lookup.is ∙ ap (λ (n : List ℕ). calls.Lookup c.in-Lookup.dir n) (sym c.as_slice-in-Lookup.ensures) in

@@ -17,7 +17,7 @@ use Rattle.bfs_space.specs.Holds.{holds_after}
 use Rattle.bfs_space.specs.Replies.{IsNoReply, IsPutOff, IsReplied}
 use Rattle.bfs_space.proofs.Entering.{ready, replied_with}
 use Rattle.bfs_space.proofs.Groups.{parts_kept}
-use Rattle.bfs_space.proofs.Held.{held_is_after, still_held}
+use Rattle.bfs_space.proofs.Held.{held_is_after, kept_promises, still_held}
 use Rattle.bfs_space.proofs.Stamps.{last_noted}
 use Rattle.bfs_space.proofs.Stops.{caused_no_stop, stop_kept}
 use Rattle.bfs_space.proofs.Turned.{put_off_for}
@@ -66,7 +66,7 @@ invariant_of-self-in-Ok-reply_or_stopped g c =
       omega (arith, long, capacity, room, three, as_long),
       omega (arith, long, few, one, two),
       subst (λ (l : List Entry). KnowsStop l i.stop) (sym items) (stop_kept i.history.items entry i.stop silent c.self.invariant.4),
-      still_held i.holds.items i.history.items c.append.new.history.items entry items (inl (g.A.Answers.stays c.args.call c.requires.serves)) c.self.invariant.5,
+      still_held i.holds.items i.history.items c.append.new.history.items entry items (inl c.requires.stays) c.self.invariant.5,
       c.self.invariant.6,
     )
 
@@ -113,7 +113,7 @@ returns-in-Ok-reply_or_stopped-clause-noted g c =
       cause = c.in-Ok-reply_or_stopped.ensures.cause;
       same = record { sup = refl; sealed = refl; sealed_used = refl };
       idle = c.reply_or_stopped.ensures.idle;
-      promised = refl;
+      promised = sym (kept_promises c.args.session c.args.call c.in-Ok-reply_or_stopped.reply i.promised.items c.requires.stays);
       stop = refl;
       left = refl;
     } in

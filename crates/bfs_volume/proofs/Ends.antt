@@ -1,5 +1,5 @@
 -- Entries that a device has ended.
-use Rattle.std.proofs.Common.{◌≡◌, ◌≤◌, ◌++◌, ℕ, List, [], ◌∷◌, Option, Some, refl, sym, ◌∙◌, ap, subst, arith}
+use Rattle.std.proofs.Common.{◌≡◌, ◌≤◌, ◌++◌, ℕ, List, [], ◌∷◌, false, Option, Some, None, refl, sym, ◌∙◌, ap, subst, arith}
 use Rattle.std.specs.Option.{option_map}
 use Rattle.bfs_disk.specs.State.{State}
 use Rattle.bfs_device.specs.Books.{Books}
@@ -14,7 +14,9 @@ use Rattle.bfs_device.specs.declared.journal.DeviceFault.TheVariants.{Disk, Stop
 use Rattle.bfs_device.specs.declared.journal.Stop.{Stop}
 use Rattle.bfs_space.specs.Books.{SpaceBooks, entry_noted, with_note}
 use Rattle.bfs_volume.specs.Faults.{HasStepCause}
-use Rattle.bfs_volume.specs.Entries.{HasEntryOf, IsDeviceEnd, reply_of}
+use Rattle.std.specs.List.{list_any}
+use Rattle.bfs_tree.specs.Histories.{is_stop}
+use Rattle.bfs_volume.specs.Entries.{HasEntryOf, IsDeviceEnd, IsToldBy, reply_of}
 
 -- the fault of steps that came after what left the stop as it was
 pub device_end : (old mid new : Option Stop) (faults f g later : ℕ) (fault : DeviceFault) → mid ≡ old → faults ≤ f → g ≤ later → HasStepCause mid new f g fault → IsDeviceEnd old faults later (reply_of fault)
@@ -37,3 +39,8 @@ rest_of books new promised is = is ∙ ap (λ (p : List ℕ). (let b : SpaceBook
 pub tells_since : (b new : Books) (told told' : Option State) (st : State) → IsRested b new → told' ≡ told → told ≡ Some st → option_map (newest_map new) told' ≡ Some (newest_map b st)
 tells_since b new told told' st rests same is =
     ap (option_map (newest_map new)) (same ∙ is) ∙ ap Some (subst (λ (x : Books). newest_map x st ≡ newest_map b st) (sym rests) refl)
+
+-- what a fault of steps tells of an entry, where no entry before it tells of a stop while the device goes on
+pub told_of : (history : List Entry) (old : Option Stop) (new : Books) (faults later : ℕ) (call : Call) (fault : DeviceFault) → (old ≡ None → list_any (λ (e : Entry). is_stop e.reply) history ≡ false) → HasStepCause old new.stop faults later fault → IsToldBy new history call (reply_of fault)
+told_of history old new faults later call (Disk before after stops) quiet cause = (quiet cause.0, cause.1)
+told_of history old new faults later call (Stopped durable count) quiet cause = cause.1 ∙ cause.0

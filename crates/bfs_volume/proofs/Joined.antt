@@ -1,6 +1,8 @@
 -- A space and a device stay joined over their events, by their numbers and on what the disk tells.
-use Rattle.std.proofs.Common.{◌≡◌, ◌+◌, ◌++◌, ℕ, List, [], ◌∷◌, Bool, false, Option, Some, None, Result, Ok, Err, OnOk, OnErr, sym, ◌∙◌, ap, subst}
-use Rattle.std.specs.List.{list_any}
+use Rattle.std.proofs.lemmas.Bool.{cases_lt}
+use Rattle.std.proofs.lemmas.List.{get_or_append_left, get_or-append-add, length-append}
+use Rattle.std.proofs.Common.{◌≡◌, ◌≤◌, ◌<◌, ⊎_elim, get_or, length, ◌+◌, ◌++◌, ℕ, List, [], ◌∷◌, Bool, false, Option, Some, None, Result, Ok, Err, OnOk, OnErr, sym, ◌∙◌, ap, subst, arith}
+use Rattle.std.specs.List.{All, list_any}
 use Rattle.bfs_disk.specs.State.{State}
 use Rattle.bfs_bitmap.specs.Runs.{Room, Fits}
 use Rattle.bfs_txn.specs.Changed.{over}
@@ -8,13 +10,16 @@ use Rattle.bfs_txn.specs.declared.group.Group.{Group}
 use Rattle.bfs_tree.specs.declared.reply.Entry.{Entry}
 use Rattle.bfs_tree.specs.Histories.{is_stop}
 use Rattle.bfs_device.specs.Layouts.{layout_of}
-use Rattle.bfs_device.specs.Books.{Books, IsRight, IsNext, IsSealed, AreSame, sealed_of}
+use Rattle.bfs_device.specs.declared.journal.Mark.{Mark}
+use Rattle.bfs_device.specs.Books.{Books, IsRight, IsNext, IsSealed, AreSame, durable_of, sealed_of}
 use Rattle.bfs_device.specs.Seals.{last_used, sealed_with}
 use Rattle.bfs_device.specs.Ahead.{IsSteady, GoesOn}
+use Rattle.bfs_device.proofs.Forward.{sealed_durable}
 use Rattle.bfs_device.proofs.Sealing.{sealed_last, sealed_used}
 use Rattle.bfs_core.specs.Spaces.{SpaceView, IsGroupFor, sealed_space, released_space}
 use Rattle.bfs_core.specs.Cores.{Core, newest_map}
-use Rattle.bfs_core.specs.Moments.{DeviceMoves}
+use Rattle.bfs_core.specs.Moments.{DeviceMoves, Marked}
+use Rattle.bfs_core.proofs.Knowing.{known_ahead, known_released, known_sealed}
 use Rattle.bfs_core.proofs.Onward.{core_ahead, core_released, same_layout, same_newest, same_size}
 use Rattle.bfs_core.proofs.Seals.{core_sealed}
 use Rattle.bfs_device_blocks.proofs.Facing.{sealed_newest}
@@ -24,8 +29,27 @@ use Rattle.bfs_volume.specs.Volumes.{AreFitted, AreJoined, Stands}
 
 -- ---- numbers
 
-pub fitted_ahead : (sp : SpaceView) (b new : Books) → AreFitted sp b → GoesOn b new → (new.stop ≡ None → b.stop ≡ None) → AreFitted sp new
-fitted_ahead sp b new fitted on stops = record {
+reached_more : (n m : ℕ) (marks : List Mark) → n ≤ m → All (λ (x : Mark). x.number ≤ n) marks → All (λ (x : Mark). x.number ≤ m) marks
+reached_more n m marks le all k d lt = let low = all k d lt in omega (arith, low, le)
+
+reached_one : (n : ℕ) (marks : List Mark) (x : Mark) → x.number ≤ n → All (λ (y : Mark). y.number ≤ n) marks → All (λ (y : Mark). y.number ≤ n) (marks ++ x ∷ [])
+reached_one n marks x le all k d lt = ⊎_elim
+    (λ (low : k < length marks). subst (λ (y : Mark). y.number ≤ n) (sym (get_or_append_left marks (x ∷ []) d k low)) (all k d low))
+    (λ (high : length marks ≤ k).
+    let long : length (marks ++ x ∷ []) ≡ length marks + 1 = length-append marks (x ∷ []) in
+    let e : k ≡ length marks + 0 = omega (arith, high, lt, long) in
+    subst (λ (i : ℕ). (get_or (marks ++ x ∷ []) i d).number ≤ n) (sym e) (subst (λ (y : Mark). y.number ≤ n) (sym (get_or-append-add marks (x ∷ []) 0 d)) le))
+    (cases_lt k (length marks))
+
+reached_since : (b new : Books) → GoesOn b new → Marked b.marks new.marks (durable_of new) new.moment → All (λ (x : Mark). x.number ≤ durable_of b) b.marks → All (λ (x : Mark). x.number ≤ durable_of new) new.marks
+reached_since b new on marked all =
+    let more = reached_more (durable_of b) (durable_of new) b.marks on.durable all in
+    ⊎_elim (λ (same : new.marks ≡ b.marks). subst (All (λ (x : Mark). x.number ≤ durable_of new)) (sym same) more)
+    (λ one. subst (All (λ (x : Mark). x.number ≤ durable_of new)) (sym one.1) (reached_one (durable_of new) b.marks one.0 one.3 more)) marked
+
+pub fitted_ahead : (sp : SpaceView) (b new : Books) → AreFitted sp b → GoesOn b new → (new.stop ≡ None → b.stop ≡ None) → Marked b.marks new.marks (durable_of new) new.moment → AreFitted sp new
+fitted_ahead sp b new fitted on stops marked = record {
+  reached = reached_since b new on marked fitted.reached;
   geometry = λ used. on.geometry used ∙ fitted.geometry used;
   sealed = on.sealed ∙ fitted.sealed;
   sealed_used = fitted.sealed_used ∙ sym on.last_used;
@@ -34,7 +58,7 @@ fitted_ahead sp b new fitted on stops = record {
 }
 
 pub fitted_released : (n : ℕ) (sp : SpaceView) (b : Books) → AreFitted sp b → AreFitted (released_space n sp) b
-fitted_released n sp b fitted = record { geometry = fitted.geometry; sealed = fitted.sealed; sealed_used = fitted.sealed_used; idle = fitted.idle; going = fitted.going }
+fitted_released n sp b fitted = record { geometry = fitted.geometry; sealed = fitted.sealed; sealed_used = fitted.sealed_used; idle = fitted.idle; going = fitted.going; reached = fitted.reached }
 
 pub fitted_next : (sp : SpaceView) (b : Books) (g : Group) → AreFitted sp b → IsGroupFor sp g → IsNext (layout_of b.sup) b.sup.block_size (sealed_of b) (last_used b) g
 fitted_next sp b g fitted group = record {
@@ -50,6 +74,7 @@ fitted_sealed sp b g fitted group = record {
   sealed_used = sym (sealed_used b g ∙ group.used);
   idle = λ none. sym (sealed_used b g ∙ group.used);
   going = fitted.going;
+  reached = subst (λ (n : ℕ). All (λ (x : Mark). x.number ≤ n) b.marks) (sym (sealed_durable b g)) fitted.reached;
 }
 
 -- one entry more, which tells of no stop, or of a device that has stopped
@@ -63,6 +88,7 @@ stands_ahead sp b new u st next s steady on right same core = record {
   t0 = s.t0;
   touched = u;
   core = core;
+  known = known_ahead s.t0 sp.view b new s.touched st next s.core steady on same s.known;
   fits = subst (λ (m : ℕ → Option (List ℕ)). Fits sp.room (over sp.view.group m)) (sym (same_newest b new st next steady on same)) s.fits;
 }
 
@@ -81,7 +107,7 @@ stands_moved sp b new told told' clock clock' past since moves before stands st 
 -- the space frees what has left the log
 pub stands_released : (sp : SpaceBooks) (b : Books) (st : State) (room : Room) (left : ℕ) → ((m : ℕ → Option (List ℕ)) → Fits sp.room m → Fits room m) → Stands sp b st
     → Stands (record sp { view = released_space b.left sp.view; room = room; left = left }) b st
-stands_released sp b st room left fits s = record { t0 = s.t0; touched = s.touched; core = core_released s.t0 sp.view b s.touched st s.core; fits = fits (over sp.view.group (newest_map b st)) s.fits }
+stands_released sp b st room left fits s = record { t0 = s.t0; touched = s.touched; core = core_released s.t0 sp.view b s.touched st s.core; known = known_released s.t0 sp.view b st b.left s.known; fits = fits (over sp.view.group (newest_map b st)) s.fits }
 
 pub stands_sealed : (sp : SpaceBooks) (b : Books) (g : Group) (st : State) (room : Room) → IsGroupFor sp.view g → ((m : ℕ → Option (List ℕ)) → Fits sp.room m → Fits room m) → Stands sp b st
     → Stands (record sp { view = sealed_space sp.view; room = room }) (sealed_with b g) st
@@ -89,6 +115,7 @@ stands_sealed sp b g st room group fits s = record {
   t0 = s.t0;
   touched = s.touched;
   core = core_sealed s.t0 sp.view b s.touched st g s.core group;
+  known = known_sealed s.t0 sp.view b s.touched st g s.core group s.known;
   fits = subst (Fits room) (sym (λ i k. sealed_newest s.t0 sp.view b s.touched st g s.core group k i)) (fits (over sp.view.group (newest_map b st)) s.fits);
 }
 
@@ -100,7 +127,7 @@ pub joined_stepped : (sp space : SpaceBooks) (b new : Books) (told told' : Optio
 joined_stepped sp space b new told told' clock clock' past since left most room moves before at is fits joined =
     subst (λ (x : SpaceBooks). ((m : ℕ → Option (List ℕ)) → Fits sp.room m → Fits x.room m) → AreJoined x new told') (sym (is ∙ ap (λ (n : ℕ). (let y : SpaceBooks = record sp { view = released_space n sp.view; room = room; left = most } in y)) at))
     (λ fits. record {
-      fitted = fitted_released new.left sp.view new (fitted_ahead sp.view b new joined.fitted moves.ahead moves.stops);
+      fitted = fitted_released new.left sp.view new (fitted_ahead sp.view b new joined.fitted moves.ahead moves.stops moves.time.marked);
       stands = λ st told_st. stands_released sp new st room most fits (stands_moved sp b new told told' clock clock' past since moves before joined.stands st told_st);
     }) fits
 
@@ -108,7 +135,7 @@ joined_stepped sp space b new told told' clock clock' past since left most room 
 pub joined_moved : (sp : SpaceBooks) (b new : Books) (told told' : Option State) (clock clock' : ℕ) (past since : ℕ → List ℕ → Type 0) → DeviceMoves b new told told' clock clock' past since
     → ((st : State) → told' ≡ Some st → (was : State) × (told ≡ Some was)) → AreJoined sp b told → AreJoined sp new told'
 joined_moved sp b new told told' clock clock' past since moves before joined = record {
-  fitted = fitted_ahead sp.view b new joined.fitted moves.ahead moves.stops;
+  fitted = fitted_ahead sp.view b new joined.fitted moves.ahead moves.stops moves.time.marked;
   stands = λ st told_st. stands_moved sp b new told told' clock clock' past since moves before joined.stands st told_st;
 }
 
@@ -124,7 +151,7 @@ joined_sealed sp space b new g told room group is also fits joined =
 
 -- promises are no part of it
 same_promised : (sp space : SpaceBooks) (promised : List ℕ) (b : Books) (told : Option State) → space ≡ record sp { promised = promised } → AreJoined sp b told → AreJoined space b told
-same_promised sp space promised b told is joined = subst (λ (x : SpaceBooks). AreJoined x b told) (sym is) (record { fitted = joined.fitted; stands = λ st at. (let s = joined.stands st at in record { t0 = s.t0; touched = s.touched; core = s.core; fits = s.fits }) })
+same_promised sp space promised b told is joined = subst (λ (x : SpaceBooks). AreJoined x b told) (sym is) (record { fitted = joined.fitted; stands = λ st at. (let s = joined.stands st at in record { t0 = s.t0; touched = s.touched; core = s.core; known = s.known; fits = s.fits }) })
 
 pub joined_unpromised : (sp space : SpaceBooks) (promised : List ℕ) (b : Books) (told : Option State) → space ≡ record sp { promised = promised } → AreJoined sp b told → AreJoined space b told
 joined_unpromised = same_promised

@@ -1,4 +1,14 @@
 pub mod Told
+pub mod Stays
+pub mod Bytes
+pub mod Bare
+pub mod Taken
+pub mod Pieced
+pub mod Released
+pub mod Written
+pub mod Rooted
+pub mod Asking
+pub mod Gone
 pub mod Joined
 pub mod Noting
 pub mod Asked

@@ -1,20 +1,23 @@
 -- What a disk holds once its log was replayed and it was checked.
-use Rattle.std.proofs.Common.{◌≡◌, ◌≤◌, ◌*◌, ◌/◌, ◌∙◌, ◌⊎◌, inl, inr, ℕ, List, length, true, Option, Some, None, IfSome, refl, sym, ap, subst, arith}
+use Rattle.std.proofs.Common.{◌≡◌, ◌≤◌, ◌<◌, ◌*◌, ◌/◌, ◌∙◌, ◌⊎◌, inl, inr, ⊎_elim, ℕ, List, [], length, true, Option, Some, None, IfSome, refl, sym, ap, subst, arith}
 use Rattle.std.specs.Prelude.{is_some}
 use Rattle.std.proofs.lemmas.Bool.{true≢false}
+use Rattle.bfs_base.specs.Moments.{Passed}
 use Rattle.bfs_disk.specs.State.{State, Tells, Filled, Holds, ReadsAs}
-use Rattle.bfs_disk.specs.Disk.{HasSectors}
+use Rattle.bfs_disk.specs.Disk.{HasSectors, MayLeave}
 use Rattle.bfs_disk.proofs.Images.{quiet_image}
 use Rattle.bfs_super.specs.declared.sup.Super.{Super}
 use Rattle.bfs_super.specs.Conditions.{IsValid, natural}
 use Rattle.bfs_log.specs.Replay.{Replayed, super_of}
-use Rattle.bfs_log.proofs.Replays.{replayed_empty}
+use Rattle.bfs_log.proofs.Replays.{replayed_empty, replayed_one}
 use Rattle.bfs_tree.specs.Trees.{Tree}
 use Rattle.bfs_sound.specs.Whole.{IsWhole, Recovers}
-use Rattle.bfs_replay.specs.Recover.{IsRecovered, IsShort}
+use Rattle.bfs_replay.specs.Recover.{GoesOn, IsRecovered, IsShort}
 use Rattle.bfs_replay.specs.Steps.{sectors_of}
 use Rattle.bfs_replay.proofs.Homes.{image_of_reads}
 use Rattle.bfs_replay.proofs.Sizes.{has_two}
+use Rattle.bfs_core.specs.Cores.{RecoversFrom}
+use Rattle.bfs_core.specs.Moments.{KeptSince}
 use Rattle.bfs_core.proofs.Openings.{whole_of}
 use Rattle.bfs_check.specs.Checked.{IsCheckFault, IsFound, IsVerdict, IsWholeWith, HasCauseIn}
 use Rattle.bfs_check.specs.declared.checking.Verdict.{Verdict}
@@ -22,10 +25,16 @@ use Rattle.bfs_check.specs.declared.checking.Verdict.TheVariants as verdicts
 use Rattle.bfs_check.specs.declared.checking.CheckFault.{CheckFault}
 use Rattle.bfs_check.specs.declared.checking.CheckFault.TheVariants as checking
 use Rattle.bfs_finding.specs.declared.finding.Finding.{Finding}
-use Rattle.bfs_passes.specs.declared.passes.Summary.{Summary}
-use Rattle.bfs_device.proofs.Stepping.{filled_state}
+use Rattle.bfs_check.specs.Summary.{Summary}
+use Rattle.bfs_device.proofs.Stepping.{filled_state, on_state}
 use Rattle.bfs_volume.specs.Volumes.{MayBeMounted}
-use Rattle.bfs_volume.specs.Mounts.{IsHeld, IsHeldWhole, IsUnshort}
+use Rattle.bfs_core.specs.KnownBytes.{HasBytesOf, HasKnown}
+use Rattle.bfs_core.specs.Spaces.{opened}
+use Rattle.bfs_core.proofs.Knowing.{known_opened}
+use Rattle.bfs_device.specs.Books.{IsOnDisk}
+use Rattle.bfs_device.specs.Seals.{adopted}
+use Rattle.bfs_tree.specs.Histories.{Mounted}
+use Rattle.bfs_volume.specs.Mounts.{IsHeld, IsHeldWhole, IsMountedFrom, IsUnshort}
 
 pub reads : (told : Option State) (image : List ℕ) → Tells told (Holds image) → Tells told (λ s. ReadsAs s image)
 reads told image h = (h.0, h.1, h.2.reads)
@@ -36,6 +45,21 @@ now_reads told now image same h = (h.0, same ∙ h.1, h.2)
 -- an image that is whole recovers to its tree
 pub whole_recovers : (image : List ℕ) (tree : Tree) → IsWhole image tree → Recovers image tree
 whole_recovers image tree whole = record { result = image; replayed = replayed_empty image whole.valid (ap natural whole.whole.emptied); whole = whole }
+
+-- what it is mounted from
+pub mounted_recovers : (image : List ℕ) (t0 : Mounted) → IsMountedFrom image t0 → Recovers image t0.tree
+mounted_recovers image t0 m = record { result = m.next; replayed = m.replayed; whole = m.whole }
+
+-- and so is what replay gives of it
+pub mounted_next : (image next : List ℕ) (t0 : Mounted) → IsMountedFrom image t0 → Replayed image next → IsWhole next t0.tree × HasBytesOf next t0
+mounted_next image next t0 m replayed =
+    let same : m.next ≡ next = replayed_one image m.next next m.replayed replayed in
+    (subst (λ (x : List ℕ). IsWhole x t0.tree) same m.whole, subst (λ (x : List ℕ). HasBytesOf x t0) same m.bytes)
+
+pub mounted_again : (image next : List ℕ) (t0 : Mounted) → IsMountedFrom image t0 → Replayed image next → IsMountedFrom next t0
+mounted_again image next t0 m replayed =
+    let parts = mounted_next image next t0 m replayed in
+    record { next = next; replayed = replayed_empty next parts.0.valid (ap natural parts.0.whole.emptied); whole = parts.0; bytes = parts.1 }
 
 -- of a yes
 pub summed : (image : List ℕ) (v : Verdict) (s : Summary) → v ≡ verdicts.Yes s → IsVerdict image v → IsWholeWith image s
@@ -120,3 +144,42 @@ mounted_whole old told s may silent recovered st is = by_old old refl
         let m = may was before in
         let got = recovered m.0 (was, before, m.2) in
         (got.0, m.1, subst (Holds got.0) (same_state got.2.0 st (sym got.2.1 ∙ is)) got.2.2, whole_of m.0 got.0 m.1 m.3 got.1, got.3)
+
+-- the known bytes of what is held whole, once it is opened
+pub known_held : (t0 : Mounted) (image : List ℕ) (told : Option State) (size : Option ℕ) (st : State) → IsWhole image t0.tree → HasBytesOf image t0 → Tells told (Holds image) → IfSome told Filled → IfSome told (λ x. size ≡ Some x.size) → IsOnDisk size (super_of image) → told ≡ Some st
+    → HasKnown t0 (opened (super_of image)) (adopted (super_of image)) st
+known_held t0 image told size st whole bytes held filled sized on is =
+    known_opened t0 image st whole (subst (Holds image) (same_state held.0 st (sym held.1 ∙ is)) held.2) (filled_state told st filled is) (on_state (super_of image) size told st sized on is) bytes
+
+-- ---- what a crash meanwhile might have left
+
+-- some calls, and behind them some that only read
+pub passed_read : (start mid finish : ℕ) (past between since : ℕ → List ℕ → Type 0) (told : Option State) (P : List ℕ → Type 0) → Passed start mid past between P → Passed mid finish between since (MayLeave told) → ((c : List ℕ) → MayLeave told c → P c) → Passed start finish past since P
+passed_read start mid finish past between since told P first then stays = record {
+  later = (let a = first.later in let b = then.later in omega (arith, a, b));
+  nothing_else = λ t c le left. ⊎_elim (λ was. first.nothing_else t c le was) (λ may. inr (stays c may)) (then.nothing_else t c (let a = first.later in omega (arith, a, le)) left);
+  keeps = λ t c le was. then.keeps t c (let a = first.later in omega (arith, a, le)) (first.keeps t c le was);
+}
+
+-- what is replayed to the same recovers to the same tree
+pub goes_recovers : (image c : List ℕ) (t0 : Mounted) → IsMountedFrom image t0 → GoesOn image c → Recovers c t0.tree
+goes_recovers image c t0 m (inl same) = subst (λ (x : List ℕ). Recovers x t0.tree) (sym same) (mounted_recovers image t0 m)
+goes_recovers image c t0 m (inr on) = record { result = on.0; replayed = on.2; whole = (mounted_next image on.0 t0 m on.1).0 }
+
+-- what a crash might have left since a moment before a mount recovers, if it did before the mount
+pub kept_mounting : (image : List ℕ) (t0 : Mounted) (begun start clock : ℕ) (past since : ℕ → List ℕ → Type 0) → IsMountedFrom image t0 → begun ≤ start → KeptSince t0 [] start past begun 0 → ((t u : ℕ) (c : List ℕ) → t ≤ u → since u c → since t c)
+    → Passed start clock past since (GoesOn image) → KeptSince t0 [] clock since begun 0
+kept_mounting image t0 begun start clock past since m early kept fewer time t c low high left = ⊎_elim
+    (λ before. ⊎_elim (λ was. kept t c low before was) (λ goes. now goes) (time.nothing_else t c before left))
+    (λ late. ⊎_elim (λ was. kept start c early (omega arith) was) (λ goes. now goes) (time.nothing_else start c (omega arith) (fewer start t c (omega (arith, late)) left)))
+    (le_or t start)
+  where
+    le_or : (m n : ℕ) → (m ≤ n) ⊎ (n < m)
+    le_or m n = grind arith
+
+    now : GoesOn image c → RecoversFrom t0 [] 0 c
+    now goes = (0, omega arith, omega arith, goes_recovers image c t0 m goes)
+
+-- on a quiet disk nothing else was left since now than what it holds
+pub kept_quiet : (image : List ℕ) (t0 : Mounted) (begun clock : ℕ) (since : ℕ → List ℕ → Type 0) → IsMountedFrom image t0 → ((c : List ℕ) → since begun c → c ≡ image) → ((t u : ℕ) (c : List ℕ) → t ≤ u → since u c → since t c) → KeptSince t0 [] clock since begun 0
+kept_quiet image t0 begun clock since m here fewer t c low high left = (0, omega arith, omega arith, goes_recovers image c t0 m (inl (here c (fewer begun t c low left))))

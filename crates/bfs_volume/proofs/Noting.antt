@@ -14,12 +14,18 @@ use Rattle.bfs_tree.specs.States.{State}
 use Rattle.bfs_tree.specs.Steps.{ByTree, Turn, next, is_by_disk, is_for_room}
 use Rattle.bfs_tree.proofs.Stamps.{drawn-later}
 use Rattle.bfs_disk.specs.State as disks
+use Rattle.bfs_disk.specs.Blocks.{contents_of}
+use Rattle.bfs_device.specs.Layouts.{layout_of}
 use Rattle.bfs_device.specs.Books.{Books}
 use Rattle.bfs_core.specs.Spaces.{Entered, IsSoundOver, noted}
 use Rattle.bfs_core.specs.Cores.{IsKnown, newest_map}
+use Rattle.bfs_core.specs.KnownBytes.{KeepsFiles}
+use Rattle.bfs_core.proofs.Knowing.{known_entered}
 use Rattle.bfs_core.proofs.Notes.{note_entered}
 use Rattle.bfs_core.proofs.Onward.{core_entered}
 use Rattle.bfs_space.specs.Books.{SpaceBooks, entry_noted, with_note}
+use Rattle.bfs_space.specs.FileLaws.{AreThere, NoteKeepsFiles}
+use Rattle.bfs_space.specs.Files.{lets_go}
 use Rattle.bfs_space.proofs.Following.{follows, tree_after, tree_unsynced}
 use Rattle.bfs_volume.specs.Volumes.{AreFitted, AreJoined}
 use Rattle.bfs_volume.specs.Entries.{IsToldBy}
@@ -94,19 +100,34 @@ told_entered t0 sp b m session tag now call reply other fitted told sound =
     let f = told_follows t0 sp b session tag now call other sound.legal fitted.going reply told in
     (note_entered t0 sp.view m (entry_noted sp session tag now call reply) sound f.0 f.1, told_is_known sp b session tag now call reply told)
 
+-- and it keeps the files
+pub told_keeps : NoteKeepsFiles → (t0 : Mounted) (sp : SpaceBooks) (b : Books) (m : ℕ → Option (List ℕ)) (session tag now : ℕ) (call : Call) (reply : Reply) (contents : ℕ → List ℕ) → session ≢ 0 → AreFitted sp.view b → IsToldBy b sp.view.history call reply → lets_go call ≡ false
+    → IsSoundOver t0 sp.view m → AreThere t0 sp.view m contents → KeepsFiles t0 sp.view (noted sp.view (entry_noted sp session tag now call reply)) m contents
+told_keeps law t0 sp b m session tag now call reply contents other fitted told goes sound there =
+    let f = told_follows t0 sp b session tag now call other sound.legal fitted.going reply told in
+    law t0 sp.view m (entry_noted sp session tag now call reply) contents f.0 goes f.1 there
+
 -- a note keeps the two joined
-pub joined_noted : (sp space : SpaceBooks) (b : Books) (told : Option disks.State) (session tag now durable : ℕ) (call : Call) (reply : Reply) → session ≢ 0 → IsToldBy b sp.view.history call reply → space ≡ with_note sp session (entry_noted sp session tag now call reply) durable
+pub joined_noted : NoteKeepsFiles → (sp space : SpaceBooks) (b : Books) (told : Option disks.State) (session tag now durable : ℕ) (call : Call) (reply : Reply) → session ≢ 0 → lets_go call ≡ false → IsToldBy b sp.view.history call reply → space ≡ with_note sp session (entry_noted sp session tag now call reply) durable
     → AreJoined sp b told → AreJoined space b told
-joined_noted sp space b told session tag now durable call reply other tells is joined = subst (λ (x : SpaceBooks). AreJoined x b told) (sym is) (record {
+joined_noted law sp space b told session tag now durable call reply other goes tells is joined = subst (λ (x : SpaceBooks). AreJoined x b told) (sym is) (record {
   fitted = record {
     geometry = joined.fitted.geometry;
     sealed = joined.fitted.sealed;
     sealed_used = joined.fitted.sealed_used;
     idle = joined.fitted.idle;
+    reached = joined.fitted.reached;
     going = λ none. going_more sp.view.history (entry_noted sp session tag now call reply) ((told_is_known sp b session tag now call reply tells).1 none) (joined.fitted.going none);
   };
   stands = λ st told_st.
       let s = joined.stands st told_st in
       let e = told_entered s.t0 sp b (newest_map b st) session tag now call reply other joined.fitted tells s.core.space in
-      record { t0 = s.t0; touched = s.touched; core = core_entered s.t0 sp.view (noted sp.view (entry_noted sp session tag now call reply)) b s.touched st (entry_noted sp session tag now call reply) s.core e.0 e.1; fits = s.fits };
+      let keeps = told_keeps law s.t0 sp b (newest_map b st) session tag now call reply (contents_of st (layout_of b.sup).sectors) other joined.fitted tells goes s.core.space s.known in
+      record {
+        t0 = s.t0;
+        touched = s.touched;
+        core = core_entered s.t0 sp.view (noted sp.view (entry_noted sp session tag now call reply)) b s.touched st (entry_noted sp session tag now call reply) s.core e.0 e.1;
+        known = known_entered s.t0 sp.view (noted sp.view (entry_noted sp session tag now call reply)) b st (entry_noted sp session tag now call reply) e.0 keeps s.known;
+        fits = s.fits;
+      };
 })

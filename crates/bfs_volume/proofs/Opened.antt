@@ -2,6 +2,7 @@
 use Rattle.std.proofs.Common.{◌≡◌, ◌<◌, ◌+◌, ◌*◌, ◌/◌, inl, ℕ, List, length, Bool, true, Option, Some, None, IfSome, refl, sym, ◌∙◌, ap, subst, arith}
 use Rattle.std.specs.Prelude.{is_some}
 use Rattle.std.specs.FinMap.{empty}
+use Rattle.bfs_volume.proofs.Bare.{bare_bytes}
 use Rattle.std.proofs.lemmas.Bool.{cond-true, true≢false}
 use Rattle.std.proofs.lemmas.Nat.{div-mul-add}
 use Rattle.bfs_disk.specs.State.{State, Tells, Filled, Holds}
@@ -20,8 +21,10 @@ use Rattle.bfs_device.proofs.Stepping.{filled_state, on_state}
 use Rattle.bfs_shift.proofs.Basics.{some_bytes}
 use Rattle.bfs_core.specs.Spaces.{opened}
 use Rattle.bfs_core.specs.Cores.{Core, newest_map}
+use Rattle.bfs_core.specs.KnownBytes.{HasKnown}
+use Rattle.bfs_core.proofs.Knowing.{known_opened}
 use Rattle.bfs_core.proofs.Masks.{of_data}
-use Rattle.bfs_core.proofs.Openings.{core_mounted}
+use Rattle.bfs_core.proofs.Openings.{core_mounted, whole_of}
 use Rattle.bfs_core.proofs.Wholes.{newest_is_sized}
 use Rattle.bfs_space.specs.Books.{first_room, fresh}
 use Rattle.bfs_volume.specs.Volumes.{AreFitted, AreJoined, MayBeMounted, Stands}
@@ -57,7 +60,7 @@ fits_first s st steady filled on = record {
 }
 
 fitted_first : (s : Super) → AreFitted (opened s) (adopted s)
-fitted_first s = record { geometry = λ used. refl; sealed = refl; sealed_used = refl; idle = λ e. refl; going = λ e. refl }
+fitted_first s = record { geometry = λ used. refl; sealed = refl; sealed_used = refl; idle = λ e. refl; going = λ e. refl; reached = λ k d lt. absurd (omega (arith, lt)) }
 
 -- they are joined, where the disk holds what replay gives of an image that recovers
 module _ (old told : Option State) (size : Option ℕ) (s : Super) (may : MayBeMounted old) (silent : old ≡ None → told ≡ None) (recovered : (quiet : Bool) (image : List ℕ) → quiet ≡ true → Tells old (Holds image) → IsRecovered true image told s)
@@ -76,6 +79,8 @@ module _ (old told : Option State) (size : Option ℕ) (s : Super) (may : MayBeM
         t0 = t0;
         touched = none;
         core = subst (λ (x : Super). Core t0 (opened x) (adopted x) none st) (sym got.3) (core_mounted t0 m.0 got.0 st m.3 got.1 holds full (subst (λ (x : Super). IsOnDisk (Some st.size) x) got.3 here));
+        known = subst (λ (x : Super). HasKnown t0 (opened x) (adopted x) st) (sym got.3)
+            (known_opened t0 got.0 st (whole_of m.0 got.0 m.1 m.3 got.1) holds full (subst (λ (x : Super). IsOnDisk (Some st.size) x) got.3 here) (bare_bytes got.0 m.1));
         fits = fits_first s st steady full here;
       }
 

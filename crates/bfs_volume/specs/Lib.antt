@@ -4,3 +4,5 @@ pub mod Faults
 pub mod Entries
 pub mod Causes
 pub mod Events
+pub mod Pieces
+pub mod Held

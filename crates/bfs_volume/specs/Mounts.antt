@@ -3,8 +3,11 @@ use Rattle.std.specs.Prelude.{◌≡◌, ℕ, List, Option, Some}
 use Rattle.bfs_disk.specs.State.{State, Holds}
 use Rattle.bfs_super.specs.declared.sup.Super.{Super}
 use Rattle.bfs_log.specs.Replay.{Replayed, super_of}
+use Rattle.std.specs.FinMap.{empty}
+use Rattle.bfs_tree.specs.Histories.{Mounted}
 use Rattle.bfs_tree.specs.Trees.{Tree}
-use Rattle.bfs_sound.specs.Whole.{IsWhole}
+use Rattle.bfs_sound.specs.Whole.{IsWhole, Recovers}
+use Rattle.bfs_core.specs.KnownBytes.{HasBytesOf}
 use Rattle.bfs_replay.specs.Recover.{HasCauseIn, IsMountFault}
 use Rattle.bfs_check.specs.Checked.{IsFound}
 use Rattle.bfs_check.specs.declared.checking.CheckFault.{CheckFault}
@@ -25,6 +28,18 @@ abbrev pub IsUnshort : CheckFault → Type 0
 IsUnshort (checking.Short sectors needed) = ⊥
 IsUnshort (checking.Disk before after) = Unit {0}
 IsUnshort checking.NoMemory = Unit {0}
+
+-- An image is mounted with this tree and these bytes of files: replay gives of it another one that is whole with the tree, and whose files have
+-- these bytes.
+pub record IsMountedFrom (image : List ℕ) (t0 : Mounted) : Type 0 where
+  pub next : List ℕ
+  pub replayed : Replayed image next
+  pub whole : IsWhole next t0.tree
+  pub bytes : HasBytesOf next t0
+
+-- an image that recovers to a tree is mounted with it, where no byte of a file is known
+abbrev pub MountsBare : Type 0
+MountsBare = (image : List ℕ) (tree : Tree) → Recovers image tree → IsMountedFrom image (record { tree = tree; bytes = empty })
 
 -- Why an image isn't mounted: it isn't recovered; or what replay gives of it isn't whole, and this is found.
 abbrev pub IsUnmounted : List ℕ → Unmounted → Type 0

@@ -1,5 +1,5 @@
 // Calls and syncs of a session: each appends one entry, or finds no memory and changes nothing of the history.
-ghost use Rattle.std.specs.Prelude.{◌≡◌, ◌≢◌, ◌≤◌, ◌<◌, ◌⊎◌, ◌^◌, ℕ, [], ◌∷◌, true, length, IfOk, IfErr, OnOk, OnErr};
+ghost use Rattle.std.specs.Prelude.{◌≡◌, ◌≢◌, ◌≤◌, ◌<◌, ◌⊎◌, ◌^◌, ℕ, [], ◌∷◌, true, false, length, IfOk, IfErr, OnOk, OnErr};
 ghost use Rattle.bfs_tree.specs.declared.call.Call.TheVariants.{Sync};
 ghost use Rattle.bfs_tree.specs.declared.reply.Reply.TheVariants.{Synced};
 ghost use Rattle.bfs_tree.specs.Answers.{KeepsRanges};
@@ -7,7 +7,10 @@ ghost use Rattle.bfs_tree.specs.Histories.{Mounted};
 ghost use Rattle.bfs_device.specs.Books.{durable_of};
 ghost use Rattle.bfs_device_blocks.specs.Lent.{HasCore};
 ghost use Rattle.bfs_core.specs.Spaces.{SpaceView};
+ghost use Rattle.bfs_core.specs.Moments.{Adoption};
 ghost use Rattle.bfs_space.specs.Books.{SpaceBooks};
+ghost use Rattle.bfs_space.specs.Files.{lets_go};
+ghost use Rattle.bfs_space.specs.Holds.{keeps_holds};
 ghost use Rattle.bfs_volume.specs.Volumes.{AreJoined};
 ghost use Rattle.bfs_volume.specs.Causes.{HasSyncCause};
 ghost use Rattle.bfs_volume.specs.Entries.{HasEntry, HasEntryOf, HasFailedSync, HasReplyIn, IsAnsweredIn, IsEnded, sync_fault_of};
@@ -28,7 +31,7 @@ pub fn make_room<D: Disk>(device: &mut Device<D>) -> Result<(), AllocError>
     ensures rest { device.new.books ≡ record device.old.books { spare = device.new.books.spare } }
     ensures spare { device.old.books.spare ≤ device.new.books.spare }
     ensures disk { device.new.disk ≡ device.old.disk }
-    ensures core { (t0 : Mounted) (adopted : ℕ) (sp : SpaceView) → HasCore t0 adopted sp device.old.books (D.state device.old.disk) (D.clock device.old.disk) (D.since device.old.disk)
+    ensures core { (t0 : Mounted) (adopted : Adoption) (sp : SpaceView) → HasCore t0 adopted sp device.old.books (D.state device.old.disk) (D.clock device.old.disk) (D.since device.old.disk)
         → HasCore t0 adopted sp device.new.books (D.state device.new.disk) (D.clock device.new.disk) (D.since device.new.disk) }
 {
     let made = device.room();
@@ -54,7 +57,7 @@ pub fn prepare<D: Disk>(
     ensures err { OnErr result ((space.new.promised ≡ 0 ∷ []) × (1 ≤ device.new.books.spare)) }
     ensures stop { device.new.books.stop ≡ device.old.books.stop }
     ensures disk { device.new.disk ≡ device.old.disk }
-    ensures core { (t0 : Mounted) (adopted : ℕ) → HasCore t0 adopted space.old.view device.old.books (D.state device.old.disk) (D.clock device.old.disk) (D.since device.old.disk)
+    ensures core { (t0 : Mounted) (adopted : Adoption) → HasCore t0 adopted space.old.view device.old.books (D.state device.old.disk) (D.clock device.old.disk) (D.since device.old.disk)
         → HasCore t0 adopted space.new.view device.new.books (D.state device.new.disk) (D.clock device.new.disk) (D.since device.new.disk) }
 {
     make_room(device)?;
@@ -78,6 +81,8 @@ pub fn answer<A: Answers, D: Disk>(
     requires session { session ≢ 0 }
     requires call { call ≢ Sync }
     requires serves { A.serves call ≡ true }
+    requires stays { keeps_holds call ≡ true }
+    requires goes { lets_go call ≡ false }
     requires ranges { KeepsRanges call }
     requires spare { 1 ≤ device.old.books.spare }
     ensures joined { AreJoined space.new device.new.books (D.state device.new.disk) }
@@ -85,11 +90,12 @@ pub fn answer<A: Answers, D: Disk>(
     ensures spare { 1 ≤ device.new.books.spare }
     ensures entry { OnOk result (HasEntry space.old.view.history space.new.view.history session tag call) }
     ensures no_memory { OnErr result (space.new.view.history ≡ space.old.view.history) }
+    ensures later { D.faults device.old.disk ≤ D.faults device.new.disk }
     // The space has replied, or the device has ended it.
     ensures noted { OnOk result (HasReplyIn space.old space.new (D.faults device.old.disk) (D.faults device.new.disk) session tag call ⊎ IsEnded space.old.view.history space.new.view.history session tag call device.old.books.stop (D.faults device.old.disk) (D.faults device.new.disk)) }
-    ensures answered { (t0 : Mounted) (adopted : ℕ) → HasCore t0 adopted space.old.view device.old.books (D.state device.old.disk) (D.clock device.old.disk) (D.since device.old.disk)
+    ensures answered { (t0 : Mounted) (adopted : Adoption) → HasCore t0 adopted space.old.view device.old.books (D.state device.old.disk) (D.clock device.old.disk) (D.since device.old.disk)
         → OnOk result (IsAnsweredIn t0 space.old space.new device.new.books (D.state device.new.disk) session tag call ⊎ IsEnded space.old.view.history space.new.view.history session tag call device.old.books.stop (D.faults device.old.disk) (D.faults device.new.disk)) }
-    ensures core { (t0 : Mounted) (adopted : ℕ) → HasCore t0 adopted space.old.view device.old.books (D.state device.old.disk) (D.clock device.old.disk) (D.since device.old.disk)
+    ensures core { (t0 : Mounted) (adopted : Adoption) → HasCore t0 adopted space.old.view device.old.books (D.state device.old.disk) (D.clock device.old.disk) (D.since device.old.disk)
         → HasCore t0 adopted space.new.view device.new.books (D.state device.new.disk) (D.clock device.new.disk) (D.since device.new.disk) }
 {
     prepare(space, device, session)?;
@@ -160,7 +166,8 @@ pub fn sync<D: Disk>(
     ensures entry { IfOk result (λ n. HasEntryOf space.old.view.history space.new.view.history session tag Sync (Synced n)) }
     ensures failed { IfErr result (HasFailedSync space.old.view.history space.new.view.history session tag) }
     ensures cause { IfErr result (HasSyncCause device.old.books.stop (D.faults device.old.disk) (D.faults device.new.disk)) }
-    ensures core { (t0 : Mounted) (adopted : ℕ) → HasCore t0 adopted space.old.view device.old.books (D.state device.old.disk) (D.clock device.old.disk) (D.since device.old.disk)
+    ensures later { D.faults device.old.disk ≤ D.faults device.new.disk }
+    ensures core { (t0 : Mounted) (adopted : Adoption) → HasCore t0 adopted space.old.view device.old.books (D.state device.old.disk) (D.clock device.old.disk) (D.since device.old.disk)
         → HasCore t0 adopted space.new.view device.new.books (D.state device.new.disk) (D.clock device.new.disk) (D.since device.new.disk) }
 {
     if prepare(space, device, session).is_err() {

@@ -1,11 +1,14 @@
 // One event of a volume: a call that is asked once, a seal, or a step of the device. Between two of them a volume may be left as it is: a crash there
 // recovers as one inside an event does.
-ghost use Rattle.std.specs.Prelude.{◌≡◌, ◌≢◌, ◌≤◌, ◌<◌, ◌⊎◌, ◌^◌, ℕ, [], ◌∷◌, true, length, Ok, Err, IfOk, IfErr, OnErr};
+ghost use Rattle.std.specs.Prelude.{◌≡◌, ◌≢◌, ◌≤◌, ◌<◌, ◌⊎◌, ◌^◌, ℕ, [], ◌∷◌, true, false, length, Ok, Err, IfOk, IfErr, OnErr};
 ghost use Rattle.bfs_tree.specs.declared.call.Call.TheVariants.{Sync};
 ghost use Rattle.bfs_tree.specs.Answers.{KeepsRanges};
 ghost use Rattle.bfs_tree.specs.Histories.{Mounted};
 ghost use Rattle.bfs_device.specs.Books.{sealed_of};
 ghost use Rattle.bfs_device_blocks.specs.Lent.{HasCore};
+ghost use Rattle.bfs_core.specs.Moments.{Adoption};
+ghost use Rattle.bfs_space.specs.Files.{lets_go};
+ghost use Rattle.bfs_space.specs.Holds.{keeps_holds};
 ghost use Rattle.bfs_volume.specs.Volumes.{AreJoined};
 ghost use Rattle.bfs_volume.specs.Entries.{IsEnded};
 ghost use Rattle.bfs_volume.specs.Events.{HasTried, HasOutcomeIn, IsOutcomeIn, IsSealing, happened_by};
@@ -59,6 +62,8 @@ pub fn attempt<A: Answers, D: Disk>(
     requires session { session ≢ 0 }
     requires call { call ≢ Sync }
     requires serves { A.serves call ≡ true }
+    requires stays { keeps_holds call ≡ true }
+    requires goes { lets_go call ≡ false }
     requires ranges { KeepsRanges call }
     requires spare { 1 ≤ device.old.books.spare }
     ensures joined { AreJoined space.new device.new.books (D.state device.new.disk) }
@@ -68,9 +73,9 @@ pub fn attempt<A: Answers, D: Disk>(
     ensures no_memory { OnErr result (space.new.view.history ≡ space.old.view.history) }
     // The space has answered, or the device had stopped.
     ensures noted { IfOk result (λ o. HasOutcomeIn space.old space.new (D.faults device.old.disk) (D.faults device.new.disk) session tag call o ⊎ IsEnded space.old.view.history space.new.view.history session tag call device.old.books.stop (D.faults device.old.disk) (D.faults device.new.disk)) }
-    ensures answered { (t0 : Mounted) (adopted : ℕ) → HasCore t0 adopted space.old.view device.old.books (D.state device.old.disk) (D.clock device.old.disk) (D.since device.old.disk)
+    ensures answered { (t0 : Mounted) (adopted : Adoption) → HasCore t0 adopted space.old.view device.old.books (D.state device.old.disk) (D.clock device.old.disk) (D.since device.old.disk)
         → IfOk result (λ o. IsOutcomeIn t0 space.old space.new device.new.books (D.state device.new.disk) session tag call o ⊎ IsEnded space.old.view.history space.new.view.history session tag call device.old.books.stop (D.faults device.old.disk) (D.faults device.new.disk)) }
-    ensures core { (t0 : Mounted) (adopted : ℕ) → HasCore t0 adopted space.old.view device.old.books (D.state device.old.disk) (D.clock device.old.disk) (D.since device.old.disk)
+    ensures core { (t0 : Mounted) (adopted : Adoption) → HasCore t0 adopted space.old.view device.old.books (D.state device.old.disk) (D.clock device.old.disk) (D.since device.old.disk)
         → HasCore t0 adopted space.new.view device.new.books (D.state device.new.disk) (D.clock device.new.disk) (D.since device.new.disk) }
 {
     prepare(space, device, session)?;
@@ -108,7 +113,7 @@ pub fn seal_open<D: Disk>(space: &mut Space, device: &mut Device<D>) -> Result<b
     ensures no_memory { OnErr result ((space.new ≡ space.old) × (sealed_of device.new.books ≡ sealed_of device.old.books)) }
     ensures stop { device.new.books.stop ≡ device.old.books.stop }
     ensures disk { device.new.disk ≡ device.old.disk }
-    ensures core { (t0 : Mounted) (adopted : ℕ) → HasCore t0 adopted space.old.view device.old.books (D.state device.old.disk) (D.clock device.old.disk) (D.since device.old.disk)
+    ensures core { (t0 : Mounted) (adopted : Adoption) → HasCore t0 adopted space.old.view device.old.books (D.state device.old.disk) (D.clock device.old.disk) (D.since device.old.disk)
         → HasCore t0 adopted space.new.view device.new.books (D.state device.new.disk) (D.clock device.new.disk) (D.since device.new.disk) }
 {
     let may = device.may_seal();

@@ -9,15 +9,17 @@ ghost use Rattle.bfs_device.specs.Data.{IsRested};
 ghost use Rattle.bfs_device.specs.Steps.{calls_left, progress_to, stepped, IsStepFault};
 ghost use Rattle.bfs_device.specs.Told.{HasCounted, HasMarked};
 ghost use Rattle.bfs_core.specs.Cores.{newest_map};
+ghost use Rattle.bfs_core.specs.Moments.{Adoption};
 ghost use Rattle.bfs_device_blocks.specs.Lent.{HasCore};
 ghost use Rattle.bfs_space.specs.Faces.{IsFaceOf, IsOutcome, HasOutcome};
+ghost use Rattle.bfs_space.specs.Holds.{keeps_holds};
 ghost use Rattle.bfs_volume.specs.Volumes.{AreJoined};
 ghost use Rattle.bfs_volume.specs.Entries.{counts_of};
 
 use bfs_device::{Device, DeviceFault, Progress};
 use bfs_device_blocks::DeviceBlocks;
 use bfs_disk::Disk;
-use bfs_space::{Answers, Outcome, Space};
+use bfs_space::{Answers, Outcome, Space, entered_keeps_files};
 use bfs_tree::Call;
 use std::alloc::AllocError;
 use thiserror::Error;
@@ -55,7 +57,7 @@ pub fn step<D: Disk>(space: &mut Space, device: &mut Device<D>) -> Result<Progre
     ensures spare { device.new.books.spare ≡ device.old.books.spare }
     ensures sealed { sealed_of device.new.books ≡ sealed_of device.old.books }
     ensures durable { durable_of device.old.books ≤ durable_of device.new.books }
-    ensures core { (t0 : Mounted) (adopted : ℕ) → HasCore t0 adopted space.old.view device.old.books (D.state device.old.disk) (D.clock device.old.disk) (D.since device.old.disk)
+    ensures core { (t0 : Mounted) (adopted : Adoption) → HasCore t0 adopted space.old.view device.old.books (D.state device.old.disk) (D.clock device.old.disk) (D.since device.old.disk)
         → HasCore t0 adopted space.new.view device.new.books (D.state device.new.disk) (D.clock device.new.disk) (D.since device.new.disk) }
 {
     let result = device.step();
@@ -80,7 +82,7 @@ pub fn seal<D: Disk>(space: &mut Space, device: &mut Device<D>) -> bool
     ensures sealed { sealed_of device.new.books ≡ length space.old.view.history }
     ensures spare { device.old.books.spare ≤ device.new.books.spare + 1 }
     ensures durable { durable_of device.new.books ≡ durable_of device.old.books }
-    ensures core { (t0 : Mounted) (adopted : ℕ) → HasCore t0 adopted space.old.view device.old.books (D.state device.old.disk) (D.clock device.old.disk) (D.since device.old.disk)
+    ensures core { (t0 : Mounted) (adopted : Adoption) → HasCore t0 adopted space.old.view device.old.books (D.state device.old.disk) (D.clock device.old.disk) (D.since device.old.disk)
         → HasCore t0 adopted space.new.view device.new.books (D.state device.new.disk) (D.clock device.new.disk) (D.since device.new.disk) }
 {
     match space.seal() {
@@ -108,6 +110,7 @@ pub fn ask<A: Answers, D: Disk>(
     requires session { session ≢ 0 }
     requires call { call ≢ Sync }
     requires serves { A.serves call ≡ true }
+    requires stays { keeps_holds call ≡ true }
     requires ranges { KeepsRanges call }
     ensures joined { AreJoined space.new device.new.books (D.state device.new.disk) }
     ensures rests { IsRested device.old.books device.new.books }
@@ -117,9 +120,10 @@ pub fn ask<A: Answers, D: Disk>(
     ensures no_memory { OnErr result (space.new ≡ space.old) }
     // What the disk tells, the call is entered on, or put off.
     ensures entered { (t0 : Mounted) (st : State) → D.state device.old.disk ≡ Some st → IsFaceOf t0 space.old (newest_map device.old.books st) → IfOk result (IsOutcome t0 space.old space.new (newest_map device.old.books st) session tag now call) }
-    ensures core { (t0 : Mounted) (adopted : ℕ) → HasCore t0 adopted space.old.view device.old.books (D.state device.old.disk) (D.clock device.old.disk) (D.since device.old.disk)
+    ensures core { (t0 : Mounted) (adopted : Adoption) → HasCore t0 adopted space.old.view device.old.books (D.state device.old.disk) (D.clock device.old.disk) (D.since device.old.disk)
         → HasCore t0 adopted space.new.view device.new.books (D.state device.new.disk) (D.clock device.new.disk) (D.since device.new.disk) }
 {
+    entered_keeps_files();
     let mut blocks = DeviceBlocks::over(device);
     let outcome = space.call(answers, &mut blocks, session, tag, now, call);
     blocks.done();

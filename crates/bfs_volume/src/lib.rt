@@ -7,15 +7,15 @@
 mod calls;
 mod event;
 mod events;
+mod laws;
 mod mount;
 mod notes;
+mod pieces;
 mod settle;
 mod volume;
 
 pub use event::{Event, Happened};
 pub use events::SyncFault;
+pub use laws::mounts_bare;
 pub use mount::Unmounted;
 pub use volume::Volume;
-
-#[cfg(test)]
-mod tests;

@@ -1,12 +1,13 @@
 // What goes before a volume is opened: its log is replayed, and it is checked.
 ghost use Rattle.std.specs.Prelude.{◌≡◌, ◌≤◌, ℕ, List, None, IfOk, IfErr, OnOk};
+ghost use Rattle.bfs_base.specs.Moments.{Passed};
 ghost use Rattle.bfs_disk.specs.State.{Tells, Holds};
 ghost use Rattle.bfs_super.specs.Conditions.{IsValid};
 ghost use Rattle.bfs_tree.specs.Trees.{Tree};
 ghost use Rattle.bfs_sound.specs.Whole.{Recovers};
 ghost use Rattle.bfs_log.specs.Replay.{Replayed};
 ghost use Rattle.bfs_device.specs.Books.{IsOnDisk};
-ghost use Rattle.bfs_replay.specs.Recover.{HasCauseIn, IsMountFault};
+ghost use Rattle.bfs_replay.specs.Recover.{GoesOn, HasCauseIn, IsMountFault};
 ghost use Rattle.bfs_check.specs.Checked as check;
 ghost use Rattle.bfs_volume.specs.Mounts.{IsHeld, IsHeldWhole, IsUnshort, IsUnmounted, HasUnmountedCause};
 
@@ -52,6 +53,9 @@ pub(crate) fn replay_and_check<D: Disk>(alloc: Global, disk: &mut D) -> Result<S
     ensures replayed { (image : List ℕ) → Tells (D.state disk.old) (Holds image) → OnOk result ((next : List ℕ) × Replayed image next × Tells (D.state disk.new) (Holds next)) }
     ensures refused { (image : List ℕ) → Tells (D.state disk.old) (Holds image) → IfErr result (IsUnmounted image) }
     ensures cause { IfErr result (HasUnmountedCause (D.faults disk.old) (D.faults disk.new)) }
+    // A crash meanwhile leaves the image, or one that is replayed to the same.
+    ensures time { (image : List ℕ) → Tells (D.state disk.old) (Holds image) → ∥ Passed (D.clock disk.old) (D.clock disk.new) (D.since disk.old) (D.since disk.new) (GoesOn image) ∥₁ }
+    ensures clock { D.clock disk.old ≤ D.clock disk.new }
     ensures later { D.faults disk.old ≤ D.faults disk.new }
     ensures silent { D.state disk.old ≡ None → D.state disk.new ≡ None }
 {

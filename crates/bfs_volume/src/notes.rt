@@ -1,16 +1,18 @@
 // Entries whose reply the device tells.
-ghost use Rattle.std.specs.Prelude.{◌≡◌, ◌≢◌, ◌<◌, ◌^◌, ℕ};
+ghost use Rattle.std.specs.Prelude.{◌≡◌, ◌≢◌, ◌<◌, ◌^◌, ℕ, false};
 ghost use Rattle.bfs_base.specs.Lists.{Has};
 ghost use Rattle.bfs_tree.specs.Histories.{Mounted};
 ghost use Rattle.bfs_device.specs.Books.{durable_of};
 ghost use Rattle.bfs_device_blocks.specs.Lent.{HasCore};
+ghost use Rattle.bfs_core.specs.Moments.{Adoption};
 ghost use Rattle.bfs_space.specs.Books.{entry_noted, with_note};
+ghost use Rattle.bfs_space.specs.Files.{lets_go};
 ghost use Rattle.bfs_volume.specs.Volumes.{AreJoined};
 ghost use Rattle.bfs_volume.specs.Entries.{IsToldBy, reply_of};
 
 use bfs_device::{Device, DeviceFault};
 use bfs_disk::Disk;
-use bfs_space::Space;
+use bfs_space::{Space, note_keeps_files};
 use bfs_tree::{Call, Reply};
 
 /// The reply to a fault of the device.
@@ -45,11 +47,13 @@ pub fn note<D: Disk>(
     requires promised { Has space.old.promised session }
     requires now { now < 2 ^ 40 }
     requires session { session ≢ 0 }
+    requires goes { lets_go call ≡ false }
     requires told { IsToldBy device.now.books space.old.view.history call reply }
     ensures joined { AreJoined space.new device.now.books (D.state device.now.disk) }
     ensures noted { space.new ≡ with_note space.old session (entry_noted space.old session tag now call reply) (durable_of device.now.books) }
-    ensures core { (t0 : Mounted) (adopted : ℕ) → HasCore t0 adopted space.old.view device.now.books (D.state device.now.disk) (D.clock device.now.disk) (D.since device.now.disk)
+    ensures core { (t0 : Mounted) (adopted : Adoption) → HasCore t0 adopted space.old.view device.now.books (D.state device.now.disk) (D.clock device.now.disk) (D.since device.now.disk)
         → HasCore t0 adopted space.new.view device.now.books (D.state device.now.disk) (D.clock device.now.disk) (D.since device.now.disk) }
 {
+    note_keeps_files();
     space.note(session, tag, now, call, reply, device.durable());
 }

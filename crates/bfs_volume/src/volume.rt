@@ -1,29 +1,34 @@
 // A mounted volume.
-ghost use Rattle.std.specs.Prelude.{◌≡◌, ◌≢◌, ◌≤◌, ◌⊎◌, ℕ, List, [], ◌∷◌, true, length, IfOk, IfErr, OnOk, OnErr};
+ghost use Rattle.std.specs.Prelude.{◌≡◌, ◌≢◌, ◌≤◌, ◌⊎◌, ℕ, List, [], ◌∷◌, true, false, length, IfOk, IfErr, OnOk, OnErr, MatchResult};
+ghost use Rattle.bfs_base.specs.Moments.{Passed};
 ghost use Rattle.bfs_disk.specs.State.{Tells, Holds, ReadsAs};
 ghost use Rattle.bfs_disk.specs.Disk.{MayLeave};
-ghost use Rattle.bfs_replay.specs.Recover.{HasCauseIn, IsMountFault};
-ghost use Rattle.bfs_tree.specs.declared.call.Call.TheVariants.{Sync};
+ghost use Rattle.bfs_replay.specs.Recover.{GoesOn, HasCauseIn, IsMountFault};
+ghost use Rattle.bfs_tree.specs.declared.call.Call.TheVariants.{Hold, Sync};
 ghost use Rattle.bfs_tree.specs.declared.reply.Reply.TheVariants.{Synced};
 ghost use Rattle.bfs_tree.specs.Answers.{KeepsRanges};
 ghost use Rattle.bfs_tree.specs.Histories.{Mounted, after};
 ghost use Rattle.bfs_tree.specs.Trees.{Tree};
 ghost use Rattle.bfs_super.specs.Conditions.{IsValid};
+ghost use Rattle.bfs_super.specs.Geometry.{geometry_of};
 ghost use Rattle.bfs_sound.specs.Whole.{Recovers};
 ghost use Rattle.bfs_device.specs.Books.{IsOnDisk, durable_of};
 ghost use Rattle.bfs_core.specs.Cores.{RecoversFrom};
+ghost use Rattle.bfs_core.specs.Moments.{Adoption, KeptSince, adopted_at};
 ghost use Rattle.bfs_device_blocks.specs.Lent.{HasCore};
 ghost use Rattle.bfs_space.specs.Looks.{is_built};
 ghost use Rattle.bfs_volume.specs.Volumes.{MayBeMounted};
-ghost use Rattle.bfs_volume.specs.Mounts.{IsHeld, IsHeldWhole, IsUnmounted, HasUnmountedCause};
+ghost use Rattle.bfs_volume.specs.Mounts.{IsHeld, IsHeldWhole, IsMountedFrom, IsUnmounted, HasUnmountedCause};
 ghost use Rattle.bfs_volume.specs.Entries.{HasEntry, HasEntryOf, HasFailedSync, HasReplyIn, IsAnsweredIn, IsEnded};
 ghost use Rattle.bfs_volume.specs.Events.{MayHappen, MayWantMemory, IsHappened, HasReplied};
 ghost use Rattle.bfs_volume.specs.Causes.{HasSyncCause, HasStopCause};
+ghost use Rattle.bfs_volume.specs.Pieces.{HasPiece, HasHoldIn, IsHoldIn, HasReleaseCause};
 
 use crate::calls::{answer, sync};
 use crate::event::{Event, Happened, as_happened, attempt, seal_open};
 use crate::events::{SyncFault, step};
 use crate::mount::{Unmounted, replay_and_check};
+use crate::pieces::{Piece, read, write};
 use crate::settle::settle;
 use bfs_cache::Cache;
 use bfs_device::{Device, DeviceFault};
@@ -39,6 +44,7 @@ use std::marker::Model;
 /// A mounted volume: the space of its names, over the device with its journal, and the clock that gives stamps. One session at a time calls it.
 #[derive(Drop)]
 pub struct Volume<D: Disk, C: Clock> {
+    alloc: Global,
     space: Space,
     device: Device<D>,
     clock: C,
@@ -68,8 +74,8 @@ impl<D: Disk, C: Clock> Volume<D, C> {
         requires empty { sup.log_start ≡ sup.log_end }
         requires on_disk { IsOnDisk (D.size disk) sup }
         requires whole { IsHeldWhole sup (D.state disk) }
-        ensures core { (t0 : Mounted) (image : List ℕ) → Tells (D.state disk) (Holds image) → Recovers image t0.tree
-            → IfOk result (λ v. HasCore t0 (D.clock v.device.disk) v.space.view v.device.books (D.state v.device.disk) (D.clock v.device.disk) (D.since v.device.disk)) }
+        ensures core { (t0 : Mounted) (image : List ℕ) (begun : ℕ) → begun ≤ D.clock disk → ∥ KeptSince t0 [] (D.clock disk) (D.since disk) begun 0 ∥₁ → Tells (D.state disk) (Holds image) → IsMountedFrom image t0
+            → IfOk result (λ v. HasCore t0 (adopted_at begun (D.clock v.device.disk)) v.space.view v.device.books (D.state v.device.disk) (D.clock v.device.disk) (D.since v.device.disk)) }
         ensures fresh { IfOk result (λ v. v.space.view.history ≡ []) }
         ensures disk { IfOk result (λ v. v.device.disk ≡ disk) }
         ensures back { IfErr result (λ e. e.0 ≡ disk) }
@@ -91,6 +97,7 @@ impl<D: Disk, C: Clock> Volume<D, C> {
         };
         device.steady();
         Ok(Volume {
+            alloc,
             space,
             device,
             clock,
@@ -106,8 +113,8 @@ impl<D: Disk, C: Clock> Volume<D, C> {
         cache: u32,
     ) -> Result<Volume<D, C>, (MountFault, D, C)>
         requires whole { MayBeMounted (D.state disk) }
-        ensures core { (t0 : Mounted) (image : List ℕ) → Tells (D.state disk) (Holds image) → Recovers image t0.tree
-            → IfOk result (λ v. HasCore t0 (D.clock v.device.disk) v.space.view v.device.books (D.state v.device.disk) (D.clock v.device.disk) (D.since v.device.disk)) }
+        ensures core { (t0 : Mounted) (image : List ℕ) (begun : ℕ) → begun ≤ D.clock disk → ∥ KeptSince t0 [] (D.clock disk) (D.since disk) begun 0 ∥₁ → Tells (D.state disk) (Holds image) → IsMountedFrom image t0
+            → IfOk result (λ v. HasCore t0 (adopted_at begun (D.clock v.device.disk)) v.space.view v.device.books (D.state v.device.disk) (D.clock v.device.disk) (D.since v.device.disk)) }
         ensures fresh { IfOk result (λ v. v.space.view.history ≡ []) }
         // A fault is true of what the disk reads as, and a failed disk has its cause.
         ensures fault { (image : List ℕ) → Tells (D.state disk) (λ s. ReadsAs s image) → IfErr result (λ e. IsMountFault image e.0) }
@@ -125,7 +132,8 @@ impl<D: Disk, C: Clock> Volume<D, C> {
     }
 
     /// Mounts a volume: replays its log, checks it, and opens it with an empty history where it is whole. `cache` is for how many read blocks there
-    /// is room. Where it isn't mounted, disk and clock are handed back.
+    /// is room. Where it isn't mounted, disk and clock are handed back. What led to it may have begun earlier: at a moment since which a crash might have
+    /// left only what recovers.
     pub fn mount(
         alloc: Global,
         disk: D,
@@ -135,12 +143,15 @@ impl<D: Disk, C: Clock> Volume<D, C> {
         requires held { IsHeld (D.state disk) }
         // It is mounted only where the image recovers, and then to the one tree that it recovers to.
         ensures recovers { (image : List ℕ) → Tells (D.state disk) (Holds image) → OnOk result ((tree : Tree) × Recovers image tree) }
-        ensures core { (t0 : Mounted) (image : List ℕ) → Tells (D.state disk) (Holds image) → Recovers image t0.tree
-            → IfOk result (λ v. HasCore t0 (D.clock v.device.disk) v.space.view v.device.books (D.state v.device.disk) (D.clock v.device.disk) (D.since v.device.disk)) }
+        ensures core { (t0 : Mounted) (image : List ℕ) (begun : ℕ) → begun ≤ D.clock disk → ∥ KeptSince t0 [] (D.clock disk) (D.since disk) begun 0 ∥₁ → Tells (D.state disk) (Holds image) → IsMountedFrom image t0
+            → IfOk result (λ v. HasCore t0 (adopted_at begun (D.clock v.device.disk)) v.space.view v.device.books (D.state v.device.disk) (D.clock v.device.disk) (D.since v.device.disk)) }
         ensures fresh { IfOk result (λ v. v.space.view.history ≡ []) }
         // Why it isn't mounted is true of what the disk held, and a failed disk has its cause.
         ensures refused { (image : List ℕ) → Tells (D.state disk) (Holds image) → IfErr result (λ e. IsUnmounted image e.0) }
         ensures cause { IfErr result (λ e. HasUnmountedCause (D.faults disk) (D.faults e.1) e.0) }
+        // And a crash meanwhile left the image, or one that is replayed to the same.
+        ensures time { (image : List ℕ) → Tells (D.state disk) (Holds image) → IfErr result (λ e. ∥ Passed (D.clock disk) (D.clock e.1) (D.since disk) (D.since e.1) (GoesOn image) ∥₁) }
+        ensures later { MatchResult result (λ v. D.faults disk ≤ D.faults v.device.disk) (λ e. D.faults disk ≤ D.faults e.1) }
     {
         let mut disk = disk;
         let sup = match replay_and_check(alloc, &mut disk) {
@@ -168,11 +179,12 @@ impl<D: Disk, C: Clock> Volume<D, C> {
         requires ranges { KeepsRanges call }
         ensures entry { OnOk result (HasEntry self.old.space.view.history self.new.space.view.history session tag call) }
         ensures no_memory { OnErr result (self.new.space.view.history ≡ self.old.space.view.history) }
+        ensures later { D.faults self.old.device.disk ≤ D.faults self.new.device.disk }
         // The space has replied, or the device has ended it; and over what the disk tells the reply is as the space's call says it.
         ensures noted { OnOk result (HasReplyIn self.old.space self.new.space (D.faults self.old.device.disk) (D.faults self.new.device.disk) session tag call ⊎ IsEnded self.old.space.view.history self.new.space.view.history session tag call self.old.device.books.stop (D.faults self.old.device.disk) (D.faults self.new.device.disk)) }
-        ensures answered { (t0 : Mounted) (adopted : ℕ) → HasCore t0 adopted self.old.space.view self.old.device.books (D.state self.old.device.disk) (D.clock self.old.device.disk) (D.since self.old.device.disk)
+        ensures answered { (t0 : Mounted) (adopted : Adoption) → HasCore t0 adopted self.old.space.view self.old.device.books (D.state self.old.device.disk) (D.clock self.old.device.disk) (D.since self.old.device.disk)
             → OnOk result (IsAnsweredIn t0 self.old.space self.new.space self.new.device.books (D.state self.new.device.disk) session tag call ⊎ IsEnded self.old.space.view.history self.new.space.view.history session tag call self.old.device.books.stop (D.faults self.old.device.disk) (D.faults self.new.device.disk)) }
-        ensures core { (t0 : Mounted) (adopted : ℕ) → HasCore t0 adopted self.old.space.view self.old.device.books (D.state self.old.device.disk) (D.clock self.old.device.disk) (D.since self.old.device.disk)
+        ensures core { (t0 : Mounted) (adopted : Adoption) → HasCore t0 adopted self.old.space.view self.old.device.books (D.state self.old.device.disk) (D.clock self.old.device.disk) (D.since self.old.device.disk)
             → HasCore t0 adopted self.new.space.view self.new.device.books (D.state self.new.device.disk) (D.clock self.new.device.disk) (D.since self.new.device.disk) }
     {
         let now = self.clock.seconds();
@@ -195,9 +207,9 @@ impl<D: Disk, C: Clock> Volume<D, C> {
         // A step of the device wants no memory.
         ensures wants { OnErr result (MayWantMemory event) }
         // Over what the disk tells, a call's reply is as the space's call says it, and it is put off only as that says.
-        ensures replied { (t0 : Mounted) (adopted : ℕ) → HasCore t0 adopted self.old.space.view self.old.device.books (D.state self.old.device.disk) (D.clock self.old.device.disk) (D.since self.old.device.disk)
+        ensures replied { (t0 : Mounted) (adopted : Adoption) → HasCore t0 adopted self.old.space.view self.old.device.books (D.state self.old.device.disk) (D.clock self.old.device.disk) (D.since self.old.device.disk)
             → IfOk result (HasReplied t0 self.old.space self.new.space self.old.device.books self.new.device.books (D.state self.new.device.disk) (D.faults self.old.device.disk) (D.faults self.new.device.disk) event) }
-        ensures core { (t0 : Mounted) (adopted : ℕ) → HasCore t0 adopted self.old.space.view self.old.device.books (D.state self.old.device.disk) (D.clock self.old.device.disk) (D.since self.old.device.disk)
+        ensures core { (t0 : Mounted) (adopted : Adoption) → HasCore t0 adopted self.old.space.view self.old.device.books (D.state self.old.device.disk) (D.clock self.old.device.disk) (D.since self.old.device.disk)
             → HasCore t0 adopted self.new.space.view self.new.device.books (D.state self.new.device.disk) (D.clock self.new.device.disk) (D.since self.new.device.disk) }
     {
         match event {
@@ -224,21 +236,101 @@ impl<D: Disk, C: Clock> Volume<D, C> {
         ensures entry { IfOk result (λ n. HasEntryOf self.old.space.view.history self.new.space.view.history session tag Sync (Synced n)) }
         ensures failed { IfErr result (HasFailedSync self.old.space.view.history self.new.space.view.history session tag) }
         ensures cause { IfErr result (HasSyncCause self.old.device.books.stop (D.faults self.old.device.disk) (D.faults self.new.device.disk)) }
-        ensures core { (t0 : Mounted) (adopted : ℕ) → HasCore t0 adopted self.old.space.view self.old.device.books (D.state self.old.device.disk) (D.clock self.old.device.disk) (D.since self.old.device.disk)
+        ensures later { D.faults self.old.device.disk ≤ D.faults self.new.device.disk }
+        ensures core { (t0 : Mounted) (adopted : Adoption) → HasCore t0 adopted self.old.space.view self.old.device.books (D.state self.old.device.disk) (D.clock self.old.device.disk) (D.since self.old.device.disk)
             → HasCore t0 adopted self.new.space.view self.new.device.books (D.state self.new.device.disk) (D.clock self.new.device.disk) (D.since self.new.device.disk) }
     {
         let now = self.clock.seconds();
         sync(&mut self.space, &mut self.device, session, tag, now)
     }
 
+    /// The block of the root's inode, at which paths begin. Takes no memory.
+    pub fn root(&self) -> u64
+        ensures value { result ≡ (geometry_of self.now.space.view.sup).root }
+        ensures tree { (t0 : Mounted) (adopted : Adoption) → HasCore t0 adopted self.now.space.view self.now.device.books (D.state self.now.device.disk) (D.clock self.now.device.disk) (D.since self.now.device.disk) → result ≡ t0.tree.root }
+    {
+        self.space.root()
+    }
+
+    /// Writes bytes of a file, from the byte `at` on: its piece is held, written beside the groups, and let go. The entries are the last ones: that of
+    /// the hold, and where it was taken that of the release, which is whole where all bytes were written. Where no memory was found, there is none.
+    pub fn write(
+        &mut self,
+        session: u32,
+        tag: u32,
+        id: u64,
+        at: u64,
+        bytes: &[u8],
+    ) -> Result<(), AllocError>
+        requires session { session ≢ 0 }
+        ensures entries { OnOk result (HasPiece self.old.space.view.history self.new.space.view.history session tag (Hold id at (length bytes.now) true) id (λ given. given ≡ bytes.now)) }
+        ensures no_memory { OnErr result (self.new.space.view.history ≡ self.old.space.view.history) }
+        ensures later { D.faults self.old.device.disk ≤ D.faults self.new.device.disk }
+        ensures noted { OnOk result (HasHoldIn self.old.space (D.faults self.old.device.disk) (D.faults self.new.device.disk) session tag (Hold id at (length bytes.now) true) self.old.device.books.stop) }
+        ensures answered { (t0 : Mounted) (adopted : Adoption) → HasCore t0 adopted self.old.space.view self.old.device.books (D.state self.old.device.disk) (D.clock self.old.device.disk) (D.since self.old.device.disk)
+            → OnOk result (IsHoldIn t0 self.old.space (D.faults self.old.device.disk) (D.faults self.new.device.disk) session tag (Hold id at (length bytes.now) true) self.old.device.books.stop) }
+        ensures released { OnOk result (HasReleaseCause self.old.space.view.history self.new.space.view.history self.old.device.books.stop (D.faults self.old.device.disk) (D.faults self.new.device.disk)) }
+        ensures core { (t0 : Mounted) (adopted : Adoption) → HasCore t0 adopted self.old.space.view self.old.device.books (D.state self.old.device.disk) (D.clock self.old.device.disk) (D.since self.old.device.disk)
+            → HasCore t0 adopted self.new.space.view self.new.device.books (D.state self.new.device.disk) (D.clock self.new.device.disk) (D.since self.new.device.disk) }
+    {
+        let piece = Piece {
+            session,
+            tag,
+            now: self.clock.seconds(),
+            id,
+            at,
+            length: bytes.len() as u64,
+            write: true,
+        };
+        write(self.alloc, &mut self.space, &mut self.device, piece, bytes)
+    }
+
+    /// Reads bytes of a file, from the byte `at` on, into the whole slice: its piece is held, read, and let go, as one that is written. Where its
+    /// release is whole, the slice has the bytes, which are those that are known of the file.
+    pub fn read(
+        &mut self,
+        session: u32,
+        tag: u32,
+        id: u64,
+        at: u64,
+        into: &mut [u8],
+    ) -> Result<(), AllocError>
+        requires session { session ≢ 0 }
+        ensures length { length into.new ≡ length into.old }
+        ensures entries { OnOk result (HasPiece self.old.space.view.history self.new.space.view.history session tag (Hold id at (length into.old) false) id (λ given. given ≡ into.new)) }
+        ensures no_memory { OnErr result (self.new.space.view.history ≡ self.old.space.view.history) }
+        ensures later { D.faults self.old.device.disk ≤ D.faults self.new.device.disk }
+        ensures noted { OnOk result (HasHoldIn self.old.space (D.faults self.old.device.disk) (D.faults self.new.device.disk) session tag (Hold id at (length into.old) false) self.old.device.books.stop) }
+        ensures answered { (t0 : Mounted) (adopted : Adoption) → HasCore t0 adopted self.old.space.view self.old.device.books (D.state self.old.device.disk) (D.clock self.old.device.disk) (D.since self.old.device.disk)
+            → OnOk result (IsHoldIn t0 self.old.space (D.faults self.old.device.disk) (D.faults self.new.device.disk) session tag (Hold id at (length into.old) false) self.old.device.books.stop) }
+        ensures released { OnOk result (HasReleaseCause self.old.space.view.history self.new.space.view.history self.old.device.books.stop (D.faults self.old.device.disk) (D.faults self.new.device.disk)) }
+        ensures core { (t0 : Mounted) (adopted : Adoption) → HasCore t0 adopted self.old.space.view self.old.device.books (D.state self.old.device.disk) (D.clock self.old.device.disk) (D.since self.old.device.disk)
+            → HasCore t0 adopted self.new.space.view self.new.device.books (D.state self.new.device.disk) (D.clock self.new.device.disk) (D.since self.new.device.disk) }
+    {
+        let piece = Piece {
+            session,
+            tag,
+            now: self.clock.seconds(),
+            id,
+            at,
+            length: into.len() as u64,
+            write: false,
+        };
+        read(self.alloc, &mut self.space, &mut self.device, piece, into)
+    }
+
     /// Gives up the volume as it stands: what wasn't sealed is lost, and the disk is as a crash now would meet it. Takes no memory.
     pub fn abandon(self) -> (D, C, Vec<Entry>)
         ensures disk { result.0 ≡ self.device.disk }
         ensures history { result.2.items ≡ self.space.view.history }
-        ensures held { (t0 : Mounted) (adopted : ℕ) → HasCore t0 adopted self.space.view self.device.books (D.state self.device.disk) (D.clock self.device.disk) (D.since self.device.disk)
+        ensures held { (t0 : Mounted) (adopted : Adoption) → HasCore t0 adopted self.space.view self.device.books (D.state self.device.disk) (D.clock self.device.disk) (D.since self.device.disk)
             → (image : List ℕ) → MayLeave (D.state result.0) image → RecoversFrom t0 self.space.view.history (durable_of self.device.books) image }
+        // And since what led to mounting began, a crash might have left only what recovers to the tree after a prefix of the entries.
+        ensures since { (t0 : Mounted) (adopted : Adoption) → HasCore t0 adopted self.space.view self.device.books (D.state self.device.disk) (D.clock self.device.disk) (D.since self.device.disk)
+            → (c : List ℕ) → D.since result.0 adopted.begun c → ∥ RecoversFrom t0 self.space.view.history 0 c ∥₁ }
     {
         let Volume {
+            alloc: _,
             space,
             device,
             clock,
@@ -252,13 +344,18 @@ impl<D: Disk, C: Clock> Volume<D, C> {
         ensures history { result.2.items ≡ self.space.view.history }
         // However it ends, what a crash leaves recovers to the tree after a prefix of the entries that has all which were durable before. Where it
         // went well, that is the tree after all of them.
-        ensures held { (t0 : Mounted) (adopted : ℕ) → HasCore t0 adopted self.space.view self.device.books (D.state self.device.disk) (D.clock self.device.disk) (D.since self.device.disk)
+        ensures held { (t0 : Mounted) (adopted : Adoption) → HasCore t0 adopted self.space.view self.device.books (D.state self.device.disk) (D.clock self.device.disk) (D.since self.device.disk)
             → (image : List ℕ) → MayLeave (D.state result.0) image → RecoversFrom t0 self.space.view.history (durable_of self.device.books) image }
-        ensures all { (t0 : Mounted) (adopted : ℕ) → HasCore t0 adopted self.space.view self.device.books (D.state self.device.disk) (D.clock self.device.disk) (D.since self.device.disk)
+        // And since what led to mounting began, a crash might have left only what recovers to the tree after a prefix of the entries.
+        ensures since { (t0 : Mounted) (adopted : Adoption) → HasCore t0 adopted self.space.view self.device.books (D.state self.device.disk) (D.clock self.device.disk) (D.since self.device.disk)
+            → (c : List ℕ) → D.since result.0 adopted.begun c → ∥ RecoversFrom t0 self.space.view.history 0 c ∥₁ }
+        ensures all { (t0 : Mounted) (adopted : Adoption) → HasCore t0 adopted self.space.view self.device.books (D.state self.device.disk) (D.clock self.device.disk) (D.since self.device.disk)
             → OnOk result.3 ((image : List ℕ) → MayLeave (D.state result.0) image → Recovers image (after t0 self.space.view.history)) }
         ensures cause { IfErr result.3 (HasStopCause self.device.books.stop (D.faults self.device.disk) (D.faults result.0)) }
+        ensures later { D.faults self.device.disk ≤ D.faults result.0 }
     {
         let Volume {
+            alloc: _,
             mut space,
             mut device,
             clock,

@@ -6,6 +6,7 @@ use Rattle.bfs_core.specs.Cores.{newest_map}
 use Rattle.bfs_device_blocks.specs.Lent.{HasCore, Lent}
 use Rattle.bfs_volume.specs.Volumes.{AreJoined}
 use Rattle.bfs_volume.proofs.Asked.{core_asked, faced, joined_asked, size_is}
+use Rattle.bfs_volume.proofs.Stays.{stays_goes}
 use Rattle.bfs_volume.proofs.events.ask.Goals as goal
 
 pub call-outcome-requires-clause-size : goal.call-outcome-requires-clause-size
@@ -29,7 +30,7 @@ returns-clause-joined g c =
     let rests : IsRested old.books u.device.now.books = subst (λ (x : View g.row.D.Denot). IsRested x.books u.device.now.books) began c.done.ensures.rests in
     let state : g.D.Disk.state u.device.now.disk ≡ g.D.Disk.state old.disk = c.done.ensures.state ∙ ap (λ (x : View g.row.D.Denot). g.D.Disk.state x.disk) began in
     subst (λ (x : View g.row.D.Denot). AreJoined space x.books (g.D.Disk.state x.disk)) (sym back)
-    (joined_asked sp space old.books u.device.now.books (g.D.Disk.state old.disk) (g.D.Disk.state u.device.now.disk) c.args.session c.args.tag c.args.now c.args.call c.call-outcome.result _ _ rests state c.requires.call c.call-outcome.ensures.noted c.call-outcome.ensures.no_memory
+    (joined_asked sp space old.books u.device.now.books (g.D.Disk.state old.disk) (g.D.Disk.state u.device.now.disk) c.args.session c.args.tag c.args.now c.args.call c.call-outcome.result _ _ rests state c.requires.call c.entered_keeps_files.ensures (stays_goes c.args.call c.requires.stays) c.call-outcome.ensures.noted c.call-outcome.ensures.no_memory
     (λ t m at face. c.call-outcome.ensures.entered t m (subst (λ (x : View g.row.D.Denot). option_map (newest_map x.books) (g.D.Disk.state x.disk) ≡ Some m) (sym c.over-blocks.ensures.device_now) at) face) c.requires.joined)
 
 pub returns-clause-core : goal.returns-clause-core
@@ -46,6 +47,6 @@ returns-clause-core g c = λ t0 adopted core.
     let state : g.D.Disk.state u.device.now.disk ≡ g.D.Disk.state old.disk = c.done.ensures.state ∙ ap (λ (x : View g.row.D.Denot). g.D.Disk.state x.disk) began in
     let first = subst (λ (x : View g.row.D.Denot). HasCore t0 adopted sp.view x.books (g.D.Disk.state x.disk) (g.D.Disk.clock x.disk) (g.D.Disk.since x.disk)) (sym began) core in
     subst (λ (x : View g.row.D.Denot). HasCore t0 adopted space.view x.books (g.D.Disk.state x.disk) (g.D.Disk.clock x.disk) (g.D.Disk.since x.disk)) (sym back)
-    (core_asked sp space old.books u.device.now.books (g.D.Disk.state old.disk) (g.D.Disk.state u.device.now.disk) c.args.session c.args.tag c.args.now c.args.call c.call-outcome.result _ _ rests state c.requires.call c.call-outcome.ensures.noted c.call-outcome.ensures.no_memory
+    (core_asked sp space old.books u.device.now.books (g.D.Disk.state old.disk) (g.D.Disk.state u.device.now.disk) c.args.session c.args.tag c.args.now c.args.call c.call-outcome.result _ _ rests state c.requires.call c.entered_keeps_files.ensures (stays_goes c.args.call c.requires.stays) c.call-outcome.ensures.noted c.call-outcome.ensures.no_memory
     (λ t m at face. c.call-outcome.ensures.entered t m (subst (λ (x : View g.row.D.Denot). option_map (newest_map x.books) (g.D.Disk.state x.disk) ≡ Some m) (sym c.over-blocks.ensures.device_now) at) face)
     t0 adopted (g.D.Disk.clock u.device.now.disk) (g.D.Disk.since u.device.now.disk) c.requires.joined (c.done.ensures.core t0 adopted sp.view first))

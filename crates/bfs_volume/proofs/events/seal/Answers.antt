@@ -26,3 +26,8 @@ returns-in-Some-clause-core g c = λ t0 adopted core.
     (subst (λ (v : SpaceView). HasCore t0 adopted v c.seal-in-Some.new.self.books (g.D.Disk.state d.disk) (g.D.Disk.clock d.disk) (g.D.Disk.since d.disk)) (sym (ap (λ (x : SpaceBooks). x.view) c.in-Some.ensures.sealed.1))
     (subst (λ (b : Books). HasCore t0 adopted (sealed_space sp.view) b (g.D.Disk.state d.disk) (g.D.Disk.clock d.disk) (g.D.Disk.since d.disk)) (sym c.seal-in-Some.ensures.books)
     (hold_sealed t0 adopted sp.view d.books (g.D.Disk.state d.disk) (g.D.Disk.clock d.disk) (g.D.Disk.since d.disk) c.in-Some.group c.in-Some.ensures.sealed.0 core)))
+
+pub returns-in-None-clause-core : goal.returns-in-None-clause-core
+returns-in-None-clause-core g c = λ t0 adopted core.
+    let d = c.args.device.now in
+    subst (λ (x : SpaceBooks). HasCore t0 adopted x.view d.books (g.D.Disk.state d.disk) (g.D.Disk.clock d.disk) (g.D.Disk.since d.disk)) (sym c.in-None.ensures.sealed.1) core

@@ -1,5 +1,7 @@
 use Rattle.std.proofs.Common.{◌∙◌, true, sym}
-use Rattle.bfs_volume.proofs.Mounting.{reads, now_reads, summed, found, cause_from, held_whole, unshort}
+use Rattle.std.proofs.Math.Logic.{∥∥₁_map}
+use Rattle.bfs_replay.specs.Recover.{GoesOn}
+use Rattle.bfs_volume.proofs.Mounting.{reads, now_reads, summed, found, cause_from, held_whole, unshort, passed_read}
 use Rattle.bfs_volume.proofs.mount.replay_and_check.Goals as goal
 
 pub returns-in-Err-clause-refused : goal.returns-in-Err-clause-refused
@@ -38,3 +40,27 @@ returns-in-Err-check-clause-refused g c image held =
 pub returns-in-Err-check-clause-cause : goal.returns-in-Err-check-clause-cause
 returns-in-Err-check-clause-cause g c = c.unchecked.ensures.cause (g.D.Disk.faults c.args.disk.now) (g.D.Disk.faults c.check.new.disk)
     (cause_from (g.D.Disk.faults c.args.disk.now) (g.D.Disk.faults c.recover.new.disk) (g.D.Disk.faults c.check.new.disk) c.in-Err-check.fault c.in-Ok.ensures.later c.in-Err-check.ensures.cause)
+
+pub returns-in-Err-clause-time : goal.returns-in-Err-clause-time
+returns-in-Err-clause-time g c image held = ∣ c.in-Err.ensures.time image held ∣₁
+
+pub returns-in-Ok-Yes-clause-time : goal.returns-in-Ok-Yes-clause-time
+returns-in-Ok-Yes-clause-time g c image held =
+    let mid = c.recover.new.disk in
+    let start = g.D.Disk.clock c.args.disk.now in
+    ∥∥₁_map c.in-Ok-Yes.ensures.time (λ then. passed_read start (g.D.Disk.clock mid) (g.D.Disk.clock c.check.new.disk) (g.D.Disk.since c.args.disk.now) (g.D.Disk.since mid) (g.D.Disk.since c.check.new.disk) (g.D.Disk.state mid) (GoesOn image) (c.in-Ok.ensures.time image held) then
+    (λ i may. c.in-Ok.ensures.moments image held i (g.met.D.Disk.counts_now mid start i c.in-Ok.ensures.clock may)))
+
+pub returns-in-Ok-No-clause-time : goal.returns-in-Ok-No-clause-time
+returns-in-Ok-No-clause-time g c image held =
+    let mid = c.recover.new.disk in
+    let start = g.D.Disk.clock c.args.disk.now in
+    ∥∥₁_map c.in-Ok-No.ensures.time (λ then. passed_read start (g.D.Disk.clock mid) (g.D.Disk.clock c.check.new.disk) (g.D.Disk.since c.args.disk.now) (g.D.Disk.since mid) (g.D.Disk.since c.check.new.disk) (g.D.Disk.state mid) (GoesOn image) (c.in-Ok.ensures.time image held) then
+    (λ i may. c.in-Ok.ensures.moments image held i (g.met.D.Disk.counts_now mid start i c.in-Ok.ensures.clock may)))
+
+pub returns-in-Err-check-clause-time : goal.returns-in-Err-check-clause-time
+returns-in-Err-check-clause-time g c image held =
+    let mid = c.recover.new.disk in
+    let start = g.D.Disk.clock c.args.disk.now in
+    ∥∥₁_map c.in-Err-check.ensures.time (λ then. passed_read start (g.D.Disk.clock mid) (g.D.Disk.clock c.check.new.disk) (g.D.Disk.since c.args.disk.now) (g.D.Disk.since mid) (g.D.Disk.since c.check.new.disk) (g.D.Disk.state mid) (GoesOn image) (c.in-Ok.ensures.time image held) then
+    (λ i may. c.in-Ok.ensures.moments image held i (g.met.D.Disk.counts_now mid start i c.in-Ok.ensures.clock may)))

@@ -1,8 +1,9 @@
-use Rattle.std.proofs.Common.{◌≡◌, ◌≤◌, ℕ}
+use Rattle.std.proofs.Common.{◌≡◌, ◌≤◌}
 use Rattle.bfs_tree.specs.Histories.{Mounted}
 use Rattle.bfs_device.specs.Books.{durable_of, sealed_of}
 use Rattle.bfs_device.specs.Steps.{calls_left}
 use Rattle.bfs_device_blocks.specs.Lent.{HasCore}
+use Rattle.bfs_core.specs.Moments.{Adoption}
 use Rattle.bfs_volume.specs.Volumes.{AreJoined}
 use Rattle.bfs_volume.proofs.settle.flush.Given as goal
 
@@ -17,7 +18,7 @@ invariant-loop-fault g l = record {
   spare : l.device.books.spare ≡ l.fn.device.books.spare;
   sealed : sealed_of l.device.books ≡ sealed_of l.fn.device.books;
   durable : durable_of l.fn.device.books ≤ durable_of l.device.books;
-  core : (t0 : Mounted) (adopted : ℕ) → HasCore t0 adopted l.fn.space.view l.fn.device.books (g.D.Disk.state l.fn.device.disk) (g.D.Disk.clock l.fn.device.disk) (g.D.Disk.since l.fn.device.disk)
+  core : (t0 : Mounted) (adopted : Adoption) → HasCore t0 adopted l.fn.space.view l.fn.device.books (g.D.Disk.state l.fn.device.disk) (g.D.Disk.clock l.fn.device.disk) (g.D.Disk.since l.fn.device.disk)
       → HasCore t0 adopted l.space.view l.device.books (g.D.Disk.state l.device.disk) (g.D.Disk.clock l.device.disk) (g.D.Disk.since l.device.disk);
 }
 

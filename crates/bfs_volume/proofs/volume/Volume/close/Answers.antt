@@ -5,7 +5,7 @@ use Rattle.bfs_tree.specs.declared.reply.Entry.{Entry}
 use Rattle.bfs_device.specs.Books.{durable_of}
 use Rattle.bfs_device_blocks.specs.Lent.{HasCore}
 use Rattle.bfs_volume.specs.Volumes.{VolumeView}
-use Rattle.bfs_volume.proofs.Closed.{all_recovers, some_recovers}
+use Rattle.bfs_volume.proofs.Closed.{all_recovers, since_begun, some_recovers}
 use Rattle.bfs_volume.proofs.volume.Volume.close.Goals as goal
 
 pub returns-clause-all : goal.returns-clause-all
@@ -32,3 +32,14 @@ returns-clause-held g c = λ t0 adopted core image left.
     some_recovers t0 adopted (durable_of c.args.self.device.books) sp.view c.args.self.space.view.history d.books (g.D.Disk.state d.disk) (g.D.Disk.clock d.disk) (g.D.Disk.since d.disk) (c.settle-ended.ensures.history ∙ history)
     (subst (λ (n : ℕ). n ≤ durable_of d.books) (ap (λ (v : VolumeView g.row.D.Denot). durable_of v.device.books) c.self.view_is) c.settle-ended.ensures.durable) c.durable-durable.ensures.recovers (c.settle-ended.ensures.core t0 adopted inside) image
     (subst (λ k. MayLeave (g.D.Disk.state k) image) c.into_disk.ensures left)
+
+pub returns-clause-since : goal.returns-clause-since
+returns-clause-since g c = λ t0 adopted core image left.
+    let d = c.settle-ended.new.device in
+    let sp = c.settle-ended.new.space in
+    let i = c.self.inside in
+    let history : i.space.view.history ≡ c.args.self.space.view.history = ap (λ (v : VolumeView g.row.D.Denot). v.space.view.history) c.self.view_is in
+    let inside : HasCore t0 adopted i.space.view i.device.books (g.D.Disk.state i.device.disk) (g.D.Disk.clock i.device.disk) (g.D.Disk.since i.device.disk) =
+    subst (λ (v : VolumeView g.row.D.Denot). HasCore t0 adopted v.space.view v.device.books (g.D.Disk.state v.device.disk) (g.D.Disk.clock v.device.disk) (g.D.Disk.since v.device.disk)) (sym c.self.view_is) core in
+    since_begun t0 adopted sp.view c.args.self.space.view.history d.books (g.D.Disk.state d.disk) (g.D.Disk.clock d.disk) (g.D.Disk.since d.disk) (c.settle-ended.ensures.history ∙ history) (c.settle-ended.ensures.core t0 adopted inside) image
+    (subst (λ k. g.D.Disk.since k adopted.begun image) c.into_disk.ensures left)

@@ -1,11 +1,13 @@
 use Rattle.std.proofs.Common.{sym, subst}
 use Rattle.std.specs.Prelude.{IfOk}
 use Rattle.bfs_device_blocks.specs.Lent.{HasCore}
-use Rattle.bfs_volume.specs.Events.{HasReplied}
+use Rattle.bfs_space.specs.BuiltLaws.{built_stays}
+use Rattle.bfs_volume.specs.Events.{HasReplied, MayHappen}
 use Rattle.bfs_volume.specs.Volumes.{VolumeView}
 use Rattle.bfs_volume.specs.declared.event.Event.{Event}
 use Rattle.bfs_volume.specs.declared.event.Event.TheVariants as events
 use Rattle.bfs_volume.proofs.Happens.{replied_by}
+use Rattle.bfs_volume.proofs.Stays.{built_served, stays_goes}
 use Rattle.bfs_volume.proofs.volume.Volume.event.Goals as goal
 
 pub returns-in-Call-clause-replied : goal.returns-in-Call-clause-replied
@@ -33,3 +35,12 @@ pub returns-after-step-clause-core : goal.returns-after-step-clause-core
 returns-after-step-clause-core g c = λ t0 adopted core.
     c.step.ensures.core t0 adopted
     (subst (λ (v : VolumeView g.row.D.Denot). HasCore t0 adopted v.space.view v.device.books (g.D.Disk.state v.device.disk) (g.D.Disk.clock v.device.disk) (g.D.Disk.since v.device.disk)) (sym c.self.view_is) core)
+
+pub attempt-requires-clause-serves : goal.attempt-requires-clause-serves
+attempt-requires-clause-serves g c = let may = subst MayHappen c.in-Call.is c.requires.may in built_served c.in-Call.call may.2
+
+pub attempt-requires-clause-stays : goal.attempt-requires-clause-stays
+attempt-requires-clause-stays g c = let may = subst MayHappen c.in-Call.is c.requires.may in built_stays c.in-Call.call may.2
+
+pub attempt-requires-clause-goes : goal.attempt-requires-clause-goes
+attempt-requires-clause-goes g c = let may = subst MayHappen c.in-Call.is c.requires.may in stays_goes c.in-Call.call (built_stays c.in-Call.call may.2)

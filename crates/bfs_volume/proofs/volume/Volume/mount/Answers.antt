@@ -1,8 +1,21 @@
-use Rattle.bfs_core.proofs.Openings.{whole_of}
-use Rattle.bfs_volume.proofs.Mounting.{whole_recovers}
+use Rattle.std.proofs.Common.{sym, subst, arith}
+use Rattle.std.proofs.Props.{props}
+use Rattle.std.proofs.Math.Logic.{∥∥₁_elim, ∥∥₁_map}
+use Rattle.bfs_base.specs.Moments.{Passed}
+use Rattle.bfs_replay.specs.Recover.{GoesOn}
+use Rattle.bfs_volume.proofs.Mounting.{kept_mounting, mounted_again}
 use Rattle.bfs_volume.proofs.volume.Volume.mount.Goals as goal
 
 pub returns-in-Ok-open_replayed-clause-core : goal.returns-in-Ok-open_replayed-clause-core
-returns-in-Ok-open_replayed-clause-core g c t0 image held recovers =
+returns-in-Ok-open_replayed-clause-core g c t0 image begun early kept held from =
     let got = c.in-Ok.ensures.replayed image held in
-    c.in-Ok-open_replayed.ensures.core t0 got.0 got.2 (whole_recovers got.0 t0.tree (whole_of image got.0 t0.tree recovers got.1))
+    let disk = c.args.disk in
+    let mid = c.replay_and_check.new.disk in
+    c.in-Ok-open_replayed.ensures.core t0 got.0 begun (let later = c.in-Ok.ensures.clock in omega (arith, early, later))
+    (∥∥₁_elim kept (Prim.hlevel props) (λ k. ∥∥₁_map (c.in-Ok.ensures.time image held) (λ time. kept_mounting image t0 begun (g.D.Disk.clock disk) (g.D.Disk.clock mid) (g.D.Disk.since disk) (g.D.Disk.since mid) from early k (g.met.D.Disk.fewer mid) time)))
+    got.2 (mounted_again image got.0 t0 from got.1)
+
+pub returns-in-Err-open_replayed-clause-time : goal.returns-in-Err-open_replayed-clause-time
+returns-in-Err-open_replayed-clause-time g c image held =
+    let disk = c.args.disk in
+    subst (λ k. ∥ Passed (g.D.Disk.clock disk) (g.D.Disk.clock k) (g.D.Disk.since disk) (g.D.Disk.since k) (GoesOn image) ∥₁) (sym c.in-Err-open_replayed.ensures.back) (c.in-Ok.ensures.time image held)

@@ -1,0 +1,59 @@
+use Rattle.std.proofs.Common.{rules, ◌≡◌, ◌∙◌, ap, Some, refl, sym, subst}
+use Rattle.std.specs.Option.{option_map}
+use Rattle.bfs_device.specs.Books.{View}
+use Rattle.bfs_device.specs.Data.{IsRested}
+use Rattle.bfs_core.specs.Cores.{newest_map}
+use Rattle.bfs_device_blocks.specs.Lent.{HasCore, Lent}
+use Rattle.bfs_volume.specs.Volumes.{AreJoined}
+use Rattle.bfs_volume.proofs.Asked.{core_asked, face_there, faced, joined_asked, size_is}
+use Rattle.bfs_tree.specs.declared.call.Call.TheVariants.{Hold}
+use Rattle.bfs_volume.proofs.Stays.{no_sync}
+use Rattle.bfs_volume.proofs.pieces.ask_hold.Goals as goal
+
+pub hold-outcome-requires-clause-size : goal.hold-outcome-requires-clause-size
+hold-outcome-requires-clause-size g c = ap (λ (x : View g.row.D.Denot). x.books.sup.block_size) c.over-blocks.ensures.device_now ∙ size_is c.args.space.now c.args.device.now.books c.requires.joined.fitted
+
+pub hold-outcome-requires-clause-faced : goal.hold-outcome-requires-clause-faced
+hold-outcome-requires-clause-faced g c = λ m at.
+    faced c.args.space.now c.args.device.now.books (g.D.Disk.state c.args.device.now.disk) m c.requires.joined
+    (subst (λ (x : View g.row.D.Denot). option_map (newest_map x.books) (g.D.Disk.state x.disk) ≡ Some m) c.over-blocks.ensures.device_now at)
+
+pub returns-clause-joined : goal.returns-clause-joined
+returns-clause-joined g c =
+    let u = c.hold-outcome.new.under in
+    let old = c.args.device.now in
+    let sp = c.args.space.now in
+    let space = c.hold-outcome.new.self in
+    let same : c.hold-outcome.new.under.device.ghost_name ≡ c.over-blocks.result.device.ghost_name = ap (λ (n : Lent g.row.D.Denot). n.name) c.hold-outcome.ensures.note in
+    let named : c.hold-outcome.new.under.device.ghost_name ≡ c.over-arg-1.given = same ∙ c.over-blocks.ensures.device in
+    let back : c.device-1.given.0 ≡ c.hold-outcome.new.under.device.now = search rules in
+    let began : u.start.value ≡ c.args.device.now = ap (λ (n : Lent g.row.D.Denot). n.start) c.hold-outcome.ensures.note ∙ c.over-blocks.ensures.start in
+    let rests : IsRested old.books u.device.now.books = subst (λ (x : View g.row.D.Denot). IsRested x.books u.device.now.books) began c.done.ensures.rests in
+    let state : g.D.Disk.state u.device.now.disk ≡ g.D.Disk.state old.disk = c.done.ensures.state ∙ ap (λ (x : View g.row.D.Denot). g.D.Disk.state x.disk) began in
+    subst (λ (x : View g.row.D.Denot). AreJoined space x.books (g.D.Disk.state x.disk)) (sym back)
+    (joined_asked sp space old.books u.device.now.books (g.D.Disk.state old.disk) (g.D.Disk.state u.device.now.disk) c.args.piece.session c.args.piece.tag c.args.piece.now (Hold c.args.piece.id c.args.piece.at c.args.piece.length c.args.piece.write) c.hold-outcome.result _ _ rests state (no_sync c.args.piece.id c.args.piece.at c.args.piece.length c.args.piece.write) c.entered_keeps_files.ensures refl c.hold-outcome.ensures.noted c.hold-outcome.ensures.no_memory
+    (λ t m at face. c.hold-outcome.ensures.entered t m (subst (λ (x : View g.row.D.Denot). option_map (newest_map x.books) (g.D.Disk.state x.disk) ≡ Some m) (sym c.over-blocks.ensures.device_now) at) face) c.requires.joined)
+
+pub returns-clause-core : goal.returns-clause-core
+returns-clause-core g c = λ t0 adopted core.
+    let u = c.hold-outcome.new.under in
+    let old = c.args.device.now in
+    let sp = c.args.space.now in
+    let space = c.hold-outcome.new.self in
+    let same : c.hold-outcome.new.under.device.ghost_name ≡ c.over-blocks.result.device.ghost_name = ap (λ (n : Lent g.row.D.Denot). n.name) c.hold-outcome.ensures.note in
+    let named : c.hold-outcome.new.under.device.ghost_name ≡ c.over-arg-1.given = same ∙ c.over-blocks.ensures.device in
+    let back : c.device-1.given.0 ≡ c.hold-outcome.new.under.device.now = search rules in
+    let began : u.start.value ≡ c.args.device.now = ap (λ (n : Lent g.row.D.Denot). n.start) c.hold-outcome.ensures.note ∙ c.over-blocks.ensures.start in
+    let rests : IsRested old.books u.device.now.books = subst (λ (x : View g.row.D.Denot). IsRested x.books u.device.now.books) began c.done.ensures.rests in
+    let state : g.D.Disk.state u.device.now.disk ≡ g.D.Disk.state old.disk = c.done.ensures.state ∙ ap (λ (x : View g.row.D.Denot). g.D.Disk.state x.disk) began in
+    let first = subst (λ (x : View g.row.D.Denot). HasCore t0 adopted sp.view x.books (g.D.Disk.state x.disk) (g.D.Disk.clock x.disk) (g.D.Disk.since x.disk)) (sym began) core in
+    subst (λ (x : View g.row.D.Denot). HasCore t0 adopted space.view x.books (g.D.Disk.state x.disk) (g.D.Disk.clock x.disk) (g.D.Disk.since x.disk)) (sym back)
+    (core_asked sp space old.books u.device.now.books (g.D.Disk.state old.disk) (g.D.Disk.state u.device.now.disk) c.args.piece.session c.args.piece.tag c.args.piece.now (Hold c.args.piece.id c.args.piece.at c.args.piece.length c.args.piece.write) c.hold-outcome.result _ _ rests state (no_sync c.args.piece.id c.args.piece.at c.args.piece.length c.args.piece.write) c.entered_keeps_files.ensures refl c.hold-outcome.ensures.noted c.hold-outcome.ensures.no_memory
+    (λ t m at face. c.hold-outcome.ensures.entered t m (subst (λ (x : View g.row.D.Denot). option_map (newest_map x.books) (g.D.Disk.state x.disk) ≡ Some m) (sym c.over-blocks.ensures.device_now) at) face)
+    t0 adopted (g.D.Disk.clock u.device.now.disk) (g.D.Disk.since u.device.now.disk) c.requires.joined (c.done.ensures.core t0 adopted sp.view first))
+
+pub returns-clause-piece : goal.returns-clause-piece
+returns-clause-piece g c = λ st is.
+    let old = c.args.device.now in
+    let there = face_there c.args.space.now old.books (g.D.Disk.state old.disk) st c.requires.joined is in
+    c.hold-outcome.ensures.piece there.t0 (newest_map old.books st) (subst (λ (x : View g.row.D.Denot). option_map (newest_map x.books) (g.D.Disk.state x.disk) ≡ Some (newest_map old.books st)) (sym c.over-blocks.ensures.device_now) (ap (option_map (newest_map old.books)) is)) there.face

@@ -1,0 +1,58 @@
+use Rattle.std.proofs.Common.{rules, ◌≡◌, ◌∙◌, List, false, sym, ap, subst, arith}
+use Rattle.std.specs.List.{list_any}
+use Rattle.bfs_device_blocks.specs.Lent.{HasCore}
+use Rattle.bfs_space.specs.Books.{SpaceBooks}
+use Rattle.bfs_tree.specs.declared.call.Call.TheVariants.{Hold}
+use Rattle.bfs_tree.specs.declared.reply.Entry.{Entry}
+use Rattle.bfs_tree.specs.Histories.{is_stop}
+use Rattle.bfs_volume.specs.Entries.{HasEntryOf, reply_of}
+use Rattle.bfs_volume.proofs.Ends.{device_end, told_of}
+use Rattle.bfs_volume.proofs.Joined.{joined_unpromised}
+use Rattle.bfs_volume.proofs.pieces.make_quiet.Goals as goal
+
+pub returns-in-Some-clause-core : goal.returns-in-Some-clause-core
+returns-in-Some-clause-core g c = λ t0 adopted core. c.note.ensures.core t0 adopted (c.prepare.ensures.core t0 adopted core)
+
+pub returns-in-Err-clause-core : goal.returns-in-Err-clause-core
+returns-in-Err-clause-core g c = λ t0 adopted core. c.end_hold.ensures.core t0 adopted (c.rest_for.ensures.core t0 adopted (c.prepare.ensures.core t0 adopted core))
+
+pub returns-clause-joined : goal.returns-clause-joined
+returns-clause-joined g c = joined_unpromised c.rest_for.new.space c.unpromise.new.self _ c.rest_for.new.device.books (g.D.Disk.state c.rest_for.new.device.disk) c.unpromise.ensures c.rest_for.ensures.joined
+
+pub returns-clause-core : goal.returns-clause-core
+returns-clause-core g c = λ t0 adopted core.
+    let d = c.rest_for.new.device in
+    subst (λ (x : SpaceBooks). HasCore t0 adopted x.view d.books (g.D.Disk.state d.disk) (g.D.Disk.clock d.disk) (g.D.Disk.since d.disk)) (sym c.unpromise.ensures)
+    (c.rest_for.ensures.core t0 adopted (c.prepare.ensures.core t0 adopted core))
+
+pub end_hold-requires-clause-told : goal.end_hold-requires-clause-told
+end_hold-requires-clause-told g c =
+    let q = c.prepare.new in
+    let u = c.rest_for.new in
+    let p = c.args.piece in
+    told_of u.space.view.history q.device.books.stop u.device.books (g.D.Disk.faults q.device.disk) (g.D.Disk.faults u.device.disk) (Hold p.id p.at p.length p.write) c.in-Err.fault
+    (λ none. subst (λ (h : List Entry). list_any (λ (e : Entry). is_stop e.reply) h ≡ false) (sym c.rest_for.ensures.history) (c.prepare.ensures.joined.fitted.going none)) c.in-Err.ensures.fault
+
+pub returns-in-Err-clause-ended : goal.returns-in-Err-clause-ended
+returns-in-Err-clause-ended g c = λ is.
+    let q = c.prepare.new in
+    let u = c.rest_for.new in
+    let p = c.args.piece in
+    let low : g.D.Disk.faults q.device.disk ≡ g.D.Disk.faults c.args.device.now.disk = ap g.D.Disk.faults c.prepare.ensures.disk in (
+      record {
+        reply = _;
+        entry = subst (λ (h : List Entry). HasEntryOf h c.end_hold.new.space.view.history p.session p.tag (Hold p.id p.at p.length p.write) (reply_of c.in-Err.fault)) (c.rest_for.ensures.history ∙ c.prepare.ensures.history) c.end_hold.ensures.entry;
+        cause = device_end c.args.device.now.books.stop q.device.books.stop u.device.books.stop (g.D.Disk.faults c.args.device.now.disk) (g.D.Disk.faults q.device.disk) (g.D.Disk.faults u.device.disk) (g.D.Disk.faults u.device.disk) c.in-Err.fault c.prepare.ensures.stop (omega (arith, low)) (omega arith) c.in-Err.ensures.fault;
+      },
+      c.end_hold.ensures.promised,
+    )
+
+pub returns-clause-ready : goal.returns-clause-ready
+returns-clause-ready g c = λ is.
+    record {
+      history = ap (λ (x : SpaceBooks). x.view.history) c.unpromise.ensures ∙ c.rest_for.ensures.history ∙ c.prepare.ensures.history;
+      promised = search rules;
+      begun = search rules;
+      going = c.in-Ok.ensures.stop;
+      empty = c.in-Ok.ensures.empty;
+    }

@@ -1,0 +1,122 @@
+use Rattle.std.proofs.Common.{rules, ◌≡◌, inl, inr, length, ℕ, List, false, sym, subst, arith}
+use Rattle.std.specs.List.{All}
+use Rattle.bfs_device.specs.Layouts.{IsData, layout_of}
+use Rattle.bfs_tree.specs.declared.call.Call.{Call}
+use Rattle.bfs_tree.specs.declared.call.Call.TheVariants.{Hold}
+use Rattle.bfs_volume.specs.Pieces.{HasHoldIn, HasReleased, HasUntaken, IsHoldIn}
+use Rattle.bfs_volume.specs.Held.{HasPlaces}
+use Rattle.bfs_volume.proofs.Gone.{hold_in, is_hold_in, released_cause, released_entries, untaken_cause}
+use Rattle.bfs_volume.proofs.pieces.read.Goals as goal
+
+pub read_held-requires-clause-promised : goal.read_held-requires-clause-promised
+read_held-requires-clause-promised g c = (c.in-Ok-true.ensures.taken c.in-Ok-true.field-0-test).promised
+
+pub read_held-requires-clause-ends : goal.read_held-requires-clause-ends
+read_held-requires-clause-ends g c = record { before = c.args.space.now.view.history; stamp = (c.in-Ok-true.ensures.taken c.in-Ok-true.field-0-test).stamp; is = (c.in-Ok-true.ensures.taken c.in-Ok-true.field-0-test).appended }
+
+pub read_held-requires-clause-going : goal.read_held-requires-clause-going
+read_held-requires-clause-going g c = (c.in-Ok-true.ensures.taken c.in-Ok-true.field-0-test).going
+
+pub read_held-requires-clause-blocks : goal.read_held-requires-clause-blocks
+read_held-requires-clause-blocks g c =
+    let h = c.hold.new in
+    let e : c.as_slice.result.now ≡ h.places.items = search rules in
+    subst (All (IsData (layout_of h.device.books.sup))) (sym e) (c.in-Ok-true.ensures.taken c.in-Ok-true.field-0-test).blocks
+
+pub read_held-requires-clause-has : goal.read_held-requires-clause-has
+read_held-requires-clause-has g c =
+    let h = c.hold.new in
+    let p = c.args.piece in
+    let e : c.as_slice.result.now ≡ h.places.items = search rules in
+    subst (HasPlaces h.space.view h.device.books (g.D.Disk.state h.device.disk) p.id p.at p.length) (sym e) (c.in-Ok-true.ensures.taken c.in-Ok-true.field-0-test).has
+
+-- ---- a hold that wasn't taken
+
+pub returns-in-Ok-false-clause-entries : goal.returns-in-Ok-false-clause-entries
+returns-in-Ok-false-clause-entries g c =
+    let o = c.args.space.now in
+    let od = c.args.device.now in
+    let h = c.hold.new in
+    let p = c.args.piece in
+    let call : (Hold p.id p.at p.length p.write) ≡ (Hold p.id p.at (length c.args.into.now) false) = (λ i. Hold p.id p.at (c.requires.long i) (c.requires.way i)) in
+    inl (subst (λ (k : Call). HasUntaken o.view.history h.space.view.history p.session p.tag k) call (c.in-Ok-false.ensures.untaken c.in-Ok-false.field-0-test).0)
+
+pub returns-in-Ok-false-clause-noted : goal.returns-in-Ok-false-clause-noted
+returns-in-Ok-false-clause-noted g c =
+    let o = c.args.space.now in
+    let od = c.args.device.now in
+    let h = c.hold.new in
+    let p = c.args.piece in
+    let call : (Hold p.id p.at p.length p.write) ≡ (Hold p.id p.at (length c.args.into.now) false) = (λ i. Hold p.id p.at (c.requires.long i) (c.requires.way i)) in
+    subst (λ (k : Call). HasHoldIn o (g.D.Disk.faults od.disk) (g.D.Disk.faults h.device.disk) p.session p.tag k od.books.stop) call (hold_in o h.space (g.D.Disk.faults od.disk) (g.D.Disk.faults h.device.disk) (g.D.Disk.faults h.device.disk) p.session p.tag (Hold p.id p.at p.length p.write) od.books.stop (omega arith) c.in-Ok-false.ensures.noted)
+
+pub returns-in-Ok-false-clause-answered : goal.returns-in-Ok-false-clause-answered
+returns-in-Ok-false-clause-answered g c = λ t0 adopted core.
+    let o = c.args.space.now in
+    let od = c.args.device.now in
+    let h = c.hold.new in
+    let p = c.args.piece in
+    let call : (Hold p.id p.at p.length p.write) ≡ (Hold p.id p.at (length c.args.into.now) false) = (λ i. Hold p.id p.at (c.requires.long i) (c.requires.way i)) in
+    subst (λ (k : Call). IsHoldIn t0 o (g.D.Disk.faults od.disk) (g.D.Disk.faults h.device.disk) p.session p.tag k od.books.stop) call (is_hold_in t0 o h.space h.device.books (g.D.Disk.state h.device.disk) (g.D.Disk.faults od.disk) (g.D.Disk.faults h.device.disk) (g.D.Disk.faults h.device.disk) p.session p.tag (Hold p.id p.at p.length p.write) od.books.stop (omega arith) (c.in-Ok-false.ensures.answered t0 adopted core))
+
+pub returns-in-Ok-false-clause-released : goal.returns-in-Ok-false-clause-released
+returns-in-Ok-false-clause-released g c =
+    let o = c.args.space.now in
+    let od = c.args.device.now in
+    let h = c.hold.new in
+    let p = c.args.piece in
+    let call : (Hold p.id p.at p.length p.write) ≡ (Hold p.id p.at (length c.args.into.now) false) = (λ i. Hold p.id p.at (c.requires.long i) (c.requires.way i)) in
+    untaken_cause o.view.history h.space.view.history p.session p.tag p.id p.at p.length (g.D.Disk.faults od.disk) (g.D.Disk.faults h.device.disk) p.write od.books.stop (c.in-Ok-false.ensures.untaken c.in-Ok-false.field-0-test).0
+
+pub returns-in-Ok-false-clause-core : goal.returns-in-Ok-false-clause-core
+returns-in-Ok-false-clause-core g c = λ t0 adopted core. c.hold.ensures.core t0 adopted core
+
+-- ---- one that was
+
+pub returns-clause-entries : goal.returns-clause-entries
+returns-clause-entries g c =
+    let o = c.args.space.now in
+    let od = c.args.device.now in
+    let h = c.hold.new in
+    let p = c.args.piece in
+    let call : (Hold p.id p.at p.length p.write) ≡ (Hold p.id p.at (length c.args.into.now) false) = (λ i. Hold p.id p.at (c.requires.long i) (c.requires.way i)) in
+    let n = c.read_held.new in
+    let t = c.in-Ok-true.ensures.taken c.in-Ok-true.field-0-test in
+    inr (subst (λ (k : Call). HasReleased o.view.history n.space.view.history p.session p.tag k p.id (λ (given : List ℕ). given ≡ n.into)) call
+    (released_entries o.view.history h.space.view.history n.space.view.history p.session p.tag p.id p.at p.length (g.D.Disk.faults h.device.disk) (g.D.Disk.faults n.device.disk) p.write t.stamp n.into t.appended c.read_held.ensures.gone))
+
+pub returns-clause-noted : goal.returns-clause-noted
+returns-clause-noted g c =
+    let o = c.args.space.now in
+    let od = c.args.device.now in
+    let h = c.hold.new in
+    let p = c.args.piece in
+    let call : (Hold p.id p.at p.length p.write) ≡ (Hold p.id p.at (length c.args.into.now) false) = (λ i. Hold p.id p.at (c.requires.long i) (c.requires.way i)) in
+    let n = c.read_held.new in
+    let t = c.in-Ok-true.ensures.taken c.in-Ok-true.field-0-test in
+    subst (λ (k : Call). HasHoldIn o (g.D.Disk.faults od.disk) (g.D.Disk.faults n.device.disk) p.session p.tag k od.books.stop) call (hold_in o h.space (g.D.Disk.faults od.disk) (g.D.Disk.faults h.device.disk) (g.D.Disk.faults n.device.disk) p.session p.tag (Hold p.id p.at p.length p.write) od.books.stop c.read_held.ensures.faults c.in-Ok-true.ensures.noted)
+
+pub returns-clause-answered : goal.returns-clause-answered
+returns-clause-answered g c = λ t0 adopted core.
+    let o = c.args.space.now in
+    let od = c.args.device.now in
+    let h = c.hold.new in
+    let p = c.args.piece in
+    let call : (Hold p.id p.at p.length p.write) ≡ (Hold p.id p.at (length c.args.into.now) false) = (λ i. Hold p.id p.at (c.requires.long i) (c.requires.way i)) in
+    let n = c.read_held.new in
+    let t = c.in-Ok-true.ensures.taken c.in-Ok-true.field-0-test in
+    subst (λ (k : Call). IsHoldIn t0 o (g.D.Disk.faults od.disk) (g.D.Disk.faults n.device.disk) p.session p.tag k od.books.stop) call (is_hold_in t0 o h.space h.device.books (g.D.Disk.state h.device.disk) (g.D.Disk.faults od.disk) (g.D.Disk.faults h.device.disk) (g.D.Disk.faults n.device.disk) p.session p.tag (Hold p.id p.at p.length p.write) od.books.stop c.read_held.ensures.faults (c.in-Ok-true.ensures.answered t0 adopted core))
+
+pub returns-clause-released : goal.returns-clause-released
+returns-clause-released g c =
+    let o = c.args.space.now in
+    let od = c.args.device.now in
+    let h = c.hold.new in
+    let p = c.args.piece in
+    let call : (Hold p.id p.at p.length p.write) ≡ (Hold p.id p.at (length c.args.into.now) false) = (λ i. Hold p.id p.at (c.requires.long i) (c.requires.way i)) in
+    let n = c.read_held.new in
+    let t = c.in-Ok-true.ensures.taken c.in-Ok-true.field-0-test in
+    released_cause h.space.view.history n.space.view.history p.session p.tag p.id (g.D.Disk.faults od.disk) (g.D.Disk.faults h.device.disk) (g.D.Disk.faults n.device.disk) n.into od.books.stop t.begun c.hold.ensures.faults c.read_held.ensures.gone o.view.history
+
+pub returns-clause-core : goal.returns-clause-core
+returns-clause-core g c = λ t0 adopted core. c.read_held.ensures.core t0 adopted (c.hold.ensures.core t0 adopted core)

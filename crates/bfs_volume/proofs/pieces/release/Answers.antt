@@ -1,0 +1,30 @@
+use Rattle.std.proofs.Common.{◌<◌, ℕ, refl, subst}
+use Rattle.bfs_core.proofs.Images.{some_bytes}
+use Rattle.bfs_volume.proofs.Asked.{size_is}
+use Rattle.bfs_volume.proofs.Ends.{noted_entry}
+use Rattle.bfs_volume.proofs.Released.{core_released, joined_released}
+use Rattle.bfs_volume.proofs.pieces.release.Goals as goal
+
+pub returns-clause-joined : goal.returns-clause-joined
+returns-clause-joined g c =
+    let sp = c.args.space.now in
+    let d = c.args.device.now in
+    let p = c.args.piece in
+    let some : 0 < sp.view.sup.block_size = subst (λ (n : ℕ). 0 < n) (size_is sp d.books c.requires.joined.fitted) (some_bytes d.books.sup c.steady.ensures.steady.valid) in
+    joined_released sp d.books (g.D.Disk.state d.disk) p.session p.tag p.now p.id p.at p.length p.write c.args.bytes c.args.whole c.args.before c.args.after c.requires.session c.requires.ends c.requires.many c.requires.on some
+    c.note.new.self _ c.note.ensures c.requires.joined
+
+pub returns-clause-core : goal.returns-clause-core
+returns-clause-core g c = λ t0 adopted core.
+    let sp = c.args.space.now in
+    let d = c.args.device.now in
+    let p = c.args.piece in
+    let some : 0 < sp.view.sup.block_size = subst (λ (n : ℕ). 0 < n) (size_is sp d.books c.requires.joined.fitted) (some_bytes d.books.sup c.steady.ensures.steady.valid) in
+    core_released sp d.books (g.D.Disk.state d.disk) p.session p.tag p.now p.id p.at p.length p.write c.args.bytes c.args.whole c.args.before c.args.after c.requires.session c.requires.ends c.requires.many c.requires.on some
+    c.note.new.self _ c.note.ensures t0 adopted (g.D.Disk.clock d.disk) (g.D.Disk.since d.disk) core
+
+pub returns-clause-entry : goal.returns-clause-entry
+returns-clause-entry g c =
+    let sp = c.args.space.now in
+    let p = c.args.piece in
+    noted_entry sp c.note.new.self sp.view.history p.session p.tag p.now _ _ _ _ _ refl refl refl c.note.ensures

@@ -1,0 +1,124 @@
+-- How a run ends.
+use Rattle.std.proofs.Common.{◌≡◌, inl, inr, ℕ, ◌⊎◌, List, [], Bool, Option, Some, None, Result, Ok, Err, OnOk, refl, sym, subst}
+use Rattle.std.specs.List.{All}
+use Rattle.std.proofs.lemmas.List.Elements.{All-nil, All-weaker}
+use Rattle.bfs_disk.specs.State.{State}
+use Rattle.bfs_disk.specs.Disk.{MayLeave}
+use Rattle.bfs_tree.specs.declared.reply.Entry.{Entry}
+use Rattle.bfs_tree.specs.Histories.{Mounted, Legal, after}
+use Rattle.bfs_command.specs.declared.line.Line.{Line}
+use Rattle.bfs_command.specs.Spelled.{Spelled, SpelledSoFar}
+use Rattle.bfs_sound.specs.Whole.{Recovers}
+use Rattle.bfs_device.specs.Books.{Books, durable_of}
+use Rattle.bfs_device.specs.declared.journal.DeviceFault.{DeviceFault}
+use Rattle.bfs_core.specs.Spaces.{SpaceView}
+use Rattle.bfs_core.specs.Cores.{Core, IsAcknowledged, IsKnown, RecoversFrom}
+use Rattle.bfs_run.specs.declared.run.Closed.{Closed}
+use Rattle.bfs_run.specs.declared.run.Run.{Run}
+use Rattle.bfs_run.specs.declared.run.Run.TheVariants as runs
+use Rattle.bfs_run.specs.Runs.{AreLinesOf, HasHistory, HasNoScript, HasRun, IsClosedWell, IsEarly, IsScriptOf, IsSpelledBy, IsUnmountedRun, SaysScript}
+use Rattle.bfs_run.specs.Sources.{IsReadOf}
+use Rattle.bfs_script.specs.Scripts.{script_of}
+
+-- no line was run
+early_history : (run : Run) → IsEarly run → HasHistory run []
+early_history (runs.Unmounted why) early = absurd early
+early_history runs.Unread early = refl
+early_history (runs.BadLine number) early = refl
+early_history runs.NoMemory early = tt
+early_history (runs.Closed closed) early = absurd early
+
+early_spelled : (run : Run) (root : ℕ) (lines : List Line) → IsEarly run → IsSpelledBy run root [] lines
+early_spelled (runs.Unmounted why) root lines early = absurd early
+early_spelled runs.Unread root lines early = refl
+early_spelled (runs.BadLine number) root lines early = refl
+early_spelled runs.NoMemory root lines early = inl refl
+early_spelled (runs.Closed closed) root lines early = absurd early
+
+early_open : (run : Run) → IsEarly run → IsClosedWell run → ⊥
+early_open (runs.Unmounted why) early well = early
+early_open runs.Unread early well = well
+early_open (runs.BadLine number) early well = well
+early_open runs.NoMemory early well = well
+early_open (runs.Closed closed) early well = early
+
+pub early_run : (t0 : Mounted) (run : Run) (lines : List Line) (told : Option State) (begun : ℕ) (since : ℕ → List ℕ → Type 0) (history : List Entry) (durable : ℕ) → IsEarly run → history ≡ [] → ((image : List ℕ) → MayLeave told image → RecoversFrom t0 history durable image)
+    → ((c : List ℕ) → since begun c → ∥ RecoversFrom t0 history 0 c ∥₁) → HasRun t0 run lines told begun since
+early_run t0 run lines told begun since history durable early none leaves moments = record {
+  history = [];
+  is = early_history run early;
+  legal = tt;
+  spelled = early_spelled run t0.tree.root lines early;
+  durable = durable;
+  acknowledged = All-nil (IsAcknowledged durable);
+  leaves = λ image left. subst (λ (h : List Entry). RecoversFrom t0 h durable image) none (leaves image left);
+  all = λ well. absurd (early_open run early well);
+  moments = λ c left. subst (λ (h : List Entry). ∥ RecoversFrom t0 h 0 c ∥₁) none (moments c left);
+}
+
+-- and it isn't for want of a volume
+pub early_mounted : (run : Run) → IsEarly run → IsUnmountedRun run → ⊥
+early_mounted (runs.Unmounted why) early not = early
+early_mounted runs.Unread early not = not
+early_mounted (runs.BadLine number) early not = not
+early_mounted runs.NoMemory early not = not
+early_mounted (runs.Closed closed) early not = not
+
+-- ---- lines were run
+
+on_well : (ended : Result Unit DeviceFault) (P : Type 0) → OnOk ended P → ended ≡ Ok tt → P
+on_well (Ok u) P all well = all
+on_well (Err fault) P all well = absurd (let bad : Err fault ≡ Ok tt = well in cc)
+
+module _ (t0 : Mounted) (sp : SpaceView) (b : Books) (touched : ℕ → Bool) (told : Option State) (at : State) (core : Core t0 sp b touched at) (history : List Entry) (same : history ≡ sp.history)
+    (leaves : (image : List ℕ) → MayLeave told image → RecoversFrom t0 sp.history (durable_of b) image) (begun : ℕ) (since : ℕ → List ℕ → Type 0) (moments : (c : List ℕ) → since begun c → ∥ RecoversFrom t0 sp.history 0 c ∥₁) where
+  acknowledged : All (IsAcknowledged (durable_of b)) history
+  acknowledged = subst (All (IsAcknowledged (durable_of b))) (sym same) (All-weaker (IsKnown b) (IsAcknowledged (durable_of b)) (λ e known. known.0) sp.history core.one.known)
+
+  legal_history : Legal t0 history
+  legal_history = subst (Legal t0) (sym same) core.space.legal
+
+  leaves_history : (image : List ℕ) → MayLeave told image → RecoversFrom t0 history (durable_of b) image
+  leaves_history image left = subst (λ (h : List Entry). RecoversFrom t0 h (durable_of b) image) (sym same) (leaves image left)
+
+  moments_history : (c : List ℕ) → since begun c → ∥ RecoversFrom t0 history 0 c ∥₁
+  moments_history c left = subst (λ (h : List Entry). ∥ RecoversFrom t0 h 0 c ∥₁) (sym same) (moments c left)
+
+  pub closed_run : (closed : Closed) (lines : List Line) → closed.history.items ≡ history → Spelled t0.tree.root history lines → OnOk closed.ended ((image : List ℕ) → MayLeave told image → Recovers image (after t0 sp.history)) → HasRun t0 (runs.Closed closed) lines told begun since
+  closed_run closed lines items spelled all = record {
+    history = history;
+    is = items;
+    legal = legal_history;
+    spelled = spelled;
+    durable = durable_of b;
+    acknowledged = acknowledged;
+    leaves = leaves_history;
+    all = λ well image left. subst (λ (h : List Entry). Recovers image (after t0 h)) (sym same) (on_well closed.ended ((image : List ℕ) → MayLeave told image → Recovers image (after t0 sp.history)) all well image left);
+    moments = moments_history;
+  }
+
+  pub broken_run : (lines : List Line) → SpelledSoFar t0.tree.root history lines → HasRun t0 runs.NoMemory lines told begun since
+  broken_run lines spelled = record {
+    history = history;
+    is = tt;
+    legal = legal_history;
+    spelled = inr spelled;
+    durable = durable_of b;
+    acknowledged = acknowledged;
+    leaves = leaves_history;
+    all = λ well. absurd well;
+    moments = moments_history;
+  }
+
+-- ---- the lines of a script
+
+pub early_lines : (told : Option (List ℕ)) (run : Run) → SaysScript told run → (lines : List Line) × AreLinesOf told run lines
+early_lines None run says = ([], λ left bad. absurd (let e : None ≡ Some left = bad in cc))
+early_lines (Some first) run says = by_script (says first refl)
+  where
+    moved : (left : List ℕ) → Some first ≡ Some left → first ≡ left
+    moved left e = cc
+
+    by_script : HasNoScript run ⊎ ((read : List ℕ) × IsReadOf first read × IsScriptOf run read) → (lines : List Line) × AreLinesOf (Some first) run lines
+    by_script (inl none) = ([], λ left e. inl (none, refl))
+    by_script (inr (read, is, says_so)) = (script_of read, λ left e. inr (read, subst (λ (l : List ℕ). IsReadOf l read) (moved left e) is, refl, says_so))

@@ -1,0 +1,45 @@
+use Rattle.std.proofs.Common.{sym, subst, refl, arith}
+use Rattle.bfs_command.specs.Forms.{InForm}
+use Rattle.bfs_command.specs.Left.{Rest}
+use Rattle.bfs_run.proofs.Gone.{gone_none, gone_twice, line_done, line_begun}
+use Rattle.bfs_run.proofs.line.run_line.Goals as goal
+
+pub turns-init : goal.turns-init
+turns-init g c = record {
+  form = subst (λ (r : Rest). InForm r.command) (sym c.of-calls.ensures.begun) c.requires.line.2;
+  gone = gone_none c.args.line.now c.of-calls.result c.args.volume.now.space.view.history c.args.volume.now.space.view.history refl;
+  core = λ t0 adopted core. core;
+  later = omega arith;
+}
+
+pub turn-ended-requires-clause-form : goal.turn-ended-requires-clause-form
+turn-ended-requires-clause-form g c = c.turns.invariant.form
+
+pub returns-in-Ok-true-clause-done : goal.returns-in-Ok-true-clause-done
+returns-in-Ok-true-clause-done g c =
+    line_done c.args.root c.args.line.now c.of-calls.result c.turn-ended.new.calls c.args.volume.now.space.view.history c.turn-ended.new.volume.space.view.history
+    (gone_twice c.args.line.now c.of-calls.result c.turns.calls c.turn-ended.new.calls c.args.volume.now.space.view.history c.turns.volume.space.view.history c.turn-ended.new.volume.space.view.history c.turns.invariant.gone c.in-Ok-true.ensures.gone)
+    (c.in-Ok-true.ensures.ended c.in-Ok-true.field-0-test) c.of-calls.ensures.spelled
+
+pub returns-in-Ok-true-clause-core : goal.returns-in-Ok-true-clause-core
+returns-in-Ok-true-clause-core g c = λ t0 adopted core. c.in-Ok-true.ensures.core t0 adopted (c.turns.invariant.core t0 adopted core)
+
+pub turns-smaller : goal.turns-smaller
+turns-smaller g c = c.in-Ok-false.ensures.less c.in-Ok-false.field-0-test
+
+pub turns-preserved : goal.turns-preserved
+turns-preserved g c = record {
+  form = subst InForm (sym c.in-Ok-false.ensures.command) c.turns.invariant.form;
+  gone = gone_twice c.args.line.now c.of-calls.result c.turns.calls c.turn-ended.new.calls c.args.volume.now.space.view.history c.turns.volume.space.view.history c.turn-ended.new.volume.space.view.history c.turns.invariant.gone c.in-Ok-false.ensures.gone;
+  core = λ t0 adopted core. c.in-Ok-false.ensures.core t0 adopted (c.turns.invariant.core t0 adopted core);
+  later = (let a = c.turns.invariant.later in let b = c.in-Ok-false.ensures.later in omega (arith, a, b));
+}
+
+pub returns-in-Err-clause-begun : goal.returns-in-Err-clause-begun
+returns-in-Err-clause-begun g c =
+    line_begun c.args.root c.args.line.now c.of-calls.result c.turn-ended.new.calls c.args.volume.now.space.view.history c.turn-ended.new.volume.space.view.history
+    (gone_twice c.args.line.now c.of-calls.result c.turns.calls c.turn-ended.new.calls c.args.volume.now.space.view.history c.turns.volume.space.view.history c.turn-ended.new.volume.space.view.history c.turns.invariant.gone c.in-Err.ensures.gone)
+    c.of-calls.ensures.spelled
+
+pub returns-in-Err-clause-core : goal.returns-in-Err-clause-core
+returns-in-Err-clause-core g c = λ t0 adopted core. c.in-Err.ensures.core t0 adopted (c.turns.invariant.core t0 adopted core)

@@ -1,0 +1,26 @@
+use Rattle.std.proofs.Common.{sym, subst, List, ℕ, refl}
+use Rattle.bfs_tree.specs.declared.reply.Entry.{Entry}
+use Rattle.bfs_command.specs.Spelled.{Spelled, SpelledSoFar}
+use Rattle.bfs_run.proofs.Ends.{broken_run, closed_run}
+use Rattle.bfs_run.proofs.run.run_lines.Goals as goal
+
+pub returns-in-Ok-clause-run : goal.returns-in-Ok-clause-run
+returns-in-Ok-clause-run g c t0 adopted core =
+    let v = c.run_script-ran.new.volume in
+    let lines = c.args.script.now in
+    let after_it = c.run_script-ran.ensures.core t0 adopted core in
+    let root = c.root-root.ensures.tree t0 adopted core in
+    let items = c.close-disk.ensures.history in
+    let spelled = subst (λ (r : ℕ). Spelled r c.close-disk.result.2.items lines) root (subst (λ (h : List Entry). Spelled c.root-root.result h lines) (sym items) c.in-Ok.ensures.spelled) in
+    closed_run t0 v.space.view v.device.books after_it.0.2.0 (g.D.Disk.state c.close-disk.result.0) after_it.0.0 after_it.0.2.1 c.close-disk.result.2.items items (λ image left. c.close-disk.ensures.held t0 adopted after_it image left) adopted.begun (g.D.Disk.since c.close-disk.result.0) (λ image left. c.close-disk.ensures.since t0 adopted after_it image left)
+    (record { history = c.close-disk.result.2; ended = c.close-disk.result.3 }) lines refl spelled (c.close-disk.ensures.all t0 adopted after_it)
+
+pub returns-clause-run : goal.returns-clause-run
+returns-clause-run g c t0 adopted core =
+    let v = c.run_script-ran.new.volume in
+    let lines = c.args.script.now in
+    let after_it = c.run_script-ran.ensures.core t0 adopted core in
+    let root = c.root-root.ensures.tree t0 adopted core in
+    let items = c.close-disk.ensures.history in
+    let spelled = subst (λ (r : ℕ). SpelledSoFar r c.close-disk.result.2.items lines) root (subst (λ (h : List Entry). SpelledSoFar c.root-root.result h lines) (sym items) c.in-Err.ensures.so_far) in
+    broken_run t0 v.space.view v.device.books after_it.0.2.0 (g.D.Disk.state c.close-disk.result.0) after_it.0.0 after_it.0.2.1 c.close-disk.result.2.items items (λ image left. c.close-disk.ensures.held t0 adopted after_it image left) adopted.begun (g.D.Disk.since c.close-disk.result.0) (λ image left. c.close-disk.ensures.since t0 adopted after_it image left) lines spelled

@@ -11,7 +11,7 @@ use Rattle.bfs_disk.specs.Disk.{MayLeave, HasSectors}
 use Rattle.bfs_super.specs.declared.sup.Super.{Super}
 use Rattle.bfs_super.specs.Conditions.{IsValid}
 use Rattle.bfs_log.specs.Replay.{Replayed, super_of}
-use Rattle.bfs_passes.specs.declared.passes.Summary.{Summary}
+use Rattle.bfs_check.specs.Summary.{Summary}
 use Rattle.bfs_replay.specs.Recover.{IsShort}
 use Rattle.bfs_replay.specs.Steps.{sectors_of}
 use Rattle.bfs_replay.proofs.Sizes.{has_two}

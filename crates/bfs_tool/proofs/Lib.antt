@@ -3,3 +3,4 @@ mod Checks
 mod Held
 mod Made
 mod Pieces
+pub mod Shells

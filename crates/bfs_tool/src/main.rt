@@ -1,6 +1,5 @@
 // The program `bfs`: volumes of the Be File System in image files. Its top call is `bfs`, whose contract says how
-// each command ends and what it leaves on the disk (specs/Words.antt, specs/Label.antt,
-// specs/Make.antt, specs/Check.antt).
+// each command ends and what it leaves on the disk (specs/Label.antt, specs/Make.antt, specs/Check.antt, specs/Shell.antt).
 #![tactic(auto)]
 
 #[cfg(test)]
@@ -12,12 +11,15 @@ mod make;
 #[cfg(test)]
 mod make_tests;
 mod output;
+mod shell;
+#[cfg(test)]
+mod shell_tests;
 #[cfg(test)]
 mod tests;
 mod tool;
 
 use bfs_disk::FileDisk;
-use bfs_ports::{Mem, NoGate, Output, SystemClock};
+use bfs_ports::{Input, NoGate, Output, SystemClock};
 use bfs_words::Argument;
 use std::alloc::{AllocError, Global};
 use std::env::{Env, FillError};
@@ -113,7 +115,7 @@ fn main(rt: HostRuntime) -> ExitCode {
         return ExitCode::from(7);
     };
     let mut out = Output::over(io::writer(&rt));
-    let mut script = Mem::source(alloc, Vec::new(alloc));
+    let mut script = Input::over(rt.stdin());
     let (status, disk) = tool::bfs(
         &rt,
         &line.words,

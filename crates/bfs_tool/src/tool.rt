@@ -1,5 +1,5 @@
 // The top call.
-ghost use Rattle.std.specs.Prelude.{◌≡◌, ◌⊎◌, ◌↔◌, ◌≤◌, ℕ, List, [], Bool};
+ghost use Rattle.std.specs.Prelude.{◌≡◌, ◌≢◌, ◌⊎◌, ◌↔◌, ◌≤◌, ℕ, List, [], Bool, Ok, IfOk};
 ghost use Rattle.bfs_base.specs.Counts.{Rose};
 ghost use Rattle.bfs_disk.specs.State.{State, IsQuiet, ReadsAs, Tells, Holds};
 ghost use Rattle.bfs_mkfs.specs.Format.{IsRefused};
@@ -15,16 +15,24 @@ ghost use Rattle.bfs_tool.specs.Label.{EndsBy, LabelsBy, OldOrNew, labelled, lab
 ghost use Rattle.bfs_tool.specs.declared.make.Making.{Making};
 ghost use Rattle.bfs_tool.specs.Make.{IsNewVolume, IsMade, MakesBy, making_status, making_text};
 ghost use Rattle.bfs_tool.specs.Tool.{Prints, usage_text};
-ghost use Rattle.bfs_words.specs.Words.{IsLabelCommand, IsMakeCommand, IsCheckCommand, IsFaulty};
+ghost use Rattle.bfs_words.specs.declared.command.Command.TheVariants as commands;
+ghost use Rattle.bfs_words.specs.Words.{Asks, IsLabelCommand, IsMakeCommand, IsCheckCommand, IsFaulty, IsShellCommand};
+ghost use Rattle.bfs_tree.specs.Histories.{Mounted};
+ghost use Rattle.bfs_command.specs.declared.line.Line as line;
+ghost use Rattle.bfs_run.specs.Mounts.{IsMountedFrom};
+ghost use Rattle.bfs_run.specs.Runs.{AreLinesOf, HasRun, IsUnmountedRun, SaysScript};
+ghost use Rattle.bfs_run.specs.declared.run.Run as runs;
+ghost use Rattle.bfs_tool.specs.Shell.{EndsAs, LeavesUnmounted, RunsBy, run_text};
 
 use crate::checking::check_volume;
 use crate::label::relabel;
 use crate::make::make_volume;
 use crate::output::report;
+use crate::shell::shell;
 use bfs_disk::Disk;
 use bfs_ports::{Clock, Gate, Sink, Source};
 use bfs_words::{Argument, Command, read_words};
-use std::alloc::Global;
+use std::alloc::{AllocError, Global};
 
 const USAGE: &str =
     "usage: bfs IMAGE (label NAME | mk --blocks N [--block-size B] [--name NAME] | check | sh [-j N] | soak SEED COUNT [-j N])\n";
@@ -41,6 +49,7 @@ fn label<D: Disk, W: Sink>(disk: &mut D, name: &[u8], out: &mut W) -> u8
     ensures moments { (image : List ℕ) → Tells (D.state disk.old) (Holds image) → (c : List ℕ) → D.since disk.new (D.clock disk.old) c → OldOrNew name.now image c }
     ensures disk_failed { result ≡ 4 → Rose (D.faults disk.old) (D.faults disk.new) }
     ensures others { (result ≡ 2) ⊎ (result ≡ 6) → ⊥ }
+    ensures script { result ≡ 5 → ⊥ }
     ensures disk_later { D.faults disk.old ≤ D.faults disk.new }
     ensures clock_later { D.clock disk.old ≤ D.clock disk.new }
     ensures output_later { W.faults out.old ≤ W.faults out.new }
@@ -74,6 +83,7 @@ fn make<D: Disk, C: Clock, W: Sink>(
     ensures disk_failed { result ≡ 4 → Rose (D.faults disk.old) (D.faults disk.new) }
     ensures output_failed { result ≡ 6 → Rose (W.faults out.old) (W.faults out.new) }
     ensures others { (result ≡ 2) ⊎ ((result ≡ 3) ⊎ (result ≡ 11)) → ⊥ }
+    ensures script { result ≡ 5 → ⊥ }
     ensures disk_later { D.faults disk.old ≤ D.faults disk.new }
     ensures clock_later { D.clock disk.old ≤ D.clock disk.new }
     ensures output_later { W.faults out.old ≤ W.faults out.new }
@@ -97,6 +107,7 @@ fn check<D: Disk, W: Sink>(alloc: Global, disk: &mut D, out: &mut W) -> u8
     ensures disk_failed { result ≡ 4 → Rose (D.faults disk.old) (D.faults disk.new) }
     ensures output_failed { result ≡ 6 → Rose (W.faults out.old) (W.faults out.new) }
     ensures others { (result ≡ 2) ⊎ ((result ≡ 10) ⊎ (result ≡ 11)) → ⊥ }
+    ensures script { result ≡ 5 → ⊥ }
     ensures disk_later { D.faults disk.old ≤ D.faults disk.new }
     ensures clock_later { D.clock disk.old ≤ D.clock disk.new }
     ensures output_later { W.faults out.old ≤ W.faults out.new }
@@ -108,14 +119,17 @@ fn check<D: Disk, W: Sink>(alloc: Global, disk: &mut D, out: &mut W) -> u8
     report(out, &text, checking.status())
 }
 
-// Runs the command that the words ask for.
+// Runs the command that the words ask for, but for `sh`. The words are read by now, unless memory is wanting.
 fn run<X: AllocGlobal + Eprint, D: Disk, C: Clock, W: Sink>(
     rt: &X,
     words: &[Argument],
+    command: Result<Command, AllocError>,
     disk: &mut D,
     clock: &mut C,
     out: &mut W,
 ) -> u8
+    requires asks { IfOk command (Asks words.now) }
+    requires other { command ≡ Ok commands.Shell → ⊥ }
     ensures usage { words.now ≡ [] → (result ≡ 0) ⊎ (result ≡ 6) }
     ensures faulty { result ≡ 2 → IsFaulty words.now }
     ensures refused_words { IsFaulty words.now → (result ≡ 2) ⊎ (result ≡ 7) }
@@ -135,6 +149,7 @@ fn run<X: AllocGlobal + Eprint, D: Disk, C: Clock, W: Sink>(
         × Prints (W.written out.old) (W.written out.new) (W.faults out.old) (W.faults out.new) (checking_text checking)
         × IsCheckedBy (D.size disk.new) checking × (result ≡ 0 → W.written out.new ≡ appended (W.written out.old) (checking_text checking))
         × ((image : List ℕ) → Tells (D.state disk.old) (λ s. ReadsAs s image) → ChecksBy image checking)) }
+    ensures shell { IsShellCommand words.now → (result ≡ 7) × (disk.new ≡ disk.old) }
     ensures refused { (result ≡ 3) ⊎ (result ≡ 11) ⊎ ((result ≡ 7) × ¬ IsCheckCommand words.now) ⊎ (result ≡ 10) → D.state disk.new ≡ D.state disk.old }
     ensures replayed { (quiet : Bool) (image : List ℕ) → IsCheckCommand words.now → Tells (D.state disk.old) (Reads quiet image) → (result ≡ 0) ⊎ (result ≡ 6) ⊎ (result ≡ 8) → IsReplayedOn quiet image (D.state disk.new) }
     ensures unfinished { (quiet : Bool) (image : List ℕ) → IsCheckCommand words.now → Tells (D.state disk.old) (Reads quiet image) → result ≡ 7 → (D.state disk.new ≡ D.state disk.old) ⊎ IsReplayedOn quiet image (D.state disk.new) }
@@ -146,6 +161,7 @@ fn run<X: AllocGlobal + Eprint, D: Disk, C: Clock, W: Sink>(
         ⊎ ((blocks : ℕ) × (size : ℕ) × (label : List ℕ) × IsMakeCommand words.now blocks size label × (IsRefused c ⊎ IsNewVolume blocks size label (C.stands clock.old) c))
         ⊎ (IsCheckCommand words.now × ∥ GoesOn image c ∥₁) }
     ensures disk_failed { result ≡ 4 → Rose (D.faults disk.old) (D.faults disk.new) }
+    ensures script_whole { result ≡ 5 → ⊥ }
     ensures output_failed { result ≡ 6 → Rose (W.faults out.old) (W.faults out.new) }
     ensures disk_later { D.faults disk.old ≤ D.faults disk.new }
     ensures clock_later { D.clock disk.old ≤ D.clock disk.new }
@@ -154,11 +170,12 @@ fn run<X: AllocGlobal + Eprint, D: Disk, C: Clock, W: Sink>(
     if words.is_empty() {
         return report(out, USAGE.as_bytes(), 0);
     }
-    let Ok(command) = read_words(rt.alloc(), words) else {
+    let Ok(command) = command else {
         return 7;
     };
     match command {
         Command::Usage => report(out, USAGE.as_bytes(), 0),
+        Command::Shell => unreachable!(),
         Command::Faulty(complaint) => {
             let _ = rt.eprint(complaint);
             report(out, USAGE.as_bytes(), 2)
@@ -180,8 +197,9 @@ fn run<X: AllocGlobal + Eprint, D: Disk, C: Clock, W: Sink>(
 /// Runs the command that the words ask for, and hands the disk back with the status. Which word is wrong goes to the standard
 /// error.
 ///
-/// Statuses: 0 done, 2 faulty words, 3 not a volume, 4 the disk failed, 6 the output failed, 7 no memory, 8 the volume isn't
-/// whole, 10 too small for a volume, 11 the log isn't empty. `clock` gives the second at which a new volume is made.
+/// Statuses: 0 done, 2 faulty words, 3 not a volume, 4 the disk failed, 5 the script can't be read, 6 the output failed, 7 no memory, 8 the volume
+/// isn't whole, 9 a line of the script is wrong, 10 too small for a volume, 11 the log isn't empty, 14 the volume is damaged. `clock` gives the second
+/// at which a new volume is made, and those of stamps.
 pub fn bfs<
     X: AllocGlobal + Eprint,
     D: Disk + Send,
@@ -193,7 +211,7 @@ pub fn bfs<
     rt: &X,
     words: &[Argument],
     mut disk: D,
-    _script: &mut R,
+    script: &mut R,
     out: &mut W,
     mut clock: C,
     _gate: &G,
@@ -231,9 +249,22 @@ pub fn bfs<
         × IsCheckedBy (D.size result.1) checking × (result.0 ≡ 0 → W.written out.new ≡ appended (W.written out.old) (checking_text checking))
         × ((image : List ℕ) → Tells (D.state disk) (λ s. ReadsAs s image) → ChecksBy image checking)) }
 
-    // At the statuses 3, 10 and 11 the disk is as before, and so it is at 7, but for `check`. At 0 the label is on the disk, or the
+    // `sh` makes a run of the script, and ends and prints by it: with its status, for want of memory, or where all was well by the output. Why a volume
+    // isn't mounted is true of the image; a line that is refused is the first bad one of the script. On a volume that recovers, its entries are one
+    // history of the plain tree, spelled by the script's lines; and what a crash then leaves recovers to the tree after so many of them that all is
+    // there which a sync has acknowledged, and after all of them where the volume was closed well. What a crash at any moment of the call leaves,
+    // replay's own writes included, recovers to the tree after a prefix of them; and where the volume isn't mounted, it is replayed to the same.
+    ensures shell { IsShellCommand words.now → ((result.0 ≡ 7) × (result.1 ≡ disk)) ⊎ ((run : runs.Run) × EndsAs run result.0
+        × (result.0 ≢ 7 → Prints (W.written out.old) (W.written out.new) (W.faults out.old) (W.faults out.new) (run_text run))
+        × (result.0 ≡ 0 → W.written out.new ≡ appended (W.written out.old) (run_text run))
+        × ((image : List ℕ) → Tells (D.state disk) (Holds image) → RunsBy image run × LeavesUnmounted image run (D.clock disk) (D.since result.1))
+        × SaysScript (R.left script.old) run
+        × ((t0 : Mounted) (image : List ℕ) → Tells (D.state disk) (Holds image) → IsMountedFrom image t0
+        → IsUnmountedRun run ⊎ ((lines : List line.Line) × HasRun t0 run lines (D.state result.1) (D.clock disk) (D.since result.1) × AreLinesOf (R.left script.old) run lines))) }
+
+    // But for `sh`, the disk is as before at the statuses 3, 10 and 11, and so it is at 7, but for `check`. At 0 the label is on the disk, or the
     // new volume.
-    ensures refused { (result.0 ≡ 3) ⊎ (result.0 ≡ 11) ⊎ ((result.0 ≡ 7) × ¬ IsCheckCommand words.now) ⊎ (result.0 ≡ 10) → D.state result.1 ≡ D.state disk }
+    ensures refused { (IsShellCommand words.now → ⊥) → (result.0 ≡ 3) ⊎ (result.0 ≡ 11) ⊎ ((result.0 ≡ 7) × ¬ IsCheckCommand words.now) ⊎ (result.0 ≡ 10) → D.state result.1 ≡ D.state disk }
     ensures labelled { (name image : List ℕ) → IsLabelCommand words.now name → Tells (D.state disk) (Holds image) → result.0 ≡ 0 → Tells (D.state result.1) (Holds (labelled name image)) }
     ensures made { (blocks size : ℕ) (label image : List ℕ) → IsMakeCommand words.now blocks size label → Tells (D.state disk) (Holds image) → (result.0 ≡ 0) ⊎ (result.0 ≡ 6)
         → Tells (D.state result.1) (λ s. IsQuiet s × ((c : List ℕ) → ReadsAs s c → IsNewVolume blocks size label (C.stands clock) c)) }
@@ -242,20 +273,25 @@ pub fn bfs<
     ensures replayed { (quiet : Bool) (image : List ℕ) → IsCheckCommand words.now → Tells (D.state disk) (Reads quiet image) → (result.0 ≡ 0) ⊎ (result.0 ≡ 6) ⊎ (result.0 ≡ 8) → IsReplayedOn quiet image (D.state result.1) }
     ensures unfinished { (quiet : Bool) (image : List ℕ) → IsCheckCommand words.now → Tells (D.state disk) (Reads quiet image) → result.0 ≡ 7 → (D.state result.1 ≡ D.state disk) ⊎ IsReplayedOn quiet image (D.state result.1) }
 
-    // A crash at any moment leaves the old image or the one with the new label; of `mk` the old image, one whose
+    // But for `sh`, a crash at any moment leaves the old image or the one with the new label; of `mk` the old image, one whose
     // superblock is refused, or the new volume; of `check` the old image, or one that is replayed to the same.
-    ensures moments { (image : List ℕ) → Tells (D.state disk) (Holds image) → (c : List ℕ) → D.since result.1 (D.clock disk) c
+    ensures moments { (IsShellCommand words.now → ⊥) → (image : List ℕ) → Tells (D.state disk) (Holds image) → (c : List ℕ) → D.since result.1 (D.clock disk) c
         → (c ≡ image) ⊎ ((name : List ℕ) × IsLabelCommand words.now name × (c ≡ labelled name image))
         ⊎ ((blocks : ℕ) × (size : ℕ) × (label : List ℕ) × IsMakeCommand words.now blocks size label × (IsRefused c ⊎ IsNewVolume blocks size label (C.stands clock) c))
         ⊎ (IsCheckCommand words.now × ∥ GoesOn image c ∥₁) }
 
-    // A failed disk and a failed output each have their cause in a risen count.
+    // A failed disk, a failed script and a failed output each have their cause in a risen count.
     ensures disk_failed { result.0 ≡ 4 → Rose (D.faults disk) (D.faults result.1) }
+    ensures script_failed { result.0 ≡ 5 → Rose (R.faults script.old) (R.faults script.new) }
     ensures output_failed { result.0 ≡ 6 → Rose (W.faults out.old) (W.faults out.new) }
     ensures disk_later { D.faults disk ≤ D.faults result.1 }
-    ensures clock_later { D.clock disk ≤ D.clock result.1 }
+    ensures clock_later { (IsShellCommand words.now → ⊥) → D.clock disk ≤ D.clock result.1 }
     ensures output_later { W.faults out.old ≤ W.faults out.new }
 {
-    let status = run(rt, words, &mut disk, &mut clock, out);
+    let command = read_words(rt.alloc(), words);
+    if let Ok(Command::Shell) = command {
+        return shell(rt.alloc(), disk, script, clock, out);
+    }
+    let status = run(rt, words, command, &mut disk, &mut clock, out);
     (status, disk)
 }

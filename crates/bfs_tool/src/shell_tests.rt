@@ -1,0 +1,140 @@
+// `sh` over disks in memory: scripts on the volume that `mk --blocks 4096` makes, which printed what stands beside them.
+use crate::make_tests::volume;
+use crate::tests::{run, zeros};
+use crate::tool::bfs;
+use bfs_disk::{Disk, MemDisk};
+use bfs_ports::{Fixed, Mem, MemSink, NoGate};
+use bfs_words::Argument;
+use std::alloc::AllocError;
+use std::test::Fail;
+
+// Runs `sh` with this script, whose reader fails the calls with these numbers. What it printed is behind the status.
+fn shell(
+    rt: &HostRuntime,
+    script: &[u8],
+    failing: &[u64],
+    disk: MemDisk,
+    out: &mut MemSink,
+) -> Result<(u8, MemDisk), AllocError> {
+    let alloc = rt.alloc();
+    let mut words = Vec::new(alloc);
+    words.push(Argument::of(alloc, "sh")?)?;
+    let mut script = Mem::failing_source(script.to_vec(alloc)?, failing.to_vec(alloc)?);
+    Ok(bfs(
+        rt,
+        &words,
+        disk,
+        &mut script,
+        out,
+        Fixed::clock(1000),
+        &NoGate,
+    ))
+}
+
+// Does `sh` end so on these bytes? And what it leaves.
+fn ends(
+    rt: &HostRuntime,
+    bytes: Vec<u8>,
+    script: &[u8],
+    failing: &[u64],
+    want: u8,
+    text: &[u8],
+) -> Result<Option<Vec<u8>>, AllocError> {
+    let alloc = rt.alloc();
+    if bytes.len() % 512 != 0 {
+        return Ok(None);
+    }
+    let mut out = Mem::sink(alloc);
+    let disk = MemDisk::new(alloc, bytes);
+    let (status, disk) = shell(rt, script, failing, disk, &mut out)?;
+    if status != want || out.bytes() != text {
+        return Ok(None);
+    }
+    Ok(Some(disk.bytes()))
+}
+
+#[test]
+fn each_line_is_run_and_printed(rt: HostRuntime) -> Result<(), Fail> {
+    let cases: [(&[u8], &[u8]); 4] = [
+        (b"", b""),
+        (b"# nothing\n\n", b""),
+        (
+            b"1 mkdir /a\n2 ls /\n1 mv /a /b\n1 ls /\n1 sync\n",
+            b"1 1 ok\n2 2 ok 1 a\n3 1 ok\n4 1 ok 1 b\n5 1 ok\n",
+        ),
+        (
+            b"1 make /f\n1 size /f 9\n1 write /f 2 :abc\n1 read /f 3 2\n1 read /f 3 9\n1 rmindex name",
+            b"1 1 ok\n2 1 ok\n3 1 ok\n4 1 ok 2 6263\n5 1 pastend 9\n6 1 builtin\n",
+        ),
+    ];
+    for (script, text) in cases {
+        let bytes = volume(&rt, 0, 4_194_304)?;
+        assert!(rt; ends(&rt, bytes, script, &[], 0, text)?.is_some());
+    }
+    Ok(())
+}
+
+#[test]
+fn a_run_goes_on_from_what_the_last_one_left(rt: HostRuntime) -> Result<(), Fail> {
+    let alloc = rt.alloc();
+    let mut bytes = volume(&rt, 0, 4_194_304)?;
+    let steps: [(&[u8], &[u8]); 2] = [
+        (b"1 mkdir /a\n1 make /a/f\n", b"1 1 ok\n2 1 ok\n"),
+        (b"1 ls /a\n1 rm /a\n", b"1 1 ok 1 f\n2 1 notempty\n"),
+    ];
+    for (script, text) in steps {
+        let left = ends(&rt, bytes, script, &[], 0, text)?;
+        assert!(rt; left.is_some());
+        if let Some(after) = left {
+            bytes = after;
+        } else {
+            return Ok(());
+        }
+    }
+    assert_eq!(rt; bytes.len() % 512, 0);
+    let mut out = Mem::sink(alloc);
+    let (status, _) = run(&rt, &["check"], MemDisk::new(alloc, bytes), &mut out)?;
+    assert_eq!(rt; status, 0);
+    Ok(())
+}
+
+#[test]
+fn a_script_that_cannot_be_run_leaves_the_volume(rt: HostRuntime) -> Result<(), Fail> {
+    let cases: [(&[u8], &[u64], u8, &[u8]); 4] = [
+        (b"1 nonsense\n", &[], 9, b"line 1\n"),
+        (b"1 mkdir /a\n\n17 ls /\n", &[], 9, b"line 3\n"),
+        (b"1 mkdir /a\n", &[1], 5, b""),
+        (b"1 mkdir /a\n", &[2], 5, b""),
+    ];
+    for (script, failing, want, text) in cases {
+        let bytes = volume(&rt, 0, 4_194_304)?;
+        let left = ends(&rt, bytes, script, failing, want, text)?;
+        assert!(rt; left == Some(volume(&rt, 0, 4_194_304)?));
+    }
+    Ok(())
+}
+
+#[test]
+fn what_is_no_volume_is_not_mounted(rt: HostRuntime) -> Result<(), Fail> {
+    let bytes = zeros(rt.alloc(), 32768)?;
+    assert!(rt; ends(&rt, bytes, b"1 ls /\n", &[], 3, b"finding super 1\n")?.is_some());
+    Ok(())
+}
+
+#[test]
+fn an_output_that_fails_is_told(rt: HostRuntime) -> Result<(), Fail> {
+    let alloc = rt.alloc();
+    let bytes = volume(&rt, 0, 4_194_304)?;
+    assert_eq!(rt; bytes.len() % 512, 0);
+    let mut out = Mem::full_sink(alloc, 3);
+    let (status, _) = shell(
+        &rt,
+        b"1 mkdir /a\n",
+        &[],
+        MemDisk::new(alloc, bytes),
+        &mut out,
+    )?;
+    assert_eq!(rt; status, 6);
+    assert!(rt; out.bytes() == b"1 1".as_slice());
+    Ok(())
+}

@@ -1,0 +1,140 @@
+#!/bin/sh
+# `sh` on real files: what scripts print, what they leave for `check` and for a reader that others wrote, and volumes on which the program was
+# killed at one of its writes.
+. "$(dirname "$(readlink -f "$0")")/checks.sh"
+
+"$root/bfs" "$work/none.img" >/dev/null
+program=$root/crates/bfs_tool/out/bfs_tool
+image=$work/volume.img
+
+fresh() { # BLOCK_SIZE
+    rm -f "$image"
+    truncate -s $((4096 * $1)) "$image"
+    "$program" "$image" mk --blocks 4096 --block-size "$1" >/dev/null
+}
+
+runs() { # STATUS TEXT SCRIPT: sh prints this and ends so
+    printf '%s\n' "$3" | "$program" "$image" sh >"$work/out" 2>"$work/err"
+    ended=$?
+    test "$ended" -eq "$1" && test "$(cat "$work/out")" = "$2" && return
+    echo "ended with $ended, printed: $(cat "$work/out") and: $(cat "$work/err")"
+    return 1
+}
+
+is_whole() {
+    "$program" "$image" check >"$work/out" </dev/null && return
+    cat "$work/out"
+    return 1
+}
+
+for size in 1024 2048 4096 8192; do
+    fresh $size
+    check "directories, files and links, $size" runs 0 '1 1 ok
+2 1 ok
+3 2 ok
+4 1 ok
+5 1 ok 1 l
+6 1 ok 2 a b
+7 2 ok f
+8 1 notempty
+9 1 ok
+10 1 notfound' '1 mkdir /a
+1 make /a/f
+2 link /a/l f
+1 mv /a/f /b
+1 ls /a
+1 ls /
+2 readlink /a/l
+1 rm /a
+1 sync
+1 stat /a/f'
+    check "which is whole, $size" is_whole
+    check "and still there, $size" runs 0 '1 1 ok 2 a b' '1 ls /'
+    check "bytes of files, $size" runs 0 '1 1 ok
+2 1 ok
+3 1 ok 5 68656c6c6f
+4 1 ok 3 6c6c6f
+5 1 pastend 20000
+6 1 ok
+7 1 pastend 9002' '1 size /b 20000
+1 write /b 9000 :hello
+1 read /b 9000 5
+1 read /b 9002 3
+1 read /b 19999 2
+1 size /b 9002
+1 read /b 9000 5'
+    check "which is whole too, $size" is_whole
+    check "attributes and indices, $size" runs 0 '1 1 ok
+2 1 ok
+3 1 ok LONG 4 07000000
+4 1 ok 1 7=b
+5 1 ok 1 LONG=n
+6 1 ok
+7 1 ok 0
+8 1 ok
+9 1 builtin' '1 mkindex n LONG
+1 attr /b n LONG:7
+1 getattr /b n
+1 find n LONG:1 LONG:9
+1 attrs /b
+1 rmattr /b n
+1 find n LONG:1 LONG:9
+1 rmindex n
+1 rmindex name'
+    check "and whole at last, $size" is_whole
+done
+
+# What was written is what grub's own reader of the format reads.
+fresh 2048
+check 'a file of three blocks' runs 0 '1 1 ok
+2 1 ok
+3 1 ok
+4 1 ok' '1 make /f
+1 size /f 6000
+1 write /f 0 *6000
+1 write /f 2040 :between-two-blocks'
+if command -v grub-fstest >/dev/null 2>&1; then
+    python3 -c 'import sys; b = bytearray(b"z" * 6000); b[2040:2058] = b"between-two-blocks"; sys.stdout.buffer.write(b)' >"$work/want"
+    check 'read by grub' sh -c "grub-fstest '$image' cat '(loop0)/f' | cmp -s - '$work/want'"
+else
+    skip 'grub-fstest is not installed'
+fi
+
+# A script that isn't begun.
+fresh 1024
+cp "$image" "$work/before.img"
+check 'a bad line' runs 9 'line 2' '1 mkdir /a
+1 nonsense'
+check 'a session that is none' runs 9 'line 1' '17 ls /'
+check 'leave the volume' cmp -s "$image" "$work/before.img"
+truncate -s 512 "$image"
+check 'no volume' runs 3 'finding short 1 2' '1 ls /'
+fresh 1024
+printf '\001' | dd of="$image" bs=1 seek=1124 conv=notrunc 2>/dev/null
+check 'a volume that is not whole' runs 3 'finding bitextra 800' '1 ls /'
+fresh 1024
+"$program" "$image" sh <"$work" >"$work/out" 2>"$work/err"
+check 'a script that cannot be read' test $? -eq 5
+
+# Killed at a write: the volume mounts, and has the first so many of the directories, among them each that a sync stands behind.
+script='1 mkdir /d1
+1 mkdir /d2
+1 sync
+1 mkdir /d3
+1 sync
+1 mkdir /d4'
+if command -v strace >/dev/null 2>&1; then
+    fresh 1024
+    cp "$image" "$work/before.img"
+    for write in 1 2 3 5 8 12 16 20 25 30 35 40; do
+        cp "$work/before.img" "$image"
+        printf '%s\n' "$script" | strace -f -o "$work/calls" -e trace=pwrite64 -e inject=pwrite64:signal=KILL:when=$write "$program" "$image" sh >"$work/out" 2>/dev/null
+        printf '%s\n' '1 ls /' | "$program" "$image" sh >"$work/out" 2>"$work/err"
+        check "mounted behind write $write" test $? -eq 0
+        check "with a prefix behind write $write" grep -qx -e '1 1 ok 0' -e '1 1 ok 1 d1' -e '1 1 ok 2 d1 d2' -e '1 1 ok 3 d1 d2 d3' -e '1 1 ok 4 d1 d2 d3 d4' "$work/out"
+        check "and whole behind write $write" is_whole
+    done
+else
+    skip 'strace is not installed'
+fi
+finish

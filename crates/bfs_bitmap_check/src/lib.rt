@@ -9,6 +9,3 @@ mod volume;
 
 pub use fault::BitFault;
 pub use volume::check_bitmap;
-
-#[cfg(test)]
-mod tests;

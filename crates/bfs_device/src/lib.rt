@@ -16,6 +16,3 @@ mod turn;
 pub use device::Device;
 pub use disk_blocks::DiskBlocks;
 pub use journal::{DeviceFault, Mark, Progress, Stop};
-
-#[cfg(test)]
-mod tests;

@@ -17,6 +17,3 @@ pub use held::{
 pub use laws::{
     core_is_read, core_stands_over, fit_is_read, newest_is_sealed, newest_is_written, newest_stays,
 };
-
-#[cfg(test)]
-mod tests;

@@ -6,6 +6,3 @@ mod rows;
 
 pub use directory::Dir;
 pub use rows::{DirRow, DirRows};
-
-#[cfg(test)]
-mod tests;

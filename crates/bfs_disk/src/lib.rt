@@ -6,8 +6,6 @@ mod disk;
 mod file;
 mod memory;
 mod stopping;
-#[cfg(test)]
-mod tests;
 
 pub use disk::{Disk, Failed};
 pub use file::{FileDisk, FileFailure};

@@ -16,6 +16,3 @@ pub use making::{free_all, widen_page};
 pub use paging::{read_page, vacate};
 pub use scan::{Seen, look_at};
 pub use vacant::{Slot, find_vacant};
-
-#[cfg(test)]
-mod tests;

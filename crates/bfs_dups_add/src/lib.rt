@@ -14,6 +14,3 @@ pub use making::{
 pub use paging::put_page;
 pub use scan::{Room, scan_chain};
 pub use steps::{extend, raise, widen};
-
-#[cfg(test)]
-mod tests;

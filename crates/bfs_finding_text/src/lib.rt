@@ -6,6 +6,3 @@ mod words;
 
 pub use refusals::{put_entry_line, put_short_line};
 pub use words::put_line;
-
-#[cfg(test)]
-mod tests;

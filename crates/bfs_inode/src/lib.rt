@@ -13,6 +13,3 @@ pub use check_inode::check;
 pub use edit::InodeMut;
 pub use fault::InodeFault;
 pub use view::{InodeView, SMALL_DATA};
-
-#[cfg(test)]
-mod tests;

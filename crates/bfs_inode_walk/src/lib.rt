@@ -15,6 +15,3 @@ pub use fault::VisitFault;
 pub use laws::{blocks_are_by_role, record_is_node};
 pub use second::has_block;
 pub use visit::visit_inode;
-
-#[cfg(test)]
-mod tests;

@@ -71,8 +71,8 @@ pub(crate) fn group_of(
     })
 }
 
-// Is this a block behind block 0 and outside the log?
-fn is_data(sup: &Super, block: u64) -> bool
+/// Is this a block behind block 0 and outside the log?
+pub(crate) fn is_data(sup: &Super, block: u64) -> bool
     requires { IsValid sup.now }
     ensures { IsTrue result → IsData (layout_of sup.now) block }
 {
@@ -103,9 +103,9 @@ fn log_blocks(blocks: &Changed) -> usize
     blocks.len() + (blocks.len() + 125) / 126
 }
 
-// May this group be sealed behind the entry of this number?
+/// May this group be sealed behind the entry of this number?
 #[tactic(auto, using(crate::proofs::Once::once_of))]
-fn is_next(sup: &Super, left: u64, used: u64, group: &Group) -> bool
+pub(crate) fn is_next(sup: &Super, left: u64, used: u64, group: &Group) -> bool
     requires valid { IsValid sup.now }
     requires ascends { Ascends group.now.blocks }
     requires sized { AreOfSize sup.now.block_size group.now.blocks }

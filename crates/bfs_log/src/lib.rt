@@ -17,6 +17,3 @@ pub use laws::{
 pub use print::log_print;
 pub use read::log_entry;
 pub use ring::{ring_next, ring_used};
-
-#[cfg(test)]
-mod tests;

@@ -278,8 +278,18 @@ fn answers(
     ])
 }
 
-/// Which refusal a call has that makes a file: 1 where its directory isn't there, 2 where that is none, 3 where the name is bad, 4 where
-/// it is taken.
+/// Which refusal a reply is: 1 where the directory isn't there, 2 where it is none, 3 where the name is bad, 4 where it is taken, 0 where it is none of these.
+fn number_of(reply: &Reply) -> u32 {
+    match reply {
+        Reply::NotFound => 1,
+        Reply::NotDir => 2,
+        Reply::NameBad => 3,
+        Reply::Exists => 4,
+        _ => 0,
+    }
+}
+
+/// Which refusal a call has that makes a file.
 fn refusal(
     alloc: Global,
     sup: &Super,
@@ -296,11 +306,7 @@ fn refusal(
 {
     let kind = &MakeKind::File;
     match make(alloc, sup, bitmap, edits, dir, name, kind, 0o644, STAMP) {
-        Ok(Reply::NotFound) => Ok(1),
-        Ok(Reply::NotDir) => Ok(2),
-        Ok(Reply::NameBad) => Ok(3),
-        Ok(Reply::Exists) => Ok(4),
-        Ok(_) => Ok(0),
+        Ok(reply) => Ok(number_of(&reply)),
         Err(fault) => Err(fault),
     }
 }

@@ -259,8 +259,8 @@ fn ranges(
     }
 }
 
-/// So many ids of one number between two others: added, read, every second one taken, read, all taken, read.
-fn comes_and_goes(
+/// So many ids of one number between two others are added, each twice, and read.
+fn comes(
     index: &mut Index,
     edits: &mut Overlay<'_, Silent>,
     bitmap: &mut Bitmap,
@@ -270,21 +270,39 @@ fn comes_and_goes(
     requires count { count < 1000 }
     requires size { edits.old.under.now.blocks.block_size ≡ index.old.origin.sizes.block_size }
     requires volume { IsOfVolume index.old.origin.sizes bitmap.old }
+    ensures index { index.new ≡ index.old }
     ensures size { edits.new.under.now.blocks.block_size ≡ edits.old.under.now.blocks.block_size }
+    ensures volume { IsOfVolume index.old.origin.sizes bitmap.new }
 {
     let many = count as usize;
     changes(index, edits, bitmap, &number_key(7), 901, true)?;
     changes(index, edits, bitmap, &number_key(-5), 900, true)?;
     change_ids(index, edits, bitmap, count, 1, true)?;
     change_ids(index, edits, bitmap, count, 1, true)?;
-    let mut right = ranges(index, edits, bitmap, (0, 0), many, 1)?;
-    right = ranges(index, edits, bitmap, (-5, 7), many, 1)? && right;
+    let alone = ranges(index, edits, bitmap, (0, 0), many, 1)?;
+    let all = ranges(index, edits, bitmap, (-5, 7), many, 1)?;
+    Ok(alone && all)
+}
+
+/// Every second one is taken, read, all taken, read.
+fn goes(
+    index: &mut Index,
+    edits: &mut Overlay<'_, Silent>,
+    bitmap: &mut Bitmap,
+    count: u64,
+) -> Result<bool, MapFault>
+    requires kind { index.old.kind ≡ I64 }
+    requires count { count < 1000 }
+    requires size { edits.old.under.now.blocks.block_size ≡ index.old.origin.sizes.block_size }
+    requires volume { IsOfVolume index.old.origin.sizes bitmap.old }
+{
+    let many = count as usize;
     change_ids(index, edits, bitmap, count, 2, false)?;
-    right = ranges(index, edits, bitmap, (-5, 7), many - many / 2, 2)? && right;
+    let half = ranges(index, edits, bitmap, (-5, 7), many - many / 2, 2)?;
     change_ids(index, edits, bitmap, count, 1, false)?;
-    right = ranges(index, edits, bitmap, (-5, 7), 0, 1)? && right;
-    right = ranges(index, edits, bitmap, (0, 0), 0, 1)? && right;
-    Ok(right)
+    let beside = ranges(index, edits, bitmap, (-5, 7), 0, 1)?;
+    let none = ranges(index, edits, bitmap, (0, 0), 0, 1)?;
+    Ok(half && beside && none)
 }
 
 /// The same on a new volume.
@@ -303,7 +321,10 @@ fn comes_and_goes_on(alloc: Global, count: u64) -> Result<Result<bool, MapFault>
     let mut bitmap = Bitmap::of(alloc, &sup);
     let mut edits = Overlay::begin(&mut open, &mut under);
     let mut index = Index::at(alloc, 4, KeyKind::I64, &sup);
-    let result = comes_and_goes(&mut index, &mut edits, &mut bitmap, count);
+    let result = match comes(&mut index, &mut edits, &mut bitmap, count) {
+        Ok(true) => goes(&mut index, &mut edits, &mut bitmap, count),
+        other => other,
+    };
     edits.drop_call();
     Ok(result)
 }

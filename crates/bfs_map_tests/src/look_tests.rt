@@ -119,6 +119,75 @@ fn is_root(reply: &Reply) -> bool {
     }
 }
 
+/// Does the list of the root answer no name?
+fn lists_nothing(
+    alloc: Global,
+    sup: &Super,
+    bitmap: &mut Bitmap,
+    edits: &mut Overlay<'_, Silent>,
+) -> Result<bool, MapFault>
+    requires valid { IsValid sup.now }
+    requires size { edits.old.under.now.blocks.block_size ≡ sup.now.block_size }
+    ensures size { edits.new.under.now.blocks.block_size ≡ edits.old.under.now.blocks.block_size }
+{
+    match list(alloc, sup, bitmap, edits, ROOT) {
+        Ok(names) => Ok(is_empty_list(&names)),
+        Err(fault) => Err(fault),
+    }
+}
+
+/// Is there no such name in a directory, or no such directory?
+fn is_absent(
+    alloc: Global,
+    sup: &Super,
+    bitmap: &mut Bitmap,
+    edits: &mut Overlay<'_, Silent>,
+    dir: u64,
+    name: &[u8],
+) -> Result<bool, MapFault>
+    requires valid { IsValid sup.now }
+    requires size { edits.old.under.now.blocks.block_size ≡ sup.now.block_size }
+    ensures size { edits.new.under.now.blocks.block_size ≡ edits.old.under.now.blocks.block_size }
+{
+    match lookup(alloc, sup, bitmap, edits, dir, name) {
+        Ok(reply) => Ok(matches!(reply, Reply::NotFound)),
+        Err(fault) => Err(fault),
+    }
+}
+
+/// Is the record of the root that of an empty directory?
+fn has_root(
+    alloc: Global,
+    sup: &Super,
+    bitmap: &mut Bitmap,
+    edits: &mut Overlay<'_, Silent>,
+) -> Result<bool, MapFault>
+    requires valid { IsValid sup.now }
+    requires size { edits.old.under.now.blocks.block_size ≡ sup.now.block_size }
+    ensures size { edits.new.under.now.blocks.block_size ≡ edits.old.under.now.blocks.block_size }
+{
+    match stat(alloc, sup, bitmap, edits, ROOT) {
+        Ok(record) => Ok(is_root(&record)),
+        Err(fault) => Err(fault),
+    }
+}
+
+/// Is the root said to be no link?
+fn is_no_link(
+    alloc: Global,
+    sup: &Super,
+    bitmap: &mut Bitmap,
+    edits: &mut Overlay<'_, Silent>,
+) -> Result<bool, MapFault>
+    requires valid { IsValid sup.now }
+    requires size { edits.old.under.now.blocks.block_size ≡ sup.now.block_size }
+{
+    match read_link(alloc, sup, bitmap, edits, ROOT) {
+        Ok(reply) => Ok(matches!(reply, Reply::NotLink)),
+        Err(fault) => Err(fault),
+    }
+}
+
 /// What is answered: the list of the root, a name that it hasn't, a directory that is none, the record of the root, and that it is no
 /// link.
 fn answers(
@@ -130,18 +199,12 @@ fn answers(
     requires valid { IsValid sup.now }
     requires size { edits.old.under.now.blocks.block_size ≡ sup.now.block_size }
 {
-    let names = list(alloc, sup, bitmap, edits, ROOT)?;
-    let absent = lookup(alloc, sup, bitmap, edits, ROOT, b"a")?;
-    let nowhere = lookup(alloc, sup, bitmap, edits, 517, b"name")?;
-    let record = stat(alloc, sup, bitmap, edits, ROOT)?;
-    let link = read_link(alloc, sup, bitmap, edits, ROOT)?;
-    Ok([
-        is_empty_list(&names),
-        matches!(absent, Reply::NotFound),
-        matches!(nowhere, Reply::NotFound),
-        is_root(&record),
-        matches!(link, Reply::NotLink),
-    ])
+    let empty = lists_nothing(alloc, sup, bitmap, edits)?;
+    let absent = is_absent(alloc, sup, bitmap, edits, ROOT, b"a")?;
+    let nowhere = is_absent(alloc, sup, bitmap, edits, 517, b"name")?;
+    let root = has_root(alloc, sup, bitmap, edits)?;
+    let file = is_no_link(alloc, sup, bitmap, edits)?;
+    Ok([empty, absent, nowhere, root, file])
 }
 
 #[test]

@@ -12,6 +12,3 @@ mod volume;
 pub use layout::{layout_of, layout_with_log};
 pub use mkfs::{FormatFault, format};
 pub use tree::NewTree;
-
-#[cfg(test)]
-mod tests;

@@ -15,8 +15,6 @@ mod reads;
 mod refusals;
 mod sorts;
 mod start;
-#[cfg(test)]
-mod tests;
 mod writes;
 
 pub use model::{Attribute, Model, Node};

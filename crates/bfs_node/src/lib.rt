@@ -29,6 +29,3 @@ pub use read::{
     key_bytes, left_link, overflow_link, page_links, right_link, row_count, row_key, row_value,
 };
 pub use view::PageView;
-
-#[cfg(test)]
-mod tests;

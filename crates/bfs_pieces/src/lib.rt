@@ -8,6 +8,3 @@ mod block;
 mod piece;
 
 pub use piece::{read_piece, write_piece};
-
-#[cfg(test)]
-mod tests;

@@ -11,6 +11,3 @@ pub use ends::{end_for, least_key, low_or_least};
 pub use ranged::{KeyBytes, Ranged, RangedRow};
 pub use ranging::{range, range_from};
 pub use rows::{take_leaf, take_rows};
-
-#[cfg(test)]
-mod tests;

@@ -6,7 +6,5 @@ mod calls;
 mod home;
 mod log;
 mod recovery;
-#[cfg(test)]
-mod tests;
 
 pub use recovery::{Loaded, MountFault, load, recover};

@@ -14,6 +14,3 @@ pub use laws::lines_are_in_form;
 pub use reading::{parse, parse_vec};
 pub use script::Script;
 pub use texts::{is_quiet, text};
-
-#[cfg(test)]
-mod tests;

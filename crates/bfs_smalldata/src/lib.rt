@@ -12,6 +12,3 @@ pub use edit::{put, take};
 pub use item::{AreaFault, Item};
 pub use laws::{items_stand, put_is_found, taken_is_gone};
 pub use walk::{find, fits, list_end};
-
-#[cfg(test)]
-mod tests;

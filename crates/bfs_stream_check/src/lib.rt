@@ -13,6 +13,3 @@ mod take;
 
 pub use fault::{ReadFault, Wrong};
 pub use stream::{StreamRuns, read_stream};
-
-#[cfg(test)]
-mod tests;

@@ -5,6 +5,3 @@
 mod passes;
 
 pub use passes::{check_log, check_super, check_used};
-
-#[cfg(test)]
-mod tests;

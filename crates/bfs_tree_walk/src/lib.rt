@@ -11,6 +11,3 @@ pub use names::walk_names;
 pub use row::OtherRow;
 pub use unmet::check_met;
 pub use values::check_values;
-
-#[cfg(test)]
-mod tests;

@@ -23,6 +23,3 @@ pub use memory::MemBlocks;
 pub use overlay::Overlay;
 pub use pages::Pages;
 pub use steps::Steps;
-
-#[cfg(test)]
-mod tests;

@@ -13,6 +13,3 @@ pub use laws::walked_is_whole;
 pub use page::{check_children, check_page};
 pub use reading::{look_at_interior, look_at_leaf};
 pub use way::{Frame, enter, step};
-
-#[cfg(test)]
-mod tests;

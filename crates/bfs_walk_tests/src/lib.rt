@@ -1,5 +1,6 @@
-// Tests of the walks of a check: over trees and their values, and over the nodes, attributes and indices of a volume. They stand over
-// the proved libraries, since a crate with tests of its own is proved twice. There is no code here but the tests.
+// Tests of the walks of a check: over the superblock and the bitmap, over streams, over trees and their values, and over the nodes,
+// attributes and indices of a volume. They stand over the proved libraries, since a crate with tests of its own is proved twice. There
+// is no code here but the tests.
 #![tactic(auto)]
 
 #[cfg(test)]
@@ -7,9 +8,25 @@ mod attribute_row_tests;
 #[cfg(test)]
 mod attribute_tests;
 #[cfg(test)]
+mod bitmap_tests;
+#[cfg(test)]
 mod index_tests;
 #[cfg(test)]
+mod inode_tests;
+#[cfg(test)]
+mod listing_tests;
+#[cfg(test)]
+mod look_tests;
+#[cfg(test)]
+mod name_tests;
+#[cfg(test)]
 mod node_tests;
+#[cfg(test)]
+mod plain_tests;
+#[cfg(test)]
+mod stream_tests;
+#[cfg(test)]
+mod super_tests;
 #[cfg(test)]
 mod tree_tests;
 #[cfg(test)]

@@ -1,0 +1,163 @@
+// Blocks of four bytes in memory, and calls over them.
+ghost use Rattle.std.specs.Prelude.{◌≡◌, ◌<◌, ◌≤◌, ◌+◌, ◌*◌, ℕ, length, IsTrue};
+ghost use Rattle.bfs_txn.specs.Changed.{Ascends, AreOfSize, number_at};
+
+use bfs_txn::{BlockFault, Blocks, Changed, Edits, Group, MemBlocks, Overlay, Steps};
+use std::marker::Brand;
+use std::sync::ledger::{Blank, Ledger};
+use std::test::Fail;
+
+fn read<B: Blocks>(blocks: &mut B, block: u64) -> Result<[u8; 4], BlockFault>
+    requires { B.size blocks.old ≡ 4 }
+    ensures size { B.size blocks.new ≡ B.size blocks.old }
+    ensures frame { B.frame blocks.new ≡ B.frame blocks.old }
+{
+    let mut into = [0; 4];
+    blocks.get(block, &mut into)?;
+    Ok(into)
+}
+
+fn write<E: Edits>(edits: &mut E, block: u64, value: u8) -> Result<(), BlockFault>
+    requires { E.size edits.old ≡ 4 }
+    ensures size { E.size edits.new ≡ E.size edits.old }
+    ensures frame { E.frame edits.new ≡ E.frame edits.old }
+{
+    match edits.set(block, &[value; 4]) {
+        Ok(()) => Ok(()),
+        Err(_) => Err(BlockFault::NoMemory),
+    }
+}
+
+/// Changes block 2, block 1, and block 2 again, and reads the three.
+fn change<E: Edits>(edits: &mut E, value: u8) -> Result<[[u8; 4]; 3], BlockFault>
+    requires { E.size edits.old ≡ 4 }
+    ensures size { E.size edits.new ≡ E.size edits.old }
+    ensures frame { E.frame edits.new ≡ E.frame edits.old }
+{
+    write(edits, 2, 9)?;
+    write(edits, 1, value)?;
+    write(edits, 2, value)?;
+    Ok([read(edits, 0)?, read(edits, 1)?, read(edits, 2)?])
+}
+
+fn call<B: Blocks>(
+    open: &mut Changed,
+    under: &mut B,
+    value: u8,
+    keeps: bool,
+) -> Result<[[u8; 4]; 3], BlockFault>
+    requires block { B.size under.old ≡ 4 }
+    requires ascends { Ascends «open».old }
+    requires sized { AreOfSize 4 «open».old }
+    ensures ascends { Ascends «open».new }
+    ensures sized { AreOfSize 4 «open».new }
+    ensures size { B.size under.new ≡ B.size under.old }
+{
+    let mut call = Overlay::begin(open, under);
+    let found = change(&mut call, value);
+    if keeps {
+        call.keep();
+    } else {
+        call.drop_call();
+    }
+    found
+}
+
+#[test]
+fn an_overlay_reads_its_changes_and_keeps_them_or_not(rt: HostRuntime) -> Result<(), Fail> {
+    let alloc = rt.alloc();
+    let bytes = Vec::from_slice(alloc, &[0, 0, 0, 0, 1, 1, 1, 1, 2, 2, 2, 2])?;
+    let mut memory = MemBlocks::new(bytes, 4);
+    let mut open = Changed::new(alloc);
+    assert!(rt; open.is_empty());
+    assert_eq!(rt;
+        call(&mut open, &mut memory, 7, false)?,
+        [[0; 4], [7; 4], [7; 4]]
+    );
+    assert_eq!(rt; open.len(), 0);
+    assert_eq!(rt;
+        call(&mut open, &mut memory, 8, true)?,
+        [[0; 4], [8; 4], [8; 4]]
+    );
+    assert_eq!(rt; open.len(), 2);
+    assert_eq!(rt; open.block(0), 1);
+    assert_eq!(rt; open.bytes(1), [8; 4].as_slice());
+    assert_eq!(rt;
+        call(&mut open, &mut memory, 9, false)?,
+        [[0; 4], [9; 4], [9; 4]]
+    );
+    assert_eq!(rt; open.find(2), Some([8; 4].as_slice()));
+    assert_eq!(rt; open.find(3), None);
+    assert!(rt; lie_inside(&open, &memory));
+    let group = Group {
+        first: 1,
+        last: 1,
+        used: 3,
+        blocks: open,
+    };
+    memory.apply(&group);
+    assert_eq!(rt;
+        memory.bytes(),
+        [0, 0, 0, 0, 8, 8, 8, 8, 8, 8, 8, 8].as_slice()
+    );
+    assert_eq!(rt; read(&mut memory, 2)?, [8; 4]);
+    Ok(())
+}
+
+/// Is this one of the pairs?
+fn has_pair<B: Blocks>(call: &Overlay<'_, B>, block: u64, bytes: &[u8]) -> bool {
+    for i in 0..call.pairs() {
+        if call.block(i) == block && call.bytes(i) == bytes {
+            return true;
+        }
+    }
+    false
+}
+
+#[test]
+fn the_pairs_of_a_call_are_read_by_their_places(rt: HostRuntime) -> Result<(), Fail> {
+    let alloc = rt.alloc();
+    let bytes = Vec::from_slice(alloc, &[0, 0, 0, 0, 1, 1, 1, 1, 2, 2, 2, 2])?;
+    let mut memory = MemBlocks::new(bytes, 4);
+    let mut open = Changed::new(alloc);
+    let mut call = Overlay::begin(&mut open, &mut memory);
+    let found = change(&mut call, 7);
+    let pairs = [
+        call.pairs() == 2,
+        has_pair(&call, 1, &[7; 4]),
+        has_pair(&call, 2, &[9; 4]),
+    ];
+    call.drop_call();
+    assert_eq!(rt; found?, [[0; 4], [7; 4], [7; 4]]);
+    assert_eq!(rt; pairs, [true, true, false]);
+    Ok(())
+}
+
+/// Do the blocks lie in the memory?
+fn lie_inside(blocks: &Changed, memory: &MemBlocks) -> bool
+    requires { memory.now.block_size ≡ 4 }
+    ensures { IsTrue result → (i : ℕ) → i < length blocks.now → memory.now.block_size * number_at blocks.now i + memory.now.block_size ≤ length memory.now.bytes }
+{
+    let count = memory.bytes().len() as u64 / 4;
+    for i in 0..blocks.len() {
+        if blocks.block(i) >= count {
+            return false;
+        }
+    }
+    true
+}
+
+fn counted<L: Ledger>(ledger: Blank)
+    requires name { ledger.name ≡ L.name }
+    requires parts { ledger.parts ≡ L.parts }
+    requires some { L.parts ≡ 1 }
+{
+    let mut steps = Steps::<L>::begin(ledger);
+    steps.count();
+    steps.count();
+}
+
+#[test]
+fn steps_are_counted_in_a_blank_ledger() {
+    counted::<Brand>(Blank::new(1));
+}

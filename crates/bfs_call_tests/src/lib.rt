@@ -1,0 +1,12 @@
+// Tests of parts of calls above the first ones: the places of a piece of a file, a directory, and a node's name. They stand over the
+// proved libraries, since a crate with tests of its own is proved twice. There is no code here but the tests.
+#![tactic(auto)]
+
+#[cfg(test)]
+mod directory_tests;
+#[cfg(test)]
+mod name_tests;
+#[cfg(test)]
+mod naming_tests;
+#[cfg(test)]
+mod place_tests;

@@ -1,0 +1,147 @@
+// The blocks of pieces of a file of three blocks in two runs, on a volume with blocks of 1,024 bytes.
+ghost use Rattle.std.specs.Prelude.{◌≡◌, ◌≤◌, ◌<◌, ◌*◌, IfOk, length};
+ghost use Rattle.bfs_super.specs.Conditions.{IsValid, natural};
+
+use bfs_bytes::{Run, put_i64, put_run, put_u32};
+use bfs_hold::find_places;
+use bfs_super::{Super, SuperFault};
+use bfs_txn::{BlockFault, MemBlocks};
+use std::alloc::{AllocError, Global};
+use std::test::Fail;
+
+/// The inode of the file.
+const FILE: u64 = 6;
+
+fn run(start: u16, len: u16) -> Run {
+    Run {
+        group: 0,
+        start,
+        len,
+    }
+}
+
+/// The superblock of a volume of 4,096 blocks, whose log is the 512 blocks from block 2 on.
+fn superblock() -> Result<Super, SuperFault>
+    ensures valid { IfOk result IsValid }
+{
+    let mut sector = [0u8; 512];
+    put_u32(&mut sector, 32, 0x42465331);
+    put_u32(&mut sector, 36, 0x42494745);
+    put_u32(&mut sector, 40, 1024);
+    put_u32(&mut sector, 44, 10);
+    put_u32(&mut sector, 48, 4096);
+    put_u32(&mut sector, 64, 1024);
+    put_u32(&mut sector, 68, 0xdd121031);
+    put_u32(&mut sector, 72, 1);
+    put_u32(&mut sector, 76, 13);
+    put_u32(&mut sector, 80, 1);
+    put_run(&mut sector, 88, run(2, 512));
+    put_u32(&mut sector, 112, 0x15b6830e);
+    put_run(&mut sector, 116, run(600, 1));
+    put_run(&mut sector, 124, run(601, 1));
+    Super::parse(&sector)
+}
+
+/// Blocks 0 to 7: the file's runs are two blocks from this one on, and the one at 2,000.
+fn memory(alloc: Global, size: u32, first: u16) -> Result<MemBlocks, AllocError>
+    requires some { 1024 ≤ size }
+    requires small { size ≤ 8192 }
+    ensures { IfOk result (λ m. m.block_size ≡ size) }
+{
+    let block = size as usize;
+    let mut bytes = vec![in alloc; 0u8; block * 8]?;
+    put_run(&mut bytes, 6 * block + 72, run(first, 2));
+    put_run(&mut bytes, 6 * block + 80, run(2000, 1));
+    put_i64(&mut bytes, 6 * block + 168, 3072);
+    put_i64(&mut bytes, 6 * block + 208, 3000);
+    Ok(MemBlocks::new(bytes, size))
+}
+
+/// A number in a list, or 0 behind its end.
+fn nth(numbers: &[u64], k: usize) -> u64 {
+    if k < numbers.len() {
+        return numbers[k];
+    }
+    0
+}
+
+/// How many blocks a piece has, and the first three of them; what the list held before goes.
+fn found(
+    alloc: Global,
+    sup: &Super,
+    under: &mut MemBlocks,
+    at: u64,
+    count: u64,
+) -> Result<[u64; 4], BlockFault>
+    requires valid { IsValid sup.now }
+    requires inside { 6 < natural sup.now.num_blocks }
+    requires size { under.old.block_size ≡ sup.now.block_size }
+    requires short { count ≤ 65536 }
+    ensures size { under.new.block_size ≡ under.old.block_size }
+{
+    let mut places = match vec![in alloc; 7u64; 2] {
+        Ok(places) => places,
+        Err(_) => return Err(BlockFault::NoMemory),
+    };
+    match find_places(alloc, sup, under, FILE, at, count, &mut places) {
+        Ok(()) => {}
+        Err(fault) => return Err(fault),
+    }
+    let all = places.len() as u64;
+    Ok([all, nth(&places, 0), nth(&places, 1), nth(&places, 2)])
+}
+
+/// Pieces inside of a block, across blocks and across runs.
+fn are_found(alloc: Global, sup: &Super, under: &mut MemBlocks) -> bool
+    requires valid { IsValid sup.now }
+    requires inside { 6 < natural sup.now.num_blocks }
+    requires size { under.old.block_size ≡ sup.now.block_size }
+    ensures size { under.new.block_size ≡ under.old.block_size }
+{
+    let mut good = true;
+    for (at, count, blocks) in [
+        (0, 0, [0, 0, 0, 0]),
+        (0, 1, [1, 1000, 0, 0]),
+        (1023, 2, [2, 1000, 1001, 0]),
+        (1024, 1024, [1, 1001, 0, 0]),
+        (1000, 1100, [3, 1000, 1001, 2000]),
+        (2048, 952, [1, 2000, 0, 0]),
+    ] {
+        if found(alloc, sup, under, at, count) != Ok(blocks) {
+            good = false;
+        }
+    }
+    good
+}
+
+#[test]
+fn a_piece_has_the_blocks_of_its_bytes_in_order(rt: HostRuntime) -> Result<(), Fail> {
+    let alloc = rt.alloc();
+    let sup = superblock()?;
+    assert_eq!(rt; sup.block_size, 1024);
+    assert_eq!(rt; sup.num_blocks, 4096);
+    let mut under = memory(alloc, 1024, 1000)?;
+    let good = are_found(alloc, &sup, &mut under);
+    let past = found(alloc, &sup, &mut under, 3000, 100);
+    assert_eq!(rt;
+        (good, past),
+        (true, Err(BlockFault::Damaged { block: FILE }))
+    );
+    Ok(())
+}
+
+#[test]
+fn a_block_of_the_log_is_damage_of_the_file(rt: HostRuntime) -> Result<(), Fail> {
+    let alloc = rt.alloc();
+    let sup = superblock()?;
+    assert_eq!(rt; sup.block_size, 1024);
+    assert_eq!(rt; sup.num_blocks, 4096);
+    let mut under = memory(alloc, 1024, 513)?;
+    let last = found(alloc, &sup, &mut under, 1023, 1);
+    let behind = found(alloc, &sup, &mut under, 1024, 1);
+    assert_eq!(rt;
+        (last, behind),
+        (Err(BlockFault::Damaged { block: FILE }), Ok([1, 514, 0, 0]))
+    );
+    Ok(())
+}

@@ -1,0 +1,4 @@
+use Rattle.bfs_page_tests.proofs.range_tests.has_rows.Given as goal
+
+abbrev pub ghosts-counted : goal.ghosts-counted
+ghosts-counted a = record { name = a.ledger.name; parts = a.ledger.parts }

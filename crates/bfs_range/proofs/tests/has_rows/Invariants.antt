@@ -1,4 +1,0 @@
-use Rattle.bfs_range.proofs.tests.has_rows.Given as goal
-
-abbrev pub ghosts-counted : goal.ghosts-counted
-ghosts-counted a = record { name = a.ledger.name; parts = a.ledger.parts }

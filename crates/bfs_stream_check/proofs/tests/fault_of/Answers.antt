@@ -1,5 +1,0 @@
-use Rattle.std.proofs.Common.{arith}
-use Rattle.bfs_stream_check.proofs.tests.fault_of.Goals as goal
-
-pub new-under-requires : goal.new-under-requires
-new-under-requires c = (14, let e = c.requires.length in omega (arith, e))

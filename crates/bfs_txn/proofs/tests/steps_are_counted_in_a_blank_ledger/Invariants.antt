@@ -1,4 +1,0 @@
-use Rattle.bfs_txn.proofs.tests.steps_are_counted_in_a_blank_ledger.Given as goal
-
-abbrev pub ghosts-counted : goal.ghosts-counted
-ghosts-counted a = record { name = a.ledger.name; parts = a.ledger.parts }

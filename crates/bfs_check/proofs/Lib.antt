@@ -1,3 +1,5 @@
 pub mod Trimmed
 mod Lending
+mod Parts
+mod Slotted
 pub mod Reading

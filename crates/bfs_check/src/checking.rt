@@ -8,7 +8,8 @@ ghost use Rattle.bfs_log.specs.Replay.{Valid, super_of};
 ghost use Rattle.bfs_replay.specs.Steps.{sectors_of};
 ghost use Rattle.bfs_check.specs.Checked.{HasCauseIn, HasVolume, IsCheckFault, IsFaultBy, IsOfReading, IsPassCauseIn, IsPassOfReading, IsReadCause, IsVerdict, IsVerdictBy, IsWholeWith, IsWrongOf};
 
-use bfs_device::DiskBlocks;
+use crate::ahead::AheadBlocks;
+use crate::windows::Windows;
 use bfs_disk::Disk;
 use bfs_finding::Finding;
 use bfs_passes::{PassFault, Summary, check_passes};
@@ -55,7 +56,8 @@ fn pass<D: Disk>(alloc: Global, disk: &mut D, sup: &Super) -> Result<Summary, Pa
     ensures stops { D.stops disk.new ≡ D.stops disk.old }
 {
     image_is_carried();
-    let mut blocks = DiskBlocks::over(disk, sup);
+    let mut windows = Windows::new(alloc);
+    let mut blocks = AheadBlocks::over(disk, &mut windows, sup);
     let result = check_passes(alloc, &mut blocks, sup);
     blocks.done();
     result
@@ -91,8 +93,8 @@ fn verdict_of(passed: Result<Summary, PassFault>) -> Result<Verdict, CheckFault>
     }
 }
 
-/// Checks the volume on a disk. Nothing is written. It reads the superblock first, and then the blocks of the volume one by one, but
-/// for the data of files.
+/// Checks the volume on a disk. Nothing is written. It reads the superblock first, and then the blocks of the volume with their
+/// neighbours, but for the data of files.
 pub fn check<D: Disk>(alloc: Global, disk: &mut D) -> Result<Verdict, CheckFault>
     // On a disk that reads as an image the verdict is true of the image.
     ensures verdict { (image : List ℕ) → Tells (D.state disk.old) (λ s. ReadsAs s image) → IfOk result (IsVerdict image) }

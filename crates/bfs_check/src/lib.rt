@@ -2,11 +2,11 @@
 // specs/Checked.antt. It is a check of what the disk reads: where the log isn't empty, that is found first.
 #![tactic(auto)]
 
+mod ahead;
 mod checking;
 mod laws;
+mod windows;
 
 pub use checking::{CheckFault, Verdict, check};
 pub use laws::{finding_is_of_image, recovery_is_exact, verdict_is_exact};
-
-#[cfg(test)]
-mod tests;
+pub use windows::Windows;

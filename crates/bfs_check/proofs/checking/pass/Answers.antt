@@ -32,3 +32,6 @@ returns-clause-wrong g c = λ image reads same valid.
     passed_err image valid reads.0 filled reads.2 result
     (subst (λ (t : Super). IfErr result (IsFaultOf t (volume_of t (contents (plain (block_sectors t) (natural t.num_blocks) reads.0))))) same
     (c.check_passes-result.ensures.wrong (plain (block_sectors s) (natural s.num_blocks) reads.0) told))
+
+pub over-blocks-requires-clause-kept : goal.over-blocks-requires-clause-kept
+over-blocks-requires-clause-kept g c = c.new-windows.ensures (g.D.Disk.state c.args.disk.now)

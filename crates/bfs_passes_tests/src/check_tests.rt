@@ -1,5 +1,5 @@
 // Checks of disks that have no volume.
-use crate::{CheckFault, Verdict, check};
+use bfs_check::{CheckFault, Verdict, check};
 use bfs_disk::MemDisk;
 use bfs_finding::Finding;
 use bfs_super::SuperFault;

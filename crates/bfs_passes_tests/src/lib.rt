@@ -1,0 +1,10 @@
+// Tests of a whole check, of the bytes of a volume and of a disk, over the proved libraries, since a crate with tests of its own is
+// proved twice. There is no code here but the tests.
+#![tactic(auto)]
+
+#[cfg(test)]
+mod ahead_tests;
+#[cfg(test)]
+mod check_tests;
+#[cfg(test)]
+mod pass_tests;

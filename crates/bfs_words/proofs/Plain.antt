@@ -10,7 +10,7 @@ use Rattle.clap.specs.Faults.{fault_of}
 use Rattle.clap.proofs.OnLiterals.{clap_on_literals}
 use Rattle.bfs_words.specs.Line.{bfs_line}
 use Rattle.bfs_words.specs.Numbers.{IsNumber}
-use Rattle.bfs_words.specs.Words.{IsBlocks, IsSize, IsName, IsNewName, FindsLabel, FindsVolume, IsPlainWord, IsLabelCommand, IsMakeCommand, FindsCheck, IsCheckCommand, IsWorkers, FindsShell, IsShellCommand}
+use Rattle.bfs_words.specs.Words.{IsBlocks, IsSize, IsName, IsNewName, FindsLabel, FindsVolume, IsPlainWord, IsLabelCommand, IsMakeCommand, FindsCheck, IsCheckCommand, IsWorkers, FindsShell, IsShellCommand, IsSeed, IsCount, FindsSoak, IsSoakCommand}
 
 -- the subcommand's name and its values
 abbrev Reading : Type 0
@@ -142,6 +142,36 @@ joined_found : option_map shell_reading (subcommand_of bfs_line (codes "sh" ∷ 
 unfolding clap_on_literals
 joined_found = refl
 
+-- the subcommand's name and the values of `soak`
+abbrev SoakReading : Type 0
+SoakReading = Text × Option Text × Option Text × Option Text
+
+abbrev soak_reading : Text × List Row → SoakReading
+soak_reading p = (p.0, first_of (codes "seed") p.1, first_of (codes "count") p.1, first_of (codes "workers") p.1)
+
+as_soak : (found : Option (Text × List Row)) (seed_word count_word workers : Option Text) (seed count : ℕ) → option_map soak_reading found ≡ Some (codes "soak", seed_word, count_word, workers)
+    → IsSeed seed_word seed → IsCount count_word count → IsWorkers workers → FindsSoak found seed count
+as_soak None seed_word count_word workers seed count e s c w = cc
+as_soak (Some p) seed_word count_word workers seed count e s c w =
+    let same : soak_reading p ≡ (codes "soak", seed_word, count_word, workers) = ap (λ (o : Option SoakReading). unwrap_or o (soak_reading p)) e in (
+      p.1,
+      ap (λ (r : SoakReading). Some (r.0, p.1)) same,
+      record {
+        seed_is = subst (λ v. IsSeed v seed) (sym (ap (λ (r : SoakReading). r.1) same)) s;
+        count_is = subst (λ v. IsCount v count) (sym (ap (λ (r : SoakReading). r.2) same)) c;
+        one_worker = subst IsWorkers (sym (ap (λ (r : SoakReading). r.3) same)) w;
+      },
+    )
+
+soak_fault : (x y : ℕ) (xs ys : Text) → (x == 45) ≡ false → (y == 45) ≡ false → fault_of bfs_line (codes "soak" ∷ (x ∷ xs) ∷ (y ∷ ys) ∷ []) ≡ []
+unfolding clap_on_literals
+soak_fault x y xs ys e f = rw (e, e, f, f) refl
+
+soak_found : (x y : ℕ) (xs ys : Text) → (x == 45) ≡ false → (y == 45) ≡ false
+    → option_map soak_reading (subcommand_of bfs_line (codes "soak" ∷ (x ∷ xs) ∷ (y ∷ ys) ∷ [])) ≡ Some (codes "soak", Some (x ∷ xs), Some (y ∷ ys), None)
+unfolding clap_on_literals
+soak_found x y xs ys e f = rw (e, e, f, f) refl
+
 -- ---- the commands
 
 digit_first : (x : ℕ) (xs : Text) (n : ℕ) → IsNumber (x ∷ xs) n → (x == 45) ≡ false
@@ -201,3 +231,11 @@ plain_workers = (workers_fault, as_shell (subcommand_of bfs_line (codes "sh" ∷
 
 pub plain_joined : IsShellCommand (codes "sh" ∷ codes "-j1" ∷ [])
 plain_joined = (joined_fault, as_shell (subcommand_of bfs_line (codes "sh" ∷ codes "-j1" ∷ [])) (Some (codes "1")) joined_found one_digit)
+
+pub plain_soak : (seed count : Text) (n m : ℕ) → IsNumber seed n → n ≤ 18446744073709551615 → IsNumber count m → m ≤ 1048572 → IsSoakCommand (codes "soak" ∷ seed ∷ count ∷ []) n m
+plain_soak [] count n m is fits other few = absurd (omega (arith, is.some))
+plain_soak (x ∷ xs) [] n m is fits other few = absurd (omega (arith, other.some))
+plain_soak (x ∷ xs) (y ∷ ys) n m is fits other few =
+    let e = digit_first x xs n is in
+    let f = digit_first y ys m other in
+    (soak_fault x y xs ys e f, as_soak _ (Some (x ∷ xs)) (Some (y ∷ ys)) None n m (soak_found x y xs ys e f) (is, fits) (other, few) tt)

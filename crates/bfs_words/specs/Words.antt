@@ -35,11 +35,27 @@ abbrev pub IsWorkers : Option Text → Type 0
 IsWorkers None = Unit {0}
 IsWorkers (Some word) = IsNumber word 1
 
+-- the SEED of `soak`
+abbrev pub IsSeed : Option Text → ℕ → Type 0
+IsSeed None n = ⊥
+IsSeed (Some word) n = IsNumber word n × (n ≤ 18446744073709551615)
+
+-- the COUNT of `soak`
+abbrev pub IsCount : Option Text → ℕ → Type 0
+IsCount None n = ⊥
+IsCount (Some word) n = IsNumber word n × (n ≤ 1048572)
+
 -- the arguments of `mk` describe this volume
 pub record IsVolume (rows : List Row) (blocks size : ℕ) (label : Text) : Type 0 where
   pub blocks_are : IsBlocks (first_of (codes "blocks") rows) blocks
   pub size_is : IsSize (first_of (codes "block-size") rows) size
   pub label_is : IsName (first_of (codes "name") rows) label
+
+-- the arguments of `soak` describe this workload, and ask for one worker
+pub record IsWorkload (rows : List Row) (seed count : ℕ) : Type 0 where
+  pub seed_is : IsSeed (first_of (codes "seed") rows) seed
+  pub count_is : IsCount (first_of (codes "count") rows) count
+  pub one_worker : IsWorkers (first_of (codes "workers") rows)
 
 -- what was found is `label` with a good name
 abbrev pub FindsLabel : Option (Text × List Row) → Text → Type 0
@@ -57,6 +73,10 @@ FindsCheck found = (rows : List Row) × (found ≡ Some (codes "check", rows))
 abbrev pub FindsShell : Option (Text × List Row) → Type 0
 FindsShell found = (rows : List Row) × (found ≡ Some (codes "sh", rows)) × IsWorkers (first_of (codes "workers") rows)
 
+-- what was found is `soak` with good numbers and one worker
+abbrev pub FindsSoak : Option (Text × List Row) → ℕ → ℕ → Type 0
+FindsSoak found seed count = (rows : List Row) × (found ≡ Some (codes "soak", rows)) × IsWorkload rows seed count
+
 -- `clap` refuses nothing in the words, and finds `label` with a good name in them
 abbrev pub IsLabelCommand : List Text → Text → Type 0
 IsLabelCommand words name = (fault_of bfs_line words ≡ []) × FindsLabel (subcommand_of bfs_line words) name
@@ -73,6 +93,10 @@ IsCheckCommand words = (fault_of bfs_line words ≡ []) × FindsCheck (subcomman
 abbrev pub IsShellCommand : List Text → Type 0
 IsShellCommand words = (fault_of bfs_line words ≡ []) × FindsShell (subcommand_of bfs_line words)
 
+-- `clap` refuses nothing in the words, and finds `soak` with good numbers and one worker in them
+abbrev pub IsSoakCommand : List Text → ℕ → ℕ → Type 0
+IsSoakCommand words seed count = (fault_of bfs_line words ≡ []) × FindsSoak (subcommand_of bfs_line words) seed count
+
 -- a word that begins with no hyphen
 abbrev pub IsPlainWord : Text → Type 0
 IsPlainWord word = ¬ (slice_index_or word 0 45 ≡ 45)
@@ -84,6 +108,7 @@ pub record IsFaulty (words : List Text) : Type 0 where
   pub no_volume : (blocks size : ℕ) (label : Text) → IsMakeCommand words blocks size label → ⊥
   pub no_check : IsCheckCommand words → ⊥
   pub no_shell : IsShellCommand words → ⊥
+  pub no_soak : (seed count : ℕ) → IsSoakCommand words seed count → ⊥
 
 -- what was found asks for
 abbrev pub Means : Option (Text × List Row) → Command → Type 0
@@ -92,7 +117,9 @@ Means found (commands.Label name) = FindsLabel found name.now
 Means found (commands.Make volume) = FindsVolume found volume.blocks volume.block_size volume.label.now
 Means found commands.Check = FindsCheck found
 Means found commands.Shell = FindsShell found
+Means found (commands.Soak workload) = FindsSoak found workload.seed workload.count
 Means found (commands.Faulty complaint) = ((name : Text) → FindsLabel found name → ⊥) × ((blocks size : ℕ) (label : Text) → FindsVolume found blocks size label → ⊥) × (FindsCheck found → ⊥) × (FindsShell found → ⊥)
+    × ((seed count : ℕ) → FindsSoak found seed count → ⊥)
 
 -- what the words ask for
 abbrev pub Asks : List Text → Command → Type 0
@@ -101,4 +128,5 @@ Asks words (commands.Label name) = IsLabelCommand words name.now
 Asks words (commands.Make volume) = IsMakeCommand words volume.blocks volume.block_size volume.label.now
 Asks words commands.Check = IsCheckCommand words
 Asks words commands.Shell = IsShellCommand words
+Asks words (commands.Soak workload) = IsSoakCommand words workload.seed workload.count
 Asks words (commands.Faulty complaint) = IsFaulty words

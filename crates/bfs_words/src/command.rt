@@ -11,6 +11,14 @@ pub struct NewVolume<'a> {
     pub label: &'a [u8],
 }
 
+/// The workload that is asked for.
+#[derive(Clone, Copy)]
+pub struct Workload {
+    pub seed: u64,
+    /// How many commands it has.
+    pub count: u32,
+}
+
 /// Which word is wrong. Its `Display` is a text for the standard error.
 #[derive(Drop)]
 pub enum Complaint<'a> {
@@ -37,7 +45,9 @@ pub enum Command<'a> {
     Check,
     /// `sh`, with one worker.
     Shell,
-    /// Anything else. `soak` is declared, and stands here until it is built.
+    /// `soak`, with good numbers and one worker.
+    Soak(Workload),
+    /// Anything else.
     Faulty(Complaint<'a>),
 }
 

@@ -3,7 +3,7 @@ ghost use Rattle.std.specs.Prelude.{◌≡◌, ◌≤◌, ◌∷◌, ◌++◌, [
 ghost use Rattle.bfs_super.specs.Geometry.{IsBlockSize};
 ghost use Rattle.bfs_super.specs.Label.{IsLabel};
 ghost use Rattle.bfs_words.specs.Numbers.{IsNumber};
-ghost use Rattle.bfs_words.specs.Words.{IsPlainWord, IsLabelCommand, IsMakeCommand, IsCheckCommand, IsShellCommand};
+ghost use Rattle.bfs_words.specs.Words.{IsPlainWord, IsLabelCommand, IsMakeCommand, IsCheckCommand, IsShellCommand, IsSoakCommand};
 
 /// The plain spellings of the commands ask for what they say. A name that begins with a hyphen stands behind `=`.
 pub fn plain_spellings()
@@ -20,4 +20,6 @@ pub fn plain_spellings()
     ensures shell { IsShellCommand (codes "sh" ∷ []) }
     ensures workers { IsShellCommand (codes "sh" ∷ codes "-j" ∷ codes "1" ∷ []) }
     ensures joined { IsShellCommand (codes "sh" ∷ codes "-j1" ∷ []) }
+    ensures soak { (seed count : List ℕ) (n m : ℕ) → IsNumber seed n → n ≤ 18446744073709551615 → IsNumber count m → m ≤ 1048572
+        → IsSoakCommand (codes "soak" ∷ seed ∷ count ∷ []) n m }
 {}

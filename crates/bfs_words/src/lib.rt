@@ -8,10 +8,8 @@ mod laws;
 mod line;
 mod number;
 mod read;
-#[cfg(test)]
-mod tests;
 
 pub use argument::Argument;
-pub use command::{Command, Complaint, NewVolume};
+pub use command::{Command, Complaint, NewVolume, Workload};
 pub use laws::plain_spellings;
 pub use read::read_words;

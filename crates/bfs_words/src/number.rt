@@ -5,22 +5,27 @@ ghost use Rattle.bfs_words.specs.Numbers.{IsNumber};
 
 /// Reads 1 to 20 decimal digits, which spell a number that is at most this one.
 pub(crate) fn read_number(word: &[u8], most: u64) -> Option<u64>
-    requires { most ≤ 4194304 }
     ensures { MatchOption result ((n : ℕ) → IsNumber word.now n → n ≤ most → ⊥) (λ n. IsNumber word.now n × (n ≤ most)) }
 {
     if word.is_empty() || word.len() > 20 {
         return None;
     }
-    let mut value = 0;
+    let mut value: u64 = 0;
     'digits: for at in 0..word.len() {
         let digit = word[at];
         if !digit.is_ascii_digit() {
             return None;
         }
-        value = 10 * value + u64::from(digit - b'0');
-        if value > most {
+        let Some(tens) = value.checked_mul(10) else {
+            return None;
+        };
+        let Some(more) = tens.checked_add(u64::from(digit - b'0')) else {
+            return None;
+        };
+        if more > most {
             return None;
         }
+        value = more;
     }
     Some(value)
 }

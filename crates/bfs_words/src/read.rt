@@ -2,10 +2,10 @@
 ghost use Rattle.std.specs.Prelude.{◌≡◌, ℕ, List, IfOk, MatchResult, option_map, codes};
 ghost use Rattle.clap.specs.Words.{found_of, rows_of, subcommand_rows_of};
 ghost use Rattle.clap.specs.Walk.{first_of};
-ghost use Rattle.bfs_words.specs.Words.{IsBlocks, IsSize, IsName, IsNewName, IsWorkers, IsVolume, Means, Asks};
+ghost use Rattle.bfs_words.specs.Words.{IsBlocks, IsSize, IsName, IsNewName, IsWorkers, IsSeed, IsCount, IsVolume, IsWorkload, Means, Asks};
 
 use crate::argument::Argument;
-use crate::command::{Command, Complaint, NewVolume};
+use crate::command::{Command, Complaint, NewVolume, Workload};
 use crate::line::command_line;
 use crate::number::{read_number, read_size};
 use bfs_super::is_label;
@@ -15,6 +15,9 @@ use std::alloc::{AllocError, Global};
 
 /// The most blocks that a volume may have.
 const MOST_BLOCKS: u64 = 4_194_304;
+
+/// The most commands that a workload may have.
+const MOST_COMMANDS: u64 = 1_048_572;
 
 // The word that was found for an argument.
 fn word_of<'a>(found: &ArgMatches<'a>, id: &str) -> Option<&'a str>
@@ -86,6 +89,30 @@ fn one_worker_in(word: Option<&str>) -> Result<(), Complaint<'_>>
     }
 }
 
+fn seed_in(word: Option<&str>) -> Result<u64, Complaint<'_>>
+    ensures { MatchResult result (IsSeed (option_map (λ s. s.now) word.entry)) (λ _. (n : ℕ) → IsSeed (option_map (λ s. s.now) word.entry) n → ⊥) }
+{
+    let Some(word) = word else {
+        return Err(Complaint::Number(""));
+    };
+    match read_number(word.as_bytes(), u64::MAX) {
+        Some(seed) => Ok(seed),
+        None => Err(Complaint::Number(word)),
+    }
+}
+
+fn count_in(word: Option<&str>) -> Result<u32, Complaint<'_>>
+    ensures { MatchResult result (IsCount (option_map (λ s. s.now) word.entry)) (λ _. (n : ℕ) → IsCount (option_map (λ s. s.now) word.entry) n → ⊥) }
+{
+    let Some(word) = word else {
+        return Err(Complaint::Number(""));
+    };
+    match read_number(word.as_bytes(), MOST_COMMANDS) {
+        Some(count) => Ok(count as u32),
+        None => Err(Complaint::Number(word)),
+    }
+}
+
 // Reads the arguments of `mk`.
 fn read_volume<'a>(found: &ArgMatches<'a>) -> Result<NewVolume<'a>, Complaint<'a>>
     ensures { MatchResult result (λ v. IsVolume (rows_of (found_of found.now)) v.blocks v.block_size v.label.now)
@@ -99,6 +126,17 @@ fn read_volume<'a>(found: &ArgMatches<'a>) -> Result<NewVolume<'a>, Complaint<'a
         block_size,
         label,
     })
+}
+
+// Reads the arguments of `soak`.
+fn read_workload<'a>(found: &ArgMatches<'a>) -> Result<Workload, Complaint<'a>>
+    ensures { MatchResult result (λ w. IsWorkload (rows_of (found_of found.now)) w.seed w.count)
+        (λ _. (seed count : ℕ) → IsWorkload (rows_of (found_of found.now)) seed count → ⊥) }
+{
+    let seed = seed_in(word_of(found, "seed"))?;
+    let count = count_in(word_of(found, "count"))?;
+    one_worker_in(word_of(found, "workers"))?;
+    Ok(Workload { seed, count })
 }
 
 // Reads the command that `clap` found.
@@ -126,6 +164,12 @@ fn read_found<'a>(matches: &ArgMatches<'a>) -> Command<'a>
     if name == "sh" {
         return match one_worker_in(word_of(found, "workers")) {
             Ok(()) => Command::Shell,
+            Err(complaint) => Command::Faulty(complaint),
+        };
+    }
+    if name == "soak" {
+        return match read_workload(found) {
+            Ok(workload) => Command::Soak(workload),
             Err(complaint) => Command::Faulty(complaint),
         };
     }

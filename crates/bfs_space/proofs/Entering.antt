@@ -99,12 +99,12 @@ module _ (t0 : Mounted) (old : SpaceBooks) (m : ℕ → Option (List ℕ)) (face
           taken : ℕ
           taken = need (volume_in (geometry_of old.view.sup) (over old.view.group m)) (after t0 old.view.history) call
 
-      pub entered_with : (history : List Entry) (promised : List ℕ) (stop : Option Stop) (left : ℕ) → history ≡ old.view.history ++ entry ∷ []
-          → HasEntered t0 old (record { view = record old.view { used = new.tally.used; group = group; history = history; given = new.given }; room = new; promised = promised; stop = stop; left = left }) m session tag now call
-      entered_with history promised stop left items =
+      pub entered_with : (history : List Entry) (promised : List ℕ) (stop : Option Stop) (left nodes : ℕ) → history ≡ old.view.history ++ entry ∷ []
+          → HasEntered t0 old (record { view = record old.view { used = new.tally.used; group = group; history = history; given = new.given }; room = new; promised = promised; stop = stop; left = left; nodes = nodes }) m session tag now call
+      entered_with history promised stop left nodes items =
           let used = ap (λ (x : Room). x.tally.used) kept.kept in
           let runs = ap (λ (x : Room). x.given) kept.kept in
-          has_entered (record { view = record old.view { used = new.tally.used; group = group; history = history; given = new.given }; room = new; promised = promised; stop = stop; left = left })
+          has_entered (record { view = record old.view { used = new.tally.used; group = group; history = history; given = new.given }; room = new; promised = promised; stop = stop; left = left; nodes = nodes })
           (λ j. record old.view { used = used j; group = group; history = items j; given = runs j }) refl
 
     -- a call that was turned away
@@ -145,18 +145,18 @@ module _ (t0 : Mounted) (old : SpaceBooks) (m : ℕ → Option (List ℕ)) (face
         blocks = subst (λ (v : SpaceView). KeepsBlocks (face old.view m) (face v m) (after t0 old.view.history) (after t0 v.history) call) (sym view) (λ id n x is file later regular. inl refl);
       }
 
-      pub away_with : (new : Room) (group : List (ℕ × List ℕ)) (history : List Entry) (promised : List ℕ) (stop : Option Stop) (left : ℕ) → new ≡ old.room → group ≡ old.view.group → history ≡ old.view.history ++ entry ∷ []
-          → HasEntered t0 old (record { view = record old.view { used = new.tally.used; group = group; history = history; given = new.given }; room = new; promised = promised; stop = stop; left = left }) m session tag now call
-      away_with new group history promised stop left same pairs items =
+      pub away_with : (new : Room) (group : List (ℕ × List ℕ)) (history : List Entry) (promised : List ℕ) (stop : Option Stop) (left nodes : ℕ) → new ≡ old.room → group ≡ old.view.group → history ≡ old.view.history ++ entry ∷ []
+          → HasEntered t0 old (record { view = record old.view { used = new.tally.used; group = group; history = history; given = new.given }; room = new; promised = promised; stop = stop; left = left; nodes = nodes }) m session tag now call
+      away_with new group history promised stop left nodes same pairs items =
           let count = ap (λ (x : Room). x.tally.used) same ∙ used in
           let runs = ap (λ (x : Room). x.given) same ∙ given in
-          turned_away (record { view = record old.view { used = new.tally.used; group = group; history = history; given = new.given }; room = new; promised = promised; stop = stop; left = left })
+          turned_away (record { view = record old.view { used = new.tally.used; group = group; history = history; given = new.given }; room = new; promised = promised; stop = stop; left = left; nodes = nodes })
           (λ j. record old.view { used = count j; group = pairs j; history = items j; given = runs j }) same
 
     -- a call that has a reply is entered
-    pub replied_with : (Idle : Type 0) (new : Room) (group : List (ℕ × List ℕ)) (history : List Entry) (promised : List ℕ) (stop : Option Stop) (left : ℕ) → AreOfSize old.view.sup.block_size group → (Idle → IsIdle old)
+    pub replied_with : (Idle : Type 0) (new : Room) (group : List (ℕ × List ℕ)) (history : List Entry) (promised : List ℕ) (stop : Option Stop) (left nodes : ℕ) → AreOfSize old.view.sup.block_size group → (Idle → IsIdle old)
         → IsReplied (geometry_of old.view.sup) old.room new m old.view.group group (after t0 old.view.history) (holds_after t0 old.view.history) Idle entry.stamp call reply → history ≡ old.view.history ++ entry ∷ []
-        → HasEntered t0 old (record { view = record old.view { used = new.tally.used; group = group; history = history; given = new.given }; room = new; promised = promised; stop = stop; left = left }) m session tag now call
-    replied_with Idle new group history promised stop left sized idle (inl done) items = entered_with new group sized done history promised stop left items
-    replied_with Idle new group history promised stop left sized idle (inr away) items =
-        away_with (outside_for (geometry_of old.view.sup) old.room (over old.view.group m) (after t0 old.view.history) (holds_after t0 old.view.history) Idle (IsIdle old) call reply idle away.why) new group history promised stop left away.room away.group items
+        → HasEntered t0 old (record { view = record old.view { used = new.tally.used; group = group; history = history; given = new.given }; room = new; promised = promised; stop = stop; left = left; nodes = nodes }) m session tag now call
+    replied_with Idle new group history promised stop left nodes sized idle (inl done) items = entered_with new group sized done history promised stop left nodes items
+    replied_with Idle new group history promised stop left nodes sized idle (inr away) items =
+        away_with (outside_for (geometry_of old.view.sup) old.room (over old.view.group m) (after t0 old.view.history) (holds_after t0 old.view.history) Idle (IsIdle old) call reply idle away.why) new group history promised stop left nodes away.room away.group items

@@ -11,9 +11,9 @@ use Rattle.bfs_tree.specs.Refusals.{at_node, first, is_built_in, own_refusal}
 use Rattle.bfs_tree.specs.States.{State}
 use Rattle.bfs_tree.specs.Steps.{ByTree}
 use Rattle.bfs_tree.specs.Trees.{Attribute, Node, Tree, child}
-use Rattle.bfs_attr_calls.specs.Removed.{HasAttributeAt}
-use Rattle.bfs_remove_index.specs.Removed.{IsOwnIndex}
-use Rattle.bfs_remove_index.proofs.Refusing.{no_such_index, is_there_so}
+use Rattle.bfs_index_make.specs.Removed.{HasAttributeAt}
+use Rattle.bfs_index_make.specs.RemoveIndexRemoved.{IsOwnIndex}
+use Rattle.bfs_index_make.proofs.RemoveIndexRefusing.{no_such_index, is_there_so}
 use Rattle.bfs_space.specs.Answered.{AnswersIn}
 
 -- of a node that is removed

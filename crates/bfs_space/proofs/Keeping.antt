@@ -22,7 +22,7 @@ use Rattle.bfs_shift.proofs.OneIndex.{own_first}
 use Rattle.bfs_shift.proofs.Owners.{owners_are}
 use Rattle.bfs_moves.proofs.Ends.{reached}
 use Rattle.bfs_leave.specs.Leaving.{GivesBack}
-use Rattle.bfs_set_size.specs.Resizing.{IsLonger, Resizes}
+use Rattle.bfs_hold.specs.Resizing.{IsLonger, Resizes}
 use Rattle.bfs_space.specs.Files.{AreKeptBy, KeepsBlocks}
 
 one_more : (k : ℕ) → 1 ≤ times k (k ∷ [])

@@ -21,8 +21,8 @@ use Rattle.bfs_leave.specs.Laws.{IsCallLeft, StaysSo}
 use Rattle.bfs_leave.specs.Leaving.{GivesBack, IsLeft}
 use Rattle.bfs_leave.proofs.Steps.{call_is_left}
 use Rattle.bfs_look.specs.Ready.{IsReady}
-use Rattle.bfs_set_size.specs.Sized.{IsSizedSo}
-use Rattle.bfs_set_size.proofs.Steps.{sized_is_left}
+use Rattle.bfs_hold.specs.Sized.{IsSizedSo}
+use Rattle.bfs_hold.proofs.Steps.{sized_is_left}
 use Rattle.bfs_core.specs.Spaces.{IsFresh}
 use Rattle.bfs_space.specs.Called.{IsCalled, StaysAs}
 use Rattle.bfs_space.specs.Answered.{AnswersIn, IsAnswered}

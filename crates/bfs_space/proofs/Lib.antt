@@ -14,6 +14,8 @@ pub mod Gone
 pub mod Indexed
 pub mod Put
 pub mod Turned
+pub mod Replaced
+pub mod Counting
 pub mod Plain
 pub mod Following
 pub mod Entering

@@ -37,7 +37,7 @@ use Rattle.bfs_shift.specs.Shifts.{volume_in}
 use Rattle.bfs_shift.specs.Stocked.{Stocked}
 use Rattle.bfs_shift.specs.Work.{IsAtWork}
 use Rattle.bfs_moves.proofs.Ends.{reached}
-use Rattle.bfs_set_size.proofs.Owned.{file_owns, file_size}
+use Rattle.bfs_hold.proofs.Owned.{file_owns, file_size}
 use Rattle.bfs_core.proofs.Masks.{data_when}
 use Rattle.bfs_hold.proofs.Refusing.{no_node, no_file, too_big, past_end}
 use Rattle.bfs_space.specs.Looks.{IsHeldIn, IsLooked, is_to_do}

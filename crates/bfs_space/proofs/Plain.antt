@@ -1,5 +1,5 @@
 -- The reply of a hold is Done where it is done.
-use Rattle.std.proofs.Common.{◌≡◌, ◌∙◌, ◌⊎◌, ℕ, ℤ, List, Bool, true, false, Option, inl, inr, None, Some, refl, sym, ap, subst}
+use Rattle.std.proofs.Common.{◌≡◌, ◌∙◌, ℕ, ℤ, List, Bool, true, false, Option, inl, inr, refl, sym, ap}
 use Rattle.std.specs.Prelude.{◌&&◌, not, if◌then◌else◌}
 use Rattle.std.specs.FinMap.{empty}
 use Rattle.bfs_super.specs.declared.geometry.Geometry.{Geometry}

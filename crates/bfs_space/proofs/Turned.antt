@@ -26,7 +26,7 @@ use Rattle.bfs_tree.specs.Steps.{Turn}
 use Rattle.bfs_tree.specs.Trees.{Tree}
 use Rattle.bfs_device.specs.declared.journal.Stop.{Stop}
 use Rattle.bfs_calls.specs.Done.{HasAnswerCause, IsUnanswered}
-use Rattle.bfs_attr_put.specs.Written.{HasWriteCause}
+use Rattle.bfs_index_make.specs.Written.{HasWriteCause}
 use Rattle.bfs_sound.specs.Need.{need}
 use Rattle.bfs_shift.specs.Shifts.{volume_in}
 use Rattle.bfs_space.specs.Replies.{HasFewRuns, array_run, takes_out, HasReplyCause, IsChange, IsNoReply, IsOutside, IsPutOff, IsReplied, IsThat, IsTooLong, reply_to, reply_to_block}

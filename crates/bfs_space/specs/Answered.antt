@@ -16,7 +16,7 @@ use Rattle.bfs_tree.specs.Steps.{ByTree}
 use Rattle.bfs_tree.specs.Trees.{Tree}
 use Rattle.bfs_device.specs.Layouts.{Layout, IsData, ring_count}
 use Rattle.bfs_calls.specs.Done.{IsDoneSo, IsUnanswered}
-use Rattle.bfs_attr_put.specs.Written.{HasWriteCause}
+use Rattle.bfs_index_make.specs.Written.{HasWriteCause}
 use Rattle.bfs_look.specs.Ready.{IsReady}
 use Rattle.bfs_leave.specs.Leaving.{IsLeft}
 use Rattle.bfs_shift.specs.Lists.{Lists, Agrees}

@@ -19,13 +19,14 @@ use Rattle.bfs_device.specs.Layouts.{Layout, IsData, layout_of, ring_count}
 use Rattle.bfs_core.specs.Spaces.{SpaceView, opened, noted}
 
 -- The space itself; what its bitmap knows beside the bits; the sessions that are promised room for an entry; the stop of the device, once an
--- entry has told it; and up to which number it has heard that groups have left the log.
+-- entry has told it; up to which number it has heard that groups have left the log; and how many nodes there are.
 pub record SpaceBooks : Type 0 where
   pub view : SpaceView
   pub room : Room
   pub promised : List ℕ
   pub stop : Option Stop
   pub left : ℕ
+  pub nodes : ℕ
 
 -- the bitmap of a volume before any call
 abbrev pub first_room : Super → Room
@@ -46,9 +47,9 @@ sealed_room group v = record v { given = map (numbered group) v.given; last = gr
 abbrev pub released_room : ℕ → Room → Room
 released_room group v = record v { given = filter (λ g. not (is_left group g)) v.given; tally = lowered_by group v.given v.tally; tally_kept = lowered_by group v.given v.tally_kept }
 
--- a space that was opened: session 0 is promised one entry
-abbrev pub fresh : Super → SpaceBooks
-fresh sup = record { view = opened sup; room = first_room sup; promised = 0 ∷ []; stop = None; left = 0 }
+-- a space that was opened on so many nodes: session 0 is promised one entry
+abbrev pub fresh : Super → ℕ → SpaceBooks
+fresh sup nodes = record { view = opened sup; room = first_room sup; promised = 0 ∷ []; stop = None; left = 0; nodes = nodes }
 
 -- the promises without those to a session
 abbrev pub without : ℕ → List ℕ → List ℕ

@@ -8,7 +8,7 @@ use Rattle.bfs_tree.specs.Histories.{Mounted, Follows, IsFilePlace, after, state
 use Rattle.bfs_tree.specs.Trees.{Node, Tree, IsNode, is_file}
 use Rattle.bfs_sound.specs.Inodes.{stream_blocks}
 use Rattle.bfs_sound.specs.Volumes.{Volume}
-use Rattle.bfs_set_size.specs.Resizing.{Begins}
+use Rattle.bfs_hold.specs.Resizing.{Begins}
 
 -- the call gives this file a size
 abbrev pub GivesSize : Call → ℕ → Type 0

@@ -6,6 +6,7 @@ pub mod BuiltLaws
 pub mod Answered
 pub mod Replies
 pub mod Faces
+pub mod Replaced
 pub mod Files
 pub mod Taken
 pub mod FileLaws

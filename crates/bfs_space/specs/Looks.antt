@@ -12,8 +12,8 @@ use Rattle.bfs_sound.specs.Need.{cost_of, logged_need, need}
 use Rattle.bfs_shift.specs.Shifts.{volume_in}
 use Rattle.bfs_calls.specs.Allowances.{allowance}
 use Rattle.bfs_calls.specs.Refusals.{is_own, MayBeMade}
-use Rattle.bfs_set_size.specs.Sized.{MayBeSized}
-use Rattle.bfs_attr_put.specs.Written.{MayBear}
+use Rattle.bfs_hold.specs.Sized.{MayBeSized}
+use Rattle.bfs_index_make.specs.Written.{MayBear}
 use Rattle.bfs_index_make.specs.Made.{MayIndex}
 use Rattle.bfs_rename.specs.Refused.{IsPlace}
 use Rattle.bfs_super.specs.Conditions.{natural}

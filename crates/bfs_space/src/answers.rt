@@ -17,7 +17,7 @@ ghost use Rattle.bfs_shift.specs.Lists.{Lists};
 ghost use Rattle.bfs_look.specs.Ready.{IsReady, HasReady};
 ghost use Rattle.bfs_calls.specs.Done.{IsUnanswered, HasAnswerCause};
 ghost use Rattle.bfs_calls.specs.Refusals.{is_own};
-ghost use Rattle.bfs_attr_put.specs.Written.{HasWriteCause};
+ghost use Rattle.bfs_index_make.specs.Written.{HasWriteCause};
 ghost use Rattle.bfs_space.specs.Answered.{IsAnswered, asked};
 ghost use Rattle.bfs_space.specs.Looks.{IsLooked, FindsMay, FindsOwn};
 

@@ -16,6 +16,7 @@ mod looking;
 mod moving;
 mod pieces;
 mod promises;
+mod replacing;
 mod replying;
 mod sizing;
 mod space;

@@ -14,7 +14,7 @@ ghost use Rattle.bfs_tree.specs.Trees.{Tree};
 ghost use Rattle.bfs_shift.specs.Lists.{Lists};
 ghost use Rattle.bfs_look.specs.Ready.{IsReady, HasReady};
 ghost use Rattle.bfs_calls.specs.Done.{IsUnanswered, HasAnswerCause};
-ghost use Rattle.bfs_attr_put.specs.Written.{HasWriteCause};
+ghost use Rattle.bfs_index_make.specs.Written.{HasWriteCause};
 ghost use Rattle.bfs_rename.specs.Refused.{IsPlace};
 ghost use Rattle.bfs_space.specs.Answered.{IsAnswered, asked};
 ghost use Rattle.bfs_space.specs.Looks.{IsLooked, FindsMay, FindsOwn, MayBeDone};

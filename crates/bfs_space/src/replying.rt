@@ -26,12 +26,14 @@ ghost use Rattle.bfs_space.specs.Answered.{StaysIdle};
 ghost use Rattle.bfs_space.specs.Books.{MayBeSealed};
 ghost use Rattle.bfs_space.specs.Looks.{IsAllowed, IsLooked, FindsMay, FindsOwn, is_to_do};
 ghost use Rattle.bfs_space.specs.Replies.{HasReplyCause, IsChange, IsNoReply, IsOutside, IsReplied, IsThat, IsTooLong, reply_to};
+ghost use Rattle.bfs_space.specs.Replaced.{FindsPlace};
 ghost use Rattle.bfs_space.specs.declared.replying.NoReply.TheVariants as none;
 
 use crate::calling::{CallFault, answer_call};
 use crate::keep::Unkept;
 use crate::lacking::{lacks_space, reply_to_fault};
 use crate::looking::look_call;
+use crate::replacing::takes_place;
 use crate::{Allowance, Answers, Looked};
 use bfs_bitmap::Bitmap;
 use bfs_device::Stop;
@@ -243,6 +245,54 @@ pub fn reply_call<A: Answers, B: Blocks>(
     )
 }
 
+/// The same, and whether the call takes the place of another node where it is done.
+fn reply_counted<A: Answers, B: Blocks>(
+    alloc: Global,
+    sup: &Super,
+    answers: &A,
+    bitmap: &mut Bitmap,
+    group: &mut Changed,
+    under: &mut B,
+    idle: bool,
+    holds: &[Hold],
+    call: &Call,
+    stamp: i64,
+    replaced: &mut bool,
+) -> Result<Reply, NoReply>
+    requires valid { IsValid sup.now }
+    requires size { B.size under.old ≡ sup.now.block_size }
+    requires volume { IsOfVolume (sizes_of sup.now) bitmap.old }
+    requires settled { IsSettled bitmap.old }
+    requires group { MayBeSealed (layout_of sup.now) sup.now.block_size group.old }
+    requires serves { A.serves call.now ≡ true }
+    requires ranges { KeepsRanges call.now }
+    requires ready { (m : ℕ → Option (List ℕ)) → B.told under.old ≡ Some m → HasReady (geometry_of sup.now) bitmap.old (over group.old m) }
+    requires empty { idle ≡ true → group.old ≡ [] }
+    ensures replied { (m : ℕ → Option (List ℕ)) (tree : Tree) (lists : Lists) → B.told under.old ≡ Some m → IsReady (geometry_of sup.now) bitmap.old (over group.old m) tree lists → IfOk result (IsReplied (geometry_of sup.now) bitmap.old bitmap.new m group.old group.new tree holds.now (idle ≡ true) stamp call.now) }
+    ensures put_off { (m : ℕ → Option (List ℕ)) (tree : Tree) (lists : Lists) → B.told under.old ≡ Some m → IsReady (geometry_of sup.now) bitmap.old (over group.old m) tree lists → IfErr result (IsNoReply (geometry_of sup.now) bitmap.old (over group.old m) (length group.old) tree holds.now (idle ≡ true) call.now) }
+    ensures cause { (stop : Option stops.Stop) → IfOk result (HasReplyCause (B.counts under.old) (B.counts under.new) stop) }
+    ensures left { OnErr result ((group.new ≡ group.old) × (bitmap.new ≡ bitmap.old)) }
+    ensures idle { StaysIdle bitmap.old bitmap.new group.old group.new }
+    ensures group { MayBeSealed (layout_of sup.now) sup.now.block_size group.new }
+    ensures settled { IsSettled bitmap.new }
+    ensures volume { IsOfVolume (sizes_of sup.now) bitmap.new }
+    ensures last { bitmap.new.last ≡ bitmap.old.last }
+    ensures told { B.told under.new ≡ B.told under.old }
+    ensures note { (B.frame under.new).note ≡ (B.frame under.old).note }
+    ensures size { B.size under.new ≡ B.size under.old }
+    ensures found { (m : ℕ → Option (List ℕ)) (tree : Tree) (lists : Lists) → B.told under.old ≡ Some m → IsReady (geometry_of sup.now) bitmap.old (over group.old m) tree lists → IfOk result (λ reply. is_done reply ≡ true → FindsPlace tree call.now replaced.new) }
+{
+    match takes_place(alloc, sup, bitmap, group, under, call) {
+        Ok(found) => {
+            *replaced = found;
+            reply_call(
+                alloc, sup, answers, bitmap, group, under, idle, holds, call, stamp,
+            )
+        }
+        Err(fault) => reply_to_step(fault),
+    }
+}
+
 /// The same; but once an entry has told that the device has stopped, each call is answered so.
 pub fn reply_or_stopped<A: Answers, B: Blocks>(
     stop: Option<Stop>,
@@ -256,6 +306,7 @@ pub fn reply_or_stopped<A: Answers, B: Blocks>(
     holds: &[Hold],
     call: &Call,
     stamp: i64,
+    replaced: &mut bool,
 ) -> Result<Reply, NoReply>
     requires valid { IsValid sup.now }
     requires size { B.size under.old ≡ sup.now.block_size }
@@ -269,6 +320,7 @@ pub fn reply_or_stopped<A: Answers, B: Blocks>(
     ensures replied { (m : ℕ → Option (List ℕ)) (tree : Tree) (lists : Lists) → B.told under.old ≡ Some m → IsReady (geometry_of sup.now) bitmap.old (over group.old m) tree lists → IfOk result (IsReplied (geometry_of sup.now) bitmap.old bitmap.new m group.old group.new tree holds.now (idle ≡ true) stamp call.now) }
     ensures put_off { (m : ℕ → Option (List ℕ)) (tree : Tree) (lists : Lists) → B.told under.old ≡ Some m → IsReady (geometry_of sup.now) bitmap.old (over group.old m) tree lists → IfErr result (IsNoReply (geometry_of sup.now) bitmap.old (over group.old m) (length group.old) tree holds.now (idle ≡ true) call.now) }
     ensures cause { IfOk result (HasReplyCause (B.counts under.old) (B.counts under.new) stop) }
+    ensures found { (m : ℕ → Option (List ℕ)) (tree : Tree) (lists : Lists) → B.told under.old ≡ Some m → IsReady (geometry_of sup.now) bitmap.old (over group.old m) tree lists → IfOk result (λ reply. is_done reply ≡ true → FindsPlace tree call.now replaced.new) }
     ensures stopped { (s : stops.Stop) → stop ≡ Some s → IfOk result (λ reply. is_stopped reply ≡ true) }
     ensures left { OnErr result ((group.new ≡ group.old) × (bitmap.new ≡ bitmap.old)) }
     ensures idle { StaysIdle bitmap.old bitmap.new group.old group.new }
@@ -282,8 +334,8 @@ pub fn reply_or_stopped<A: Answers, B: Blocks>(
 {
     match stop {
         Some(Stop { durable, faults }) => Ok(Reply::Stopped { durable, faults }),
-        None => reply_call(
-            alloc, sup, answers, bitmap, group, under, idle, holds, call, stamp,
+        None => reply_counted(
+            alloc, sup, answers, bitmap, group, under, idle, holds, call, stamp, replaced,
         ),
     }
 }

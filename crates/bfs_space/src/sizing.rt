@@ -14,13 +14,13 @@ ghost use Rattle.bfs_tree.specs.Trees.{Tree};
 ghost use Rattle.bfs_shift.specs.Lists.{Lists};
 ghost use Rattle.bfs_look.specs.Ready.{IsReady, HasReady};
 ghost use Rattle.bfs_calls.specs.Done.{IsUnanswered, HasAnswerCause};
-ghost use Rattle.bfs_set_size.specs.Sized.{MayBeSized};
+ghost use Rattle.bfs_hold.specs.Sized.{MayBeSized};
 ghost use Rattle.bfs_space.specs.Answered.{IsAnswered};
 ghost use Rattle.bfs_space.specs.Looks.{IsLooked, FindsMay, FindsOwn, MayBeDone};
 
 use crate::{Allowance, Looked};
 use bfs_bitmap::Bitmap;
-use bfs_set_size::{set_size, set_size_allowance, set_size_refusal};
+use bfs_hold::set_size::{set_size, set_size_allowance, set_size_refusal};
 use bfs_stream_pages::MapFault;
 use bfs_super::Super;
 use bfs_tree::{Hold, Reply};

@@ -10,7 +10,8 @@ ghost use Rattle.bfs_tree.specs.Answers.{KeepsRanges};
 ghost use Rattle.bfs_tree.specs.Steps.{is_done};
 ghost use Rattle.bfs_tree.specs.declared.reply.Entry as entries;
 ghost use Rattle.bfs_tree.specs.declared.reply.Reply.TheVariants.{Done};
-ghost use Rattle.bfs_tree.specs.Histories.{Mounted};
+ghost use Rattle.bfs_tree.specs.Histories.{Mounted, after};
+ghost use Rattle.bfs_count.specs.Counts.{nodes_of};
 ghost use Rattle.bfs_core.specs.Spaces.{IsGroupFor, sealed_space, released_space};
 ghost use Rattle.bfs_space.specs.Faces.{IsFaceOf, HasFace, HasOutcome, IsOutcome};
 ghost use Rattle.bfs_space.specs.Holds.{keeps_holds};
@@ -27,6 +28,7 @@ use crate::promises::{make_room, take_entry};
 use crate::replying::{NoReply, reply_or_stopped};
 use crate::stamp::draw;
 use bfs_bitmap::Bitmap;
+use bfs_count::counted;
 use bfs_device::Stop;
 use bfs_super::Super;
 use bfs_tree::{Call, Entry, Hold, Reply};
@@ -37,6 +39,9 @@ use std::mem::replace;
 
 /// The most entries and promises that a space takes.
 const MOST: usize = 1 << 60;
+
+/// The most nodes that are counted. A volume has fewer blocks.
+const MOST_NODES: u64 = 1 << 60;
 
 /// What has become of a call: it has an entry, which is the last one; or it is put off and handed back, since it needs more space or room in the
 /// log than there is while something is held back.
@@ -65,6 +70,8 @@ pub struct Space {
     stop: Option<Stop>,
     /// Up to which number groups have left the log.
     left: u64,
+    /// How many nodes there are.
+    nodes: u64,
 }
 
 impl Model for Space {
@@ -75,7 +82,7 @@ impl Model for Space {
 
     ghost Value = { SpaceBooks };
 
-    ghost view = { λ s. record { view = record { sup = s.sup; used = s.bitmap.tally.used; group = s.group; history = s.history.items; sealed = s.sealed; sealed_used = s.sealed_used; given = s.bitmap.given }; room = s.bitmap; promised = s.promised.items; stop = s.stop; left = s.left } };
+    ghost view = { λ s. record { view = record { sup = s.sup; used = s.bitmap.tally.used; group = s.group; history = s.history.items; sealed = s.sealed; sealed_used = s.sealed_used; given = s.bitmap.given }; room = s.bitmap; promised = s.promised.items; stop = s.stop; left = s.left; nodes = s.nodes } };
 
     ghost invariant = { λ s. HasParts s.sup s.bitmap s.group s.sealed (length s.history.items) × IsLastStamp s.history.items s.last × (length s.history.items + length s.promised.items ≤ vec_capacity s.history) × (length s.history.items + length s.promised.items ≤ 2 ^ 60) × KnowsStop s.history.items s.stop × (s.holds.items ≡ held_by s.history.items) × (length s.holds.items + length s.promised.items ≤ vec_capacity s.holds) };
 }
@@ -83,13 +90,13 @@ impl Model for Space {
 impl Space {
     ghost use Rattle.bfs_space.specs.Books.{SpaceBooks};
 
-    /// The space of a volume that is whole with an empty log, with an empty history and nothing reserved. It promises session 0
-    /// one entry.
-    pub fn open(alloc: Global, sup: Super) -> Result<Space, AllocError>
+    /// The space of a volume that is whole with an empty log and has so many nodes, with an empty history and nothing reserved. It
+    /// promises session 0 one entry.
+    pub fn open(alloc: Global, sup: Super, nodes: u64) -> Result<Space, AllocError>
         requires valid { IsValid sup }
         requires emptied { sup.log_start ≡ sup.log_end }
         requires used { natural sup.used_blocks ≤ natural sup.num_blocks }
-        ensures { IfOk result (λ s. s ≡ fresh sup) }
+        ensures { IfOk result (λ s. s ≡ fresh sup nodes) }
     {
         let history = Vec::with_capacity(alloc, 1)?;
         let mut promised = Vec::new(alloc);
@@ -109,6 +116,7 @@ impl Space {
             holds,
             stop: None,
             left: 0,
+            nodes,
             sup,
         })
     }
@@ -125,6 +133,13 @@ impl Space {
         ensures { result ≡ (geometry_of self.now.view.sup).root }
     {
         self.sup.geometry().root
+    }
+
+    /// How many nodes there are, by what was counted when the volume was opened and by each call since. Takes no memory.
+    pub fn nodes(&self) -> u64
+        ensures { result ≡ self.now.nodes }
+    {
+        self.nodes
     }
 
     /// How many bytes a block has, which are at most 8,192. Takes no memory.
@@ -153,6 +168,7 @@ impl Space {
             holds: _,
             stop: _,
             left: _,
+            nodes: _,
         } = self;
         history
     }
@@ -222,6 +238,8 @@ impl Space {
         requires size { B.size under.old ≡ self.old.view.sup.block_size }
         requires faced { (m : ℕ → Option (List ℕ)) → B.told under.old ≡ Some m → HasFace self.old m }
         ensures entered { (t0 : Mounted) (m : ℕ → Option (List ℕ)) → B.told under.old ≡ Some m → IsFaceOf t0 self.old m → IfOk result (IsOutcome t0 self.old self.new m session tag now call) }
+        // Where they were counted rightly, the nodes are.
+        ensures counted { (t0 : Mounted) (m : ℕ → Option (List ℕ)) → B.told under.old ≡ Some m → IsFaceOf t0 self.old m → self.old.nodes ≡ nodes_of (after t0 self.old.view.history) → OnOk result (self.new.nodes ≡ nodes_of (after t0 self.new.view.history)) }
         ensures noted { IfOk result (HasOutcome (B.counts under.old) (B.counts under.new) self.old self.new session tag now call) }
         ensures no_memory { OnErr result (self.new ≡ self.old) }
         ensures told { B.told under.new ≡ B.told under.old }
@@ -235,8 +253,12 @@ impl Space {
             Ok(()) => {}
             Err(_) => return Err(without_call(call)),
         }
+        if self.nodes >= MOST_NODES {
+            return Err(without_call(call));
+        }
         let stamp = draw(self.last, now);
         let idle = self.is_idle();
+        let mut replaced = false;
         match reply_or_stopped(
             self.stop,
             self.alloc,
@@ -249,9 +271,11 @@ impl Space {
             self.holds.as_slice(),
             &call,
             stamp,
+            &mut replaced,
         ) {
             Ok(reply) => {
                 self.last = stamp;
+                self.nodes = counted(self.nodes, &call, &reply, replaced);
                 let entry = Entry {
                     session,
                     tag,
@@ -287,6 +311,8 @@ impl Space {
         requires size { B.size under.old ≡ self.old.view.sup.block_size }
         requires faced { (m : ℕ → Option (List ℕ)) → B.told under.old ≡ Some m → HasFace self.old m }
         ensures entered { (t0 : Mounted) (m : ℕ → Option (List ℕ)) → B.told under.old ≡ Some m → IsFaceOf t0 self.old m → IfOk result (IsOutcome t0 self.old self.new m session tag now (calls.Hold id at length write)) }
+        // A hold leaves the nodes as they are.
+        ensures counted { (t0 : Mounted) (m : ℕ → Option (List ℕ)) → B.told under.old ≡ Some m → IsFaceOf t0 self.old m → self.old.nodes ≡ nodes_of (after t0 self.old.view.history) → OnOk result (self.new.nodes ≡ nodes_of (after t0 self.new.view.history)) }
         ensures noted { IfOk result (HasOutcome (B.counts under.old) (B.counts under.new) self.old self.new session tag now (calls.Hold id at length write)) }
         ensures places { IfOk result (λ o. ArePlaces self.old self.new at length places.new.items) }
         ensures piece { (t0 : Mounted) (m : ℕ → Option (List ℕ)) → B.told under.old ≡ Some m → IsFaceOf t0 self.old m → IfOk result (λ o. HavePiece self.old self.new m id at length places.new.items) }

@@ -19,10 +19,10 @@ ghost use Rattle.bfs_space.specs.Answered.{IsAnswered};
 ghost use Rattle.bfs_space.specs.Looks.{IsLooked, FindsMay, FindsOwn, MayBeDone};
 
 use crate::{Allowance, Looked};
-use bfs_attr_calls::{attr_remove_refusal, remove_attr, remove_attr_allowance};
 use bfs_bitmap::Bitmap;
-use bfs_remove_index::{remove_index, remove_index_allowance, remove_index_refusal};
-use bfs_remove_node::{remove_allowance, remove_node, remove_refusal};
+use bfs_index_make::attr_calls::{attr_remove_refusal, remove_attr, remove_attr_allowance};
+use bfs_index_make::remove_index::{remove_index, remove_index_allowance, remove_index_refusal};
+use bfs_rename::remove_node::{remove_allowance, remove_node, remove_refusal};
 use bfs_stream_pages::MapFault;
 use bfs_super::Super;
 use bfs_tree::{Hold, Reply};

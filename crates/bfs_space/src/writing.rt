@@ -15,13 +15,13 @@ ghost use Rattle.bfs_tree.specs.Trees.{Tree};
 ghost use Rattle.bfs_shift.specs.Lists.{Lists};
 ghost use Rattle.bfs_look.specs.Ready.{IsReady, HasReady};
 ghost use Rattle.bfs_calls.specs.Done.{IsUnanswered, HasAnswerCause};
-ghost use Rattle.bfs_attr_put.specs.Written.{MayBear, HasWriteCause};
+ghost use Rattle.bfs_index_make.specs.Written.{MayBear, HasWriteCause};
 ghost use Rattle.bfs_space.specs.Answered.{IsAnswered, asked};
 ghost use Rattle.bfs_space.specs.Looks.{IsLooked, FindsMay, FindsOwn, MayBeDone};
 
 use crate::{Allowance, Looked};
-use bfs_attr_put::{attr_write_refusal, write_attr, write_attr_allowance};
 use bfs_bitmap::Bitmap;
+use bfs_index_make::attr_put::{attr_write_refusal, write_attr, write_attr_allowance};
 use bfs_stream_pages::MapFault;
 use bfs_super::Super;
 use bfs_tree::Reply;

@@ -4,7 +4,7 @@ use Rattle.bfs_super.specs.Geometry.{geometry_of}
 use Rattle.bfs_tree.specs.declared.call.Call.TheVariants.{IndexMake}
 use Rattle.bfs_tree.specs.declared.reply.Reply.TheVariants.{Done}
 use Rattle.bfs_tree.specs.States.{State}
-use Rattle.bfs_remove_index.proofs.Whole.{rest_more, kept_still}
+use Rattle.bfs_index_make.proofs.RemoveIndexWhole.{rest_more, kept_still}
 use Rattle.bfs_index_make.proofs.Refusing.{new_index}
 use Rattle.bfs_space.proofs.Done.{done_is_answered}
 use Rattle.bfs_space.proofs.Indexed.{indexed_so}

@@ -1,10 +1,7 @@
-use Rattle.std.proofs.Common.{rules, ◌≡◌, ◌∙◌, ℕ, ℤ, List, true, length, sym, ap, subst, w64, to_z, of_z}
-use Rattle.std.specs.List.{All}
+use Rattle.std.proofs.Common.{rules, ◌≡◌, ◌∙◌, ℤ, true, sym, ap, subst, w64, to_z, of_z}
 use Rattle.bfs_super.specs.Geometry.{geometry_of}
-use Rattle.bfs_txn.specs.Changed.{over}
 use Rattle.bfs_tree.specs.declared.call.Call.{Call}
 use Rattle.bfs_tree.specs.declared.reply.Reply.{Reply}
-use Rattle.bfs_tree.specs.declared.reply.Reply.TheVariants as replies
 use Rattle.bfs_tree.specs.Steps.{is_done}
 use Rattle.bfs_space.specs.Replies.{HasReplyCause, IsReplied}
 use Rattle.bfs_space.proofs.Plain.{done_plain, plain_caused, plain_done, plain_same}

@@ -1,7 +1,7 @@
 use Rattle.std.proofs.Common.{rules, ◌≡◌, ℤ, refl, subst, w64, to_z, of_z}
 use Rattle.std.specs.FinMap.{empty}
 use Rattle.bfs_super.specs.Geometry.{geometry_of}
-use Rattle.bfs_set_size.specs.Sized.{IsSizedSo}
+use Rattle.bfs_hold.specs.Sized.{IsSizedSo}
 use Rattle.bfs_space.proofs.Left.{sized_is_answered}
 use Rattle.bfs_space.proofs.sizing.give_size.Goals as goal
 

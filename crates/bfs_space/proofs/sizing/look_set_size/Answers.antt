@@ -8,7 +8,7 @@ use Rattle.bfs_tree.specs.States.{State}
 use Rattle.bfs_tree.specs.Steps.{ByTree}
 use Rattle.bfs_look.specs.Ready.{IsReady, HasReady}
 use Rattle.bfs_calls.proofs.Faulting.{undone_unanswered}
-use Rattle.bfs_set_size.proofs.Refusing.{may_be}
+use Rattle.bfs_hold.proofs.SetSizeRefusing.{may_be}
 use Rattle.bfs_space.proofs.sizing.look_set_size.Goals as goal
 
 pub returns-in-Err-clause-unanswered : goal.returns-in-Err-clause-unanswered

@@ -4,7 +4,7 @@ use Rattle.bfs_super.specs.Geometry.{geometry_of}
 use Rattle.bfs_tree.specs.declared.call.Call.TheVariants.{AttrRemove}
 use Rattle.bfs_tree.specs.declared.reply.Reply.TheVariants.{Done}
 use Rattle.bfs_calls.proofs.Faulting.{undone_unanswered}
-use Rattle.bfs_attr_calls.specs.Removed.{IsAttributeRemoved}
+use Rattle.bfs_index_make.specs.Removed.{IsAttributeRemoved}
 use Rattle.bfs_space.proofs.Left.{left_is_answered}
 use Rattle.bfs_space.proofs.Gone.{own_attribute, unattributed_answers}
 use Rattle.bfs_space.proofs.taking.drop_attr.Goals as goal

@@ -9,7 +9,7 @@ use Rattle.bfs_tree.specs.Steps.{ByTree}
 use Rattle.bfs_tree.specs.Trees.{child}
 use Rattle.bfs_look.specs.Ready.{IsReady, HasReady}
 use Rattle.bfs_calls.proofs.Faulting.{undone_unanswered}
-use Rattle.bfs_remove_node.proofs.Refusing.{may_be}
+use Rattle.bfs_rename.proofs.Refusing.{may_be}
 use Rattle.bfs_space.proofs.Alike.{allowed_alike, removing_gains}
 use Rattle.bfs_space.proofs.taking.look_remove.Goals as goal
 

@@ -4,8 +4,8 @@ use Rattle.bfs_super.specs.Geometry.{geometry_of}
 use Rattle.bfs_tree.specs.declared.call.Call.TheVariants.{Remove}
 use Rattle.bfs_tree.specs.declared.reply.Reply.TheVariants.{Done}
 use Rattle.bfs_calls.proofs.Faulting.{undone_unanswered}
-use Rattle.bfs_remove_node.specs.Removed.{IsRemovedIn}
-use Rattle.bfs_remove_node.proofs.Refusing.{may_be}
+use Rattle.bfs_rename.specs.Removed.{IsRemovedIn}
+use Rattle.bfs_rename.proofs.Refusing.{may_be}
 use Rattle.bfs_space.proofs.Left.{left_is_answered}
 use Rattle.bfs_space.proofs.Gone.{removed_answers}
 use Rattle.bfs_space.proofs.taking.remove.Goals as goal

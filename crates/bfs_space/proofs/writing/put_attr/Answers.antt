@@ -3,7 +3,7 @@ use Rattle.std.specs.FinMap.{empty}
 use Rattle.bfs_super.specs.Geometry.{geometry_of}
 use Rattle.bfs_tree.specs.declared.call.Call.TheVariants.{AttrWrite}
 use Rattle.bfs_tree.specs.declared.reply.Reply.TheVariants.{Done}
-use Rattle.bfs_attr_put.specs.Written.{IsAttributeWritten}
+use Rattle.bfs_index_make.specs.Written.{IsAttributeWritten}
 use Rattle.bfs_space.proofs.Left.{left_is_answered}
 use Rattle.bfs_space.proofs.Put.{own_written, written_answers}
 use Rattle.bfs_space.proofs.writing.put_attr.Goals as goal

@@ -15,6 +15,11 @@ use Rattle.bfs_space.specs.Books.{SpaceBooks, IsIdle, IsLastStamp, KnowsStop, en
 use Rattle.bfs_space.specs.Faces.{IsFaceOf, HasFace, HasEntered, HasReplied}
 use Rattle.bfs_space.specs.Holds.{holds_after}
 use Rattle.bfs_space.specs.Replies.{IsNoReply, IsPutOff, IsReplied}
+use Rattle.bfs_count.specs.Counts.{counted, nodes_of}
+use Rattle.bfs_space.proofs.Counting.{counted_on, last_same}
+use Rattle.bfs_space.specs.Replaced.{FindsPlace}
+use Rattle.bfs_tree.specs.declared.reply.Reply.{Reply}
+use Rattle.bfs_tree.specs.Steps.{is_done}
 use Rattle.bfs_space.proofs.Entering.{ready, replied_with}
 use Rattle.bfs_space.proofs.Groups.{parts_kept}
 use Rattle.bfs_space.proofs.Held.{held_is_after, kept_promises, still_held}
@@ -34,7 +39,7 @@ true_of false apart = absurd (apart refl)
 pub reply_or_stopped-requires-clause-ready : goal.reply_or_stopped-requires-clause-ready
 reply_or_stopped-requires-clause-ready g c = λ m told.
     let i = c.self.inside in
-    let inside : SpaceBooks = record { view = record { sup = i.sup; used = i.bitmap.tally.used; group = i.group; history = i.history.items; sealed = i.sealed; sealed_used = i.sealed_used; given = i.bitmap.given }; room = i.bitmap; promised = i.promised.items; stop = i.stop; left = i.left } in
+    let inside : SpaceBooks = record { view = record { sup = i.sup; used = i.bitmap.tally.used; group = i.group; history = i.history.items; sealed = i.sealed; sealed_used = i.sealed_used; given = i.bitmap.given }; room = i.bitmap; promised = i.promised.items; stop = i.stop; left = i.left; nodes = i.nodes } in
     let h = subst (λ (b : SpaceBooks). HasFace b m) (sym c.self.view_is) (c.requires.faced m told) in
     record {
       tree = after h.t0 i.history.items;
@@ -73,8 +78,8 @@ invariant_of-self-in-Ok-reply_or_stopped g c =
 pub returns-in-Ok-reply_or_stopped-clause-entered : goal.returns-in-Ok-reply_or_stopped-clause-entered
 returns-in-Ok-reply_or_stopped-clause-entered g c = λ t0 m told face_of.
     let i = c.self.inside in
-    let inside : SpaceBooks = record { view = record { sup = i.sup; used = i.bitmap.tally.used; group = i.group; history = i.history.items; sealed = i.sealed; sealed_used = i.sealed_used; given = i.bitmap.given }; room = i.bitmap; promised = i.promised.items; stop = i.stop; left = i.left } in
-    let since : SpaceBooks = record { view = record { sup = i.sup; used = c.reply_or_stopped.new.bitmap.tally.used; group = c.reply_or_stopped.new.group; history = c.append.new.history.items; sealed = i.sealed; sealed_used = i.sealed_used; given = c.reply_or_stopped.new.bitmap.given }; room = c.reply_or_stopped.new.bitmap; promised = i.promised.items; stop = i.stop; left = i.left } in
+    let inside : SpaceBooks = record { view = record { sup = i.sup; used = i.bitmap.tally.used; group = i.group; history = i.history.items; sealed = i.sealed; sealed_used = i.sealed_used; given = i.bitmap.given }; room = i.bitmap; promised = i.promised.items; stop = i.stop; left = i.left; nodes = i.nodes } in
+    let since : SpaceBooks = record { view = record { sup = i.sup; used = c.reply_or_stopped.new.bitmap.tally.used; group = c.reply_or_stopped.new.group; history = c.append.new.history.items; sealed = i.sealed; sealed_used = i.sealed_used; given = c.reply_or_stopped.new.bitmap.given }; room = c.reply_or_stopped.new.bitmap; promised = i.promised.items; stop = i.stop; left = i.left; nodes = c.counted-self-inside.result } in
     let f = subst (λ (b : SpaceBooks). IsFaceOf t0 b m) (sym c.self.view_is) face_of in
     let some = some_bytes i.sup c.self.invariant.0.valid in
     let volume = c.self.invariant.0.volume in
@@ -91,17 +96,36 @@ returns-in-Ok-reply_or_stopped-clause-entered g c = λ t0 m told face_of.
     subst (λ (z : ℤ). IsReplied (geometry_of i.sup) i.bitmap c.reply_or_stopped.new.bitmap m i.group c.reply_or_stopped.new.group tree (holds_after t0 i.history.items) (c.is_idle-idle.result ≡ true) z c.args.call c.in-Ok-reply_or_stopped.reply) stamp
     (subst (λ (hs : List Hold). IsReplied (geometry_of i.sup) i.bitmap c.reply_or_stopped.new.bitmap m i.group c.reply_or_stopped.new.group tree hs (c.is_idle-idle.result ≡ true) (to_z w64 (of_z w64 c.draw-stamp.result)) c.args.call c.in-Ok-reply_or_stopped.reply) held
     (c.in-Ok-reply_or_stopped.ensures.replied m tree lists told (ready t0 inside m f volume some refl refl))) in
-    let idle : c.is_idle-idle.result ≡ true → IsIdle inside = λ e. subst (λ (h : List Entry). IsIdle (record { view = record { sup = i.sup; used = i.bitmap.tally.used; group = i.group; history = h; sealed = i.sealed; sealed_used = i.sealed_used; given = i.bitmap.given }; room = i.bitmap; promised = i.promised.items; stop = i.stop; left = i.left })) c.reserve.ensures.items (c.is_idle-idle.ensures.idle e) in
+    let idle : c.is_idle-idle.result ≡ true → IsIdle inside = λ e. subst (λ (h : List Entry). IsIdle (record { view = record { sup = i.sup; used = i.bitmap.tally.used; group = i.group; history = h; sealed = i.sealed; sealed_used = i.sealed_used; given = i.bitmap.given }; room = i.bitmap; promised = i.promised.items; stop = i.stop; left = i.left; nodes = i.nodes })) c.reserve.ensures.items (c.is_idle-idle.ensures.idle e) in
     let quiet : list_any (λ (e : Entry). is_stop e.reply) i.history.items ≡ true → is_stopped c.in-Ok-reply_or_stopped.reply ≡ true = λ any. let s = some_stop i.stop (sym c.self.invariant.4 ∙ any) in c.in-Ok-reply_or_stopped.ensures.stopped s.0 s.1 in
     subst (λ (b : SpaceBooks). HasEntered t0 b since m c.args.session c.args.tag c.args.now c.args.call) c.self.view_is
     (replied_with t0 inside m f volume some refl refl c.args.session c.args.tag c.args.now c.args.call c.in-Ok-reply_or_stopped.reply c.requires.session c.requires.call quiet (c.is_idle-idle.result ≡ true) c.reply_or_stopped.new.bitmap c.reply_or_stopped.new.group
-    c.append.new.history.items i.promised.items i.stop i.left c.reply_or_stopped.ensures.group.sized idle replied items)
+    c.append.new.history.items i.promised.items i.stop i.left c.counted-self-inside.result c.reply_or_stopped.ensures.group.sized idle replied items)
+
+pub returns-in-Ok-reply_or_stopped-clause-counted : goal.returns-in-Ok-reply_or_stopped-clause-counted
+returns-in-Ok-reply_or_stopped-clause-counted g c = λ t0 m told face_of counts.
+    let i = c.self.inside in
+    let inside : SpaceBooks = record { view = record { sup = i.sup; used = i.bitmap.tally.used; group = i.group; history = i.history.items; sealed = i.sealed; sealed_used = i.sealed_used; given = i.bitmap.given }; room = i.bitmap; promised = i.promised.items; stop = i.stop; left = i.left; nodes = i.nodes } in
+    let since : SpaceBooks = record { view = record { sup = i.sup; used = c.reply_or_stopped.new.bitmap.tally.used; group = c.reply_or_stopped.new.group; history = c.append.new.history.items; sealed = i.sealed; sealed_used = i.sealed_used; given = c.reply_or_stopped.new.bitmap.given }; room = c.reply_or_stopped.new.bitmap; promised = i.promised.items; stop = i.stop; left = i.left; nodes = c.counted-self-inside.result } in
+    let f = subst (λ (b : SpaceBooks). IsFaceOf t0 b m) (sym c.self.view_is) face_of in
+    let e : HasEntered t0 inside since m c.args.session c.args.tag c.args.now c.args.call =
+    subst (λ (b : SpaceBooks). HasEntered t0 b since m c.args.session c.args.tag c.args.now c.args.call) (sym c.self.view_is) (returns-in-Ok-reply_or_stopped-clause-entered g c t0 m told face_of) in
+    let counts_inside : i.nodes ≡ nodes_of (after t0 i.history.items) = subst (λ (b : SpaceBooks). b.nodes ≡ nodes_of (after t0 b.view.history)) (sym c.self.view_is) counts in
+    let tree = after t0 i.history.items in
+    let lists = lists_of (face inside.view m) tree in
+    let entry : Entry = record { session = c.args.session; tag = c.args.tag; stamp = to_z w64 (of_z w64 c.draw-stamp.result); call = c.args.call; reply = c.in-Ok-reply_or_stopped.reply } in
+    let reply : e.reply ≡ c.in-Ok-reply_or_stopped.reply = ap (λ (x : Entry). x.reply)
+    (last_same i.history.items c.reserve.new.self.items (entry_noted inside c.args.session c.args.tag c.args.now c.args.call e.reply) entry (sym e.entered.history ∙ c.append.ensures.items)) in
+    let found : is_done e.reply ≡ true → FindsPlace tree c.args.call c.reply_or_stopped.new.replaced = λ done.
+    c.in-Ok-reply_or_stopped.ensures.found m tree lists told (ready t0 inside m f c.self.invariant.0.volume (some_bytes i.sup c.self.invariant.0.valid) refl refl) (ap is_done (sym reply) ∙ done) in
+    c.counted-self-inside.ensures.value ∙ ap (λ (r : Reply). counted i.nodes c.args.call r c.reply_or_stopped.new.replaced) (sym reply)
+    ∙ counted_on t0 i.history.items c.append.new.history.items (entry_noted inside c.args.session c.args.tag c.args.now c.args.call e.reply) i.nodes c.reply_or_stopped.new.replaced e.entered.history e.entered.follows counts_inside found
 
 pub returns-in-Ok-reply_or_stopped-clause-noted : goal.returns-in-Ok-reply_or_stopped-clause-noted
 returns-in-Ok-reply_or_stopped-clause-noted g c =
     let i = c.self.inside in
-    let inside : SpaceBooks = record { view = record { sup = i.sup; used = i.bitmap.tally.used; group = i.group; history = i.history.items; sealed = i.sealed; sealed_used = i.sealed_used; given = i.bitmap.given }; room = i.bitmap; promised = i.promised.items; stop = i.stop; left = i.left } in
-    let since : SpaceBooks = record { view = record { sup = i.sup; used = c.reply_or_stopped.new.bitmap.tally.used; group = c.reply_or_stopped.new.group; history = c.append.new.history.items; sealed = i.sealed; sealed_used = i.sealed_used; given = c.reply_or_stopped.new.bitmap.given }; room = c.reply_or_stopped.new.bitmap; promised = i.promised.items; stop = i.stop; left = i.left } in
+    let inside : SpaceBooks = record { view = record { sup = i.sup; used = i.bitmap.tally.used; group = i.group; history = i.history.items; sealed = i.sealed; sealed_used = i.sealed_used; given = i.bitmap.given }; room = i.bitmap; promised = i.promised.items; stop = i.stop; left = i.left; nodes = i.nodes } in
+    let since : SpaceBooks = record { view = record { sup = i.sup; used = c.reply_or_stopped.new.bitmap.tally.used; group = c.reply_or_stopped.new.group; history = c.append.new.history.items; sealed = i.sealed; sealed_used = i.sealed_used; given = c.reply_or_stopped.new.bitmap.given }; room = c.reply_or_stopped.new.bitmap; promised = i.promised.items; stop = i.stop; left = i.left; nodes = c.counted-self-inside.result } in
     let last : to_z w64 (of_z w64 i.last) ≡ i.last = search rules in
     let twice : to_z w64 (of_z w64 c.draw-stamp.result) ≡ c.draw-stamp.result = search rules in
     let stamp : to_z w64 (of_z w64 c.draw-stamp.result) ≡ drawn (last_stamp i.history.items) c.args.now = twice ∙ c.draw-stamp.ensures ∙ ap (λ (z : ℤ). drawn z c.args.now) (last ∙ c.self.invariant.1.last_is) in
@@ -122,7 +146,7 @@ returns-in-Ok-reply_or_stopped-clause-noted g c =
 pub returns-in-Err-Drain-clause-entered : goal.returns-in-Err-Drain-clause-entered
 returns-in-Err-Drain-clause-entered g c = λ t0 m told face_of.
     let i = c.self.inside in
-    let inside : SpaceBooks = record { view = record { sup = i.sup; used = i.bitmap.tally.used; group = i.group; history = i.history.items; sealed = i.sealed; sealed_used = i.sealed_used; given = i.bitmap.given }; room = i.bitmap; promised = i.promised.items; stop = i.stop; left = i.left } in
+    let inside : SpaceBooks = record { view = record { sup = i.sup; used = i.bitmap.tally.used; group = i.group; history = i.history.items; sealed = i.sealed; sealed_used = i.sealed_used; given = i.bitmap.given }; room = i.bitmap; promised = i.promised.items; stop = i.stop; left = i.left; nodes = i.nodes } in
     let f = subst (λ (b : SpaceBooks). IsFaceOf t0 b m) (sym c.self.view_is) face_of in
     let tree = after t0 i.history.items in
     let lists = lists_of (face inside.view m) tree in
@@ -132,6 +156,6 @@ returns-in-Err-Drain-clause-entered g c = λ t0 m told face_of.
     subst (λ (hs : List Hold). IsNoReply (geometry_of i.sup) i.bitmap (over i.group m) (length i.group) tree hs (c.is_idle-idle.result ≡ true) c.args.call c.in-Err-Drain.field-0) held
     (c.in-Err-Drain.ensures.put_off m tree lists told (ready t0 inside m f c.self.invariant.0.volume (some_bytes i.sup c.self.invariant.0.valid) refl refl)) in
     let off = subst (λ (e : NoReply). IsNoReply (geometry_of i.sup) i.bitmap (over i.group m) (length i.group) tree (holds_after t0 i.history.items) (c.is_idle-idle.result ≡ true) c.args.call e) c.in-Err-Drain.field-0-is why in
-    let idle : IsIdle inside → c.is_idle-idle.result ≡ true = λ q. true_of c.is_idle-idle.result (λ none. c.is_idle-idle.ensures.busy none (subst (λ (h : List Entry). IsIdle (record { view = record { sup = i.sup; used = i.bitmap.tally.used; group = i.group; history = h; sealed = i.sealed; sealed_used = i.sealed_used; given = i.bitmap.given }; room = i.bitmap; promised = i.promised.items; stop = i.stop; left = i.left })) (sym c.reserve.ensures.items) q)) in
+    let idle : IsIdle inside → c.is_idle-idle.result ≡ true = λ q. true_of c.is_idle-idle.result (λ none. c.is_idle-idle.ensures.busy none (subst (λ (h : List Entry). IsIdle (record { view = record { sup = i.sup; used = i.bitmap.tally.used; group = i.group; history = h; sealed = i.sealed; sealed_used = i.sealed_used; given = i.bitmap.given }; room = i.bitmap; promised = i.promised.items; stop = i.stop; left = i.left; nodes = i.nodes })) (sym c.reserve.ensures.items) q)) in
     subst (λ (b : SpaceBooks). IsPutOff (geometry_of b.view.sup) b.room (over b.view.group m) (length b.view.group) (after t0 b.view.history) (holds_after t0 b.view.history) (IsIdle b) c.args.call) c.self.view_is
     (put_off_for (geometry_of i.sup) i.bitmap (over i.group m) (length i.group) tree (holds_after t0 i.history.items) (c.is_idle-idle.result ≡ true) (IsIdle inside) c.args.call idle off)

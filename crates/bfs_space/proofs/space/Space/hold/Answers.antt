@@ -21,6 +21,8 @@ use Rattle.bfs_space.specs.Books.{SpaceBooks, IsIdle, IsLastStamp, KnowsStop, en
 use Rattle.bfs_space.specs.Faces.{IsFaceOf, HasFace, HasEntered, HasReplied, promised_after}
 use Rattle.bfs_space.specs.Holds.{held_next, holds_after}
 use Rattle.bfs_space.specs.Replies.{IsNoReply, IsPutOff, IsReplied}
+use Rattle.bfs_count.specs.Counts.{nodes_of}
+use Rattle.bfs_space.proofs.Counting.{counted_on}
 use Rattle.bfs_space.proofs.Entering.{ready, replied_with}
 use Rattle.bfs_space.proofs.Groups.{parts_kept}
 use Rattle.bfs_space.proofs.Held.{held_is_after, now_held}
@@ -41,7 +43,7 @@ true_of false apart = absurd (apart refl)
 pub hold_or_stopped-requires-clause-ready : goal.hold_or_stopped-requires-clause-ready
 hold_or_stopped-requires-clause-ready g c = λ m told.
     let i = c.self.inside in
-    let inside : SpaceBooks = record { view = record { sup = i.sup; used = i.bitmap.tally.used; group = i.group; history = i.history.items; sealed = i.sealed; sealed_used = i.sealed_used; given = i.bitmap.given }; room = i.bitmap; promised = i.promised.items; stop = i.stop; left = i.left } in
+    let inside : SpaceBooks = record { view = record { sup = i.sup; used = i.bitmap.tally.used; group = i.group; history = i.history.items; sealed = i.sealed; sealed_used = i.sealed_used; given = i.bitmap.given }; room = i.bitmap; promised = i.promised.items; stop = i.stop; left = i.left; nodes = i.nodes } in
     let h = subst (λ (b : SpaceBooks). HasFace b m) (sym c.self.view_is) (c.requires.faced m told) in
     record {
       tree = after h.t0 i.history.items;
@@ -69,7 +71,7 @@ returns-in-Err-clause-no_memory g c =
     let i = c.self.inside in
     let history = c.make_room.ensures.history in
     let promised = c.make_room.ensures.promised in
-    (λ j. record { view = record { sup = i.sup; used = i.bitmap.tally.used; group = i.group; history = history j; sealed = i.sealed; sealed_used = i.sealed_used; given = i.bitmap.given }; room = i.bitmap; promised = promised j; stop = i.stop; left = i.left })
+    (λ j. record { view = record { sup = i.sup; used = i.bitmap.tally.used; group = i.group; history = history j; sealed = i.sealed; sealed_used = i.sealed_used; given = i.bitmap.given }; room = i.bitmap; promised = promised j; stop = i.stop; left = i.left; nodes = i.nodes })
     ∙ c.self.view_is
 
 pub returns-in-Err-NoMemory-clause-no_memory : goal.returns-in-Err-NoMemory-clause-no_memory
@@ -79,7 +81,7 @@ returns-in-Err-NoMemory-clause-no_memory g c =
     let promised = c.make_room.ensures.promised in
     let group = c.in-Err-NoMemory.ensures.left.0 in
     let room = c.in-Err-NoMemory.ensures.left.1 in
-    (λ j. record { view = record { sup = i.sup; used = (room j).tally.used; group = group j; history = history j; sealed = i.sealed; sealed_used = i.sealed_used; given = (room j).given }; room = room j; promised = promised j; stop = i.stop; left = i.left })
+    (λ j. record { view = record { sup = i.sup; used = (room j).tally.used; group = group j; history = history j; sealed = i.sealed; sealed_used = i.sealed_used; given = (room j).given }; room = room j; promised = promised j; stop = i.stop; left = i.left; nodes = i.nodes })
     ∙ c.self.view_is
 
 pub returns-in-Err-Drain-clause-noted : goal.returns-in-Err-Drain-clause-noted
@@ -90,7 +92,7 @@ returns-in-Err-Drain-clause-noted g c =
     let group = c.in-Err-Drain.ensures.left.0 in
     let room = c.in-Err-Drain.ensures.left.1 in (
       c.hold_of-call.ensures,
-      (λ j. record { view = record { sup = i.sup; used = (room j).tally.used; group = group j; history = history j; sealed = i.sealed; sealed_used = i.sealed_used; given = (room j).given }; room = room j; promised = promised j; stop = i.stop; left = i.left })
+      (λ j. record { view = record { sup = i.sup; used = (room j).tally.used; group = group j; history = history j; sealed = i.sealed; sealed_used = i.sealed_used; given = (room j).given }; room = room j; promised = promised j; stop = i.stop; left = i.left; nodes = i.nodes })
           ∙ c.self.view_is,
     )
 
@@ -130,8 +132,8 @@ pub returns-in-Ok-hold_or_stopped-clause-entered : goal.returns-in-Ok-hold_or_st
 returns-in-Ok-hold_or_stopped-clause-entered g c = λ t0 m told face_of.
     let i = c.self.inside in
     let call : Call = calls.Hold c.args.id c.args.at c.args.length c.args.write in
-    let inside : SpaceBooks = record { view = record { sup = i.sup; used = i.bitmap.tally.used; group = i.group; history = i.history.items; sealed = i.sealed; sealed_used = i.sealed_used; given = i.bitmap.given }; room = i.bitmap; promised = i.promised.items; stop = i.stop; left = i.left } in
-    let since : SpaceBooks = record { view = record { sup = i.sup; used = c.hold_or_stopped.new.bitmap.tally.used; group = c.hold_or_stopped.new.group; history = c.take_entry.new.history.items; sealed = i.sealed; sealed_used = i.sealed_used; given = c.hold_or_stopped.new.bitmap.given }; room = c.hold_or_stopped.new.bitmap; promised = c.take_entry.new.promised.items; stop = i.stop; left = i.left } in
+    let inside : SpaceBooks = record { view = record { sup = i.sup; used = i.bitmap.tally.used; group = i.group; history = i.history.items; sealed = i.sealed; sealed_used = i.sealed_used; given = i.bitmap.given }; room = i.bitmap; promised = i.promised.items; stop = i.stop; left = i.left; nodes = i.nodes } in
+    let since : SpaceBooks = record { view = record { sup = i.sup; used = c.hold_or_stopped.new.bitmap.tally.used; group = c.hold_or_stopped.new.group; history = c.take_entry.new.history.items; sealed = i.sealed; sealed_used = i.sealed_used; given = c.hold_or_stopped.new.bitmap.given }; room = c.hold_or_stopped.new.bitmap; promised = c.take_entry.new.promised.items; stop = i.stop; left = i.left; nodes = i.nodes } in
     let f = subst (λ (b : SpaceBooks). IsFaceOf t0 b m) (sym c.self.view_is) face_of in
     let some = some_bytes i.sup c.self.invariant.0.valid in
     let volume = c.self.invariant.0.volume in
@@ -149,19 +151,30 @@ returns-in-Ok-hold_or_stopped-clause-entered g c = λ t0 m told face_of.
     (subst (λ (z : ℤ). IsReplied (geometry_of i.sup) i.bitmap c.hold_or_stopped.new.bitmap m i.group c.hold_or_stopped.new.group tree (holds_after t0 i.history.items) (c.is_idle-idle.result ≡ true) z c.hold_of-call.result c.in-Ok-hold_or_stopped.reply) stamp
     (subst (λ (hs : List Hold). IsReplied (geometry_of i.sup) i.bitmap c.hold_or_stopped.new.bitmap m i.group c.hold_or_stopped.new.group tree hs (c.is_idle-idle.result ≡ true) (to_z w64 (of_z w64 c.draw-stamp.result)) c.hold_of-call.result c.in-Ok-hold_or_stopped.reply) held
     (c.in-Ok-hold_or_stopped.ensures.replied m tree lists told (ready t0 inside m f volume some refl refl)))) in
-    let idle : c.is_idle-idle.result ≡ true → IsIdle inside = λ e. subst (λ (h : List Entry). IsIdle (record { view = record { sup = i.sup; used = i.bitmap.tally.used; group = i.group; history = h; sealed = i.sealed; sealed_used = i.sealed_used; given = i.bitmap.given }; room = i.bitmap; promised = i.promised.items; stop = i.stop; left = i.left })) c.make_room.ensures.history
-    (subst (λ (ps : List ℕ). IsIdle (record { view = record { sup = i.sup; used = i.bitmap.tally.used; group = i.group; history = c.make_room.new.history.items; sealed = i.sealed; sealed_used = i.sealed_used; given = i.bitmap.given }; room = i.bitmap; promised = ps; stop = i.stop; left = i.left })) c.make_room.ensures.promised (c.is_idle-idle.ensures.idle e)) in
+    let idle : c.is_idle-idle.result ≡ true → IsIdle inside = λ e. subst (λ (h : List Entry). IsIdle (record { view = record { sup = i.sup; used = i.bitmap.tally.used; group = i.group; history = h; sealed = i.sealed; sealed_used = i.sealed_used; given = i.bitmap.given }; room = i.bitmap; promised = i.promised.items; stop = i.stop; left = i.left; nodes = i.nodes })) c.make_room.ensures.history
+    (subst (λ (ps : List ℕ). IsIdle (record { view = record { sup = i.sup; used = i.bitmap.tally.used; group = i.group; history = c.make_room.new.history.items; sealed = i.sealed; sealed_used = i.sealed_used; given = i.bitmap.given }; room = i.bitmap; promised = ps; stop = i.stop; left = i.left; nodes = i.nodes })) c.make_room.ensures.promised (c.is_idle-idle.ensures.idle e)) in
     let quiet : list_any (λ (e : Entry). is_stop e.reply) i.history.items ≡ true → is_stopped c.in-Ok-hold_or_stopped.reply ≡ true = λ any. let s = some_stop i.stop (sym c.self.invariant.4 ∙ any) in c.in-Ok-hold_or_stopped.ensures.stopped s.0 s.1 in
     subst (λ (b : SpaceBooks). HasEntered t0 b since m c.args.session c.args.tag c.args.now call) c.self.view_is
     (replied_with t0 inside m f volume some refl refl c.args.session c.args.tag c.args.now call c.in-Ok-hold_or_stopped.reply c.requires.session (λ e. cc) quiet (c.is_idle-idle.result ≡ true) c.hold_or_stopped.new.bitmap c.hold_or_stopped.new.group
-    c.take_entry.new.history.items c.take_entry.new.promised.items i.stop i.left c.hold_or_stopped.ensures.group.sized idle replied items)
+    c.take_entry.new.history.items c.take_entry.new.promised.items i.stop i.left i.nodes c.hold_or_stopped.ensures.group.sized idle replied items)
+
+pub returns-in-Ok-hold_or_stopped-clause-counted : goal.returns-in-Ok-hold_or_stopped-clause-counted
+returns-in-Ok-hold_or_stopped-clause-counted g c = λ t0 m told face_of counts.
+    let i = c.self.inside in
+    let call : Call = calls.Hold c.args.id c.args.at c.args.length c.args.write in
+    let inside : SpaceBooks = record { view = record { sup = i.sup; used = i.bitmap.tally.used; group = i.group; history = i.history.items; sealed = i.sealed; sealed_used = i.sealed_used; given = i.bitmap.given }; room = i.bitmap; promised = i.promised.items; stop = i.stop; left = i.left; nodes = i.nodes } in
+    let since : SpaceBooks = record { view = record { sup = i.sup; used = c.hold_or_stopped.new.bitmap.tally.used; group = c.hold_or_stopped.new.group; history = c.take_entry.new.history.items; sealed = i.sealed; sealed_used = i.sealed_used; given = c.hold_or_stopped.new.bitmap.given }; room = c.hold_or_stopped.new.bitmap; promised = c.take_entry.new.promised.items; stop = i.stop; left = i.left; nodes = i.nodes } in
+    let e : HasEntered t0 inside since m c.args.session c.args.tag c.args.now call =
+    subst (λ (b : SpaceBooks). HasEntered t0 b since m c.args.session c.args.tag c.args.now call) (sym c.self.view_is) (returns-in-Ok-hold_or_stopped-clause-entered g c t0 m told face_of) in
+    let counts_inside : i.nodes ≡ nodes_of (after t0 i.history.items) = subst (λ (b : SpaceBooks). b.nodes ≡ nodes_of (after t0 b.view.history)) (sym c.self.view_is) counts in
+    counted_on t0 i.history.items c.take_entry.new.history.items (entry_noted inside c.args.session c.args.tag c.args.now call e.reply) i.nodes false e.entered.history e.entered.follows counts_inside (λ done s same fine. refl)
 
 pub returns-in-Ok-hold_or_stopped-clause-noted : goal.returns-in-Ok-hold_or_stopped-clause-noted
 returns-in-Ok-hold_or_stopped-clause-noted g c =
     let i = c.self.inside in
     let call : Call = calls.Hold c.args.id c.args.at c.args.length c.args.write in
-    let inside : SpaceBooks = record { view = record { sup = i.sup; used = i.bitmap.tally.used; group = i.group; history = i.history.items; sealed = i.sealed; sealed_used = i.sealed_used; given = i.bitmap.given }; room = i.bitmap; promised = i.promised.items; stop = i.stop; left = i.left } in
-    let since : SpaceBooks = record { view = record { sup = i.sup; used = c.hold_or_stopped.new.bitmap.tally.used; group = c.hold_or_stopped.new.group; history = c.take_entry.new.history.items; sealed = i.sealed; sealed_used = i.sealed_used; given = c.hold_or_stopped.new.bitmap.given }; room = c.hold_or_stopped.new.bitmap; promised = c.take_entry.new.promised.items; stop = i.stop; left = i.left } in
+    let inside : SpaceBooks = record { view = record { sup = i.sup; used = i.bitmap.tally.used; group = i.group; history = i.history.items; sealed = i.sealed; sealed_used = i.sealed_used; given = i.bitmap.given }; room = i.bitmap; promised = i.promised.items; stop = i.stop; left = i.left; nodes = i.nodes } in
+    let since : SpaceBooks = record { view = record { sup = i.sup; used = c.hold_or_stopped.new.bitmap.tally.used; group = c.hold_or_stopped.new.group; history = c.take_entry.new.history.items; sealed = i.sealed; sealed_used = i.sealed_used; given = c.hold_or_stopped.new.bitmap.given }; room = c.hold_or_stopped.new.bitmap; promised = c.take_entry.new.promised.items; stop = i.stop; left = i.left; nodes = i.nodes } in
     let last : to_z w64 (of_z w64 i.last) ≡ i.last = search rules in
     let twice : to_z w64 (of_z w64 c.draw-stamp.result) ≡ c.draw-stamp.result = search rules in
     let stamp : to_z w64 (of_z w64 c.draw-stamp.result) ≡ drawn (last_stamp i.history.items) c.args.now = twice ∙ c.draw-stamp.ensures ∙ ap (λ (z : ℤ). drawn z c.args.now) (last ∙ c.self.invariant.1.last_is) in
@@ -191,7 +204,7 @@ returns-in-Ok-hold_or_stopped-clause-places g c = λ taken.
 pub returns-in-Ok-hold_or_stopped-clause-piece : goal.returns-in-Ok-hold_or_stopped-clause-piece
 returns-in-Ok-hold_or_stopped-clause-piece g c = λ t0 m told face_of taken.
     let i = c.self.inside in
-    let inside : SpaceBooks = record { view = record { sup = i.sup; used = i.bitmap.tally.used; group = i.group; history = i.history.items; sealed = i.sealed; sealed_used = i.sealed_used; given = i.bitmap.given }; room = i.bitmap; promised = i.promised.items; stop = i.stop; left = i.left } in
+    let inside : SpaceBooks = record { view = record { sup = i.sup; used = i.bitmap.tally.used; group = i.group; history = i.history.items; sealed = i.sealed; sealed_used = i.sealed_used; given = i.bitmap.given }; room = i.bitmap; promised = i.promised.items; stop = i.stop; left = i.left; nodes = i.nodes } in
     let f = subst (λ (b : SpaceBooks). IsFaceOf t0 b m) (sym c.self.view_is) face_of in
     let entry : Entry = record { session = c.args.session; tag = c.args.tag; stamp = to_z w64 (of_z w64 c.draw-stamp.result); call = c.hold_of-call.result; reply = c.in-Ok-hold_or_stopped.reply } in
     let items : c.take_entry.new.history.items ≡ i.history.items ++ entry ∷ [] = c.take_entry.ensures.history ∙ ap (λ (l : List Entry). l ++ entry ∷ []) c.make_room.ensures.history in
@@ -233,7 +246,7 @@ pub returns-in-Err-Drain-clause-entered : goal.returns-in-Err-Drain-clause-enter
 returns-in-Err-Drain-clause-entered g c = λ t0 m told face_of.
     let i = c.self.inside in
     let call : Call = calls.Hold c.args.id c.args.at c.args.length c.args.write in
-    let inside : SpaceBooks = record { view = record { sup = i.sup; used = i.bitmap.tally.used; group = i.group; history = i.history.items; sealed = i.sealed; sealed_used = i.sealed_used; given = i.bitmap.given }; room = i.bitmap; promised = i.promised.items; stop = i.stop; left = i.left } in
+    let inside : SpaceBooks = record { view = record { sup = i.sup; used = i.bitmap.tally.used; group = i.group; history = i.history.items; sealed = i.sealed; sealed_used = i.sealed_used; given = i.bitmap.given }; room = i.bitmap; promised = i.promised.items; stop = i.stop; left = i.left; nodes = i.nodes } in
     let f = subst (λ (b : SpaceBooks). IsFaceOf t0 b m) (sym c.self.view_is) face_of in
     let tree = after t0 i.history.items in
     let lists = lists_of (face inside.view m) tree in
@@ -245,7 +258,7 @@ returns-in-Err-Drain-clause-entered g c = λ t0 m told face_of.
     (c.in-Err-Drain.ensures.put_off m tree lists told (ready t0 inside m f c.self.invariant.0.volume (some_bytes i.sup c.self.invariant.0.valid) refl refl))) in
     let off = subst (λ (e : NoReply). IsNoReply (geometry_of i.sup) i.bitmap (over i.group m) (length i.group) tree (holds_after t0 i.history.items) (c.is_idle-idle.result ≡ true) call e) c.in-Err-Drain.field-0-is why in
     let idle : IsIdle inside → c.is_idle-idle.result ≡ true = λ q. true_of c.is_idle-idle.result (λ none. c.is_idle-idle.ensures.busy none
-    (subst (λ (ps : List ℕ). IsIdle (record { view = record { sup = i.sup; used = i.bitmap.tally.used; group = i.group; history = c.make_room.new.history.items; sealed = i.sealed; sealed_used = i.sealed_used; given = i.bitmap.given }; room = i.bitmap; promised = ps; stop = i.stop; left = i.left })) (sym c.make_room.ensures.promised)
-    (subst (λ (h : List Entry). IsIdle (record { view = record { sup = i.sup; used = i.bitmap.tally.used; group = i.group; history = h; sealed = i.sealed; sealed_used = i.sealed_used; given = i.bitmap.given }; room = i.bitmap; promised = i.promised.items; stop = i.stop; left = i.left })) (sym c.make_room.ensures.history) q))) in
+    (subst (λ (ps : List ℕ). IsIdle (record { view = record { sup = i.sup; used = i.bitmap.tally.used; group = i.group; history = c.make_room.new.history.items; sealed = i.sealed; sealed_used = i.sealed_used; given = i.bitmap.given }; room = i.bitmap; promised = ps; stop = i.stop; left = i.left; nodes = i.nodes })) (sym c.make_room.ensures.promised)
+    (subst (λ (h : List Entry). IsIdle (record { view = record { sup = i.sup; used = i.bitmap.tally.used; group = i.group; history = h; sealed = i.sealed; sealed_used = i.sealed_used; given = i.bitmap.given }; room = i.bitmap; promised = i.promised.items; stop = i.stop; left = i.left; nodes = i.nodes })) (sym c.make_room.ensures.history) q))) in
     subst (λ (b : SpaceBooks). IsPutOff (geometry_of b.view.sup) b.room (over b.view.group m) (length b.view.group) (after t0 b.view.history) (holds_after t0 b.view.history) (IsIdle b) call) c.self.view_is
     (put_off_for (geometry_of i.sup) i.bitmap (over i.group m) (length i.group) tree (holds_after t0 i.history.items) (c.is_idle-idle.result ≡ true) (IsIdle inside) call idle off)

@@ -50,10 +50,10 @@ returns c =
     let last : to_z w64 (of_z w64 i.last) ≡ i.last = search rules in
     let kept : to_z w64 (of_z w64 c.draw-stamp.result) ≡ c.draw-stamp.result = search rules in
     let stamp : to_z w64 (of_z w64 c.draw-stamp.result) ≡ drawn (last_stamp i.history.items) c.args.now = kept ∙ c.draw-stamp.ensures ∙ ap (λ (z : ℤ). drawn z c.args.now) (last ∙ c.self.invariant.1.last_is) in
-    let inside : SpaceBooks = record { view = record { sup = i.sup; used = i.bitmap.tally.used; group = i.group; history = i.history.items; sealed = i.sealed; sealed_used = i.sealed_used; given = i.bitmap.given }; room = i.bitmap; promised = i.promised.items; stop = i.stop; left = i.left } in
+    let inside : SpaceBooks = record { view = record { sup = i.sup; used = i.bitmap.tally.used; group = i.group; history = i.history.items; sealed = i.sealed; sealed_used = i.sealed_used; given = i.bitmap.given }; room = i.bitmap; promised = i.promised.items; stop = i.stop; left = i.left; nodes = i.nodes } in
     let items : c.append.new.history.items ≡ i.history.items ++ entry_noted inside c.args.session c.args.tag c.args.now c.args.call c.args.reply ∷ [] =
     c.append.ensures.items ∙ ap (λ (z : ℤ). i.history.items ++ (record { session = c.args.session; tag = c.args.tag; stamp = z; call = c.args.call; reply = c.args.reply }) ∷ []) stamp in
     let promised = c.drop_promise.ensures in
     let stop = c.stop_with-self-inside.ensures in
-    (λ j. record { view = record { sup = i.sup; used = i.bitmap.tally.used; group = i.group; history = items j; sealed = i.sealed; sealed_used = i.sealed_used; given = i.bitmap.given }; room = i.bitmap; promised = promised j; stop = stop j; left = i.left })
+    (λ j. record { view = record { sup = i.sup; used = i.bitmap.tally.used; group = i.group; history = items j; sealed = i.sealed; sealed_used = i.sealed_used; given = i.bitmap.given }; room = i.bitmap; promised = promised j; stop = stop j; left = i.left; nodes = i.nodes })
     ∙ ap (λ (b : SpaceBooks). with_note b c.args.session (entry_noted b c.args.session c.args.tag c.args.now c.args.call c.args.reply) c.args.durable) c.self.view_is

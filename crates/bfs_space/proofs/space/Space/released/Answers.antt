@@ -32,7 +32,7 @@ returns-clause-released c =
     let is = c.release.ensures.given in
     let used = ap (λ (v : Room). v.tally.used) is ∙ released_used c.args.group i.bitmap.given i.bitmap.tally in
     let given = ap (λ (v : Room). v.given) is in
-    (λ j. record { view = record { sup = i.sup; used = used j; group = i.group; history = i.history.items; sealed = i.sealed; sealed_used = i.sealed_used; given = given j }; room = is j; promised = i.promised.items; stop = i.stop; left = c.max-self-inside.ensures j })
+    (λ j. record { view = record { sup = i.sup; used = used j; group = i.group; history = i.history.items; sealed = i.sealed; sealed_used = i.sealed_used; given = given j }; room = is j; promised = i.promised.items; stop = i.stop; left = c.max-self-inside.ensures j; nodes = i.nodes })
     ∙ ap (λ (b : SpaceBooks). record b { view = released_space c.args.group b.view; room = released_room c.args.group b.room; left = max b.left c.args.group }) c.self.view_is
 
 pub returns-clause-fits : goal.returns-clause-fits

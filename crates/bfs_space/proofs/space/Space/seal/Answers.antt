@@ -20,12 +20,12 @@ returns c =
     let few : i.bitmap.tally.used ≤ i.bitmap.blocks = omega (arith, count, most) in
     let empty = c.replace-blocks.ensures.after ∙ c.new.ensures in
     let g : Group = record { first = i.sealed + 1; last = c.len-last.result; used = c.used-used.result; blocks = c.replace-blocks.result } in
-    let inside : SpaceBooks = record { view = record { sup = i.sup; used = i.bitmap.tally.used; group = i.group; history = i.history.items; sealed = i.sealed; sealed_used = i.sealed_used; given = i.bitmap.given }; room = i.bitmap; promised = i.promised.items; stop = i.stop; left = i.left } in record {
+    let inside : SpaceBooks = record { view = record { sup = i.sup; used = i.bitmap.tally.used; group = i.group; history = i.history.items; sealed = i.sealed; sealed_used = i.sealed_used; given = i.bitmap.given }; room = i.bitmap; promised = i.promised.items; stop = i.stop; left = i.left; nodes = i.nodes } in record {
       fits = λ m fits. c.close_group.ensures.fits m (subst (λ (b : SpaceBooks). Fits b.room m) (sym c.self.view_is) fits);
       sealed = (
         subst (λ (b : SpaceBooks). IsGroupFor b.view g) c.self.view_is
             (group_for inside.view i.bitmap g c.self.invariant.0 few (λ e. c.if-last-self.false (last ∙ sym e)) refl refl last c.used-used.ensures.value c.replace-blocks.ensures.value),
-        (λ j. record { view = record { sup = i.sup; used = used j; group = empty j; history = i.history.items; sealed = last j; sealed_used = c.used-used.ensures.value j; given = given j }; room = room j; promised = i.promised.items; stop = i.stop; left = i.left })
+        (λ j. record { view = record { sup = i.sup; used = used j; group = empty j; history = i.history.items; sealed = last j; sealed_used = c.used-used.ensures.value j; given = given j }; room = room j; promised = i.promised.items; stop = i.stop; left = i.left; nodes = i.nodes })
             ∙ ap (λ (b : SpaceBooks). record b { view = sealed_space b.view; room = sealed_room (length b.view.history) b.room }) c.self.view_is,
       );
     }

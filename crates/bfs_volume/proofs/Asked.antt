@@ -1,6 +1,7 @@
 -- A call of a space over a device that was lent.
-use Rattle.std.proofs.Common.{◌≡◌, ◌≢◌, ◌++◌, inl, ℕ, List, [], ◌∷◌, Bool, true, false, Option, Some, None, Result, Ok, Err, OnErr, IfOk, refl, sym, ◌∙◌, ap, subst}
+use Rattle.std.proofs.Common.{◌≡◌, ◌≢◌, ◌++◌, inl, ℕ, List, [], ◌∷◌, Bool, true, false, Option, Some, None, Result, Ok, Err, OnErr, OnOk, IfOk, refl, sym, ◌∙◌, ap, subst}
 use Rattle.std.specs.Prelude.{◌||◌}
+use Rattle.bfs_count.specs.Counts.{nodes_of}
 use Rattle.std.specs.List.{list_any}
 use Rattle.std.proofs.lemmas.Bool.{true≢false}
 use Rattle.bfs_super.specs.declared.sup.Super.{Super}
@@ -15,7 +16,7 @@ use Rattle.bfs_bitmap.specs.Runs.{Fits}
 use Rattle.bfs_tree.specs.declared.call.Call.{Call}
 use Rattle.bfs_tree.specs.declared.call.Call.TheVariants as calls
 use Rattle.bfs_tree.specs.declared.reply.Entry.{Entry}
-use Rattle.bfs_tree.specs.Histories.{Mounted, is_stop, state_after}
+use Rattle.bfs_tree.specs.Histories.{Mounted, after, is_stop, state_after}
 use Rattle.bfs_tree.specs.Steps.{next}
 use Rattle.bfs_device.specs.Layouts.{layout_of}
 use Rattle.bfs_device.specs.Books.{AreSame, Books}
@@ -39,7 +40,7 @@ use Rattle.bfs_space.specs.declared.space.Outcome.{Outcome}
 use Rattle.bfs_space.specs.declared.space.Outcome.TheVariants.{Replied, Drain}
 use Rattle.bfs_space.proofs.Stops.{caused_no_stop}
 use Rattle.bfs_volume.specs.Volumes.{AreFitted, AreJoined, Stands}
-use Rattle.bfs_volume.proofs.Joined.{fitted_ahead, going_more}
+use Rattle.bfs_volume.proofs.Joined.{fitted_ahead, going_more, waits_more}
 use Rattle.bfs_volume.proofs.Noting.{turn_unsynced}
 
 -- ---- what a device tells its space
@@ -75,6 +76,7 @@ stands_rested sp b new st rests s =
       core = core_ahead s.t0 sp.view b new s.touched s.touched st st s.core (steady_rested b new rests s.core.steady) (read_ahead b new rests) (right_rested b new rests s.touched st s.core.right) versions less (read_stops b new rests);
       known = known_ahead s.t0 sp.view b new s.touched st st s.core (steady_rested b new rests s.core.steady) (read_ahead b new rests) versions s.known;
       fits = subst (λ (m : ℕ → Option (List ℕ)). Fits sp.room (over sp.view.group m)) (sym (same_told b new st rests)) s.fits;
+      counted = s.counted;
     }
 
 pub joined_rested : (sp : SpaceBooks) (b new : Books) (told told' : Option State) → IsRested b new → told' ≡ told → AreJoined sp b told → AreJoined sp new told'
@@ -116,12 +118,13 @@ module _ (sp space : SpaceBooks) (b new : Books) (told told' : Option State) (se
     reached = fitted.reached;
     going = λ none. subst (λ (h : List Entry). list_any (λ (x : Entry). is_stop x.reply) h ≡ false) (sym r.history)
         (going_more sp.view.history (entry_noted sp session tag now call r.reply) (caused_no_stop old_counts counts sp.stop r.reply r.cause) (fitted.going none));
+    waits = waits_more sp.view space.view (entry_noted sp session tag now call r.reply) r.same.sealed r.history fitted.waits;
   }
 
   -- what was entered on what the disk tells
-  replied_stands : (st : State) → AreFitted space.view new → (s : Stands sp b st) → HasEntered s.t0 sp space (newest_map b st) session tag now call → Stands sp new st → Stands space new st
+  replied_stands : (st : State) → AreFitted space.view new → (s : Stands sp b st) → HasEntered s.t0 sp space (newest_map b st) session tag now call → space.nodes ≡ nodes_of (after s.t0 space.view.history) → Stands sp new st → Stands space new st
   unfolding stands_rested
-  replied_stands st fitted s e after =
+  replied_stands st fitted s e counts since =
       let map_is = same_told b new st rests in
       let entry : Entry = entry_noted sp session tag now call e.reply in
       let en : Entered s.t0 sp.view space.view (newest_map new st) entry = subst (λ (m : ℕ → Option (List ℕ)). Entered s.t0 sp.view space.view m entry) (sym map_is) e.entered in
@@ -136,26 +139,31 @@ module _ (sp space : SpaceBooks) (b new : Books) (told told' : Option State) (se
         core = core_entered s.t0 sp.view space.view new s.touched st entry core en (entered_known s.t0 sp.view space.view new (newest_map b st) entry no_sync e.entered fitted.going);
         known = known_entered s.t0 sp.view space.view new st entry en keeps has;
         fits = subst (λ (m : ℕ → Option (List ℕ)). Fits space.room (over space.view.group m)) (sym map_is) e.face.fits;
+        counted = counts;
       }
 
-  pub joined_asked : AreJoined sp b told → AreJoined space new told'
-  joined_asked joined = by_result result noted unchanged entered
+  pub joined_asked : ((t0 : Mounted) (m : ℕ → Option (List ℕ)) → option_map (newest_map b) told ≡ Some m → IsFaceOf t0 sp m → sp.nodes ≡ nodes_of (after t0 sp.view.history) → OnOk result (space.nodes ≡ nodes_of (after t0 space.view.history)))
+      → AreJoined sp b told → AreJoined space new told'
+  joined_asked counted joined = by_result result noted unchanged entered counted
     where
       still : AreJoined sp new told'
       still = joined_rested sp b new told told' rests same joined
 
       by_result : (r : Result Outcome AllocError) → IfOk r (HasOutcome old_counts counts sp space session tag now call) → OnErr r (space ≡ sp)
-          → ((t0 : Mounted) (m : ℕ → Option (List ℕ)) → option_map (newest_map b) told ≡ Some m → IsFaceOf t0 sp m → IfOk r (IsOutcome t0 sp space m session tag now call)) → AreJoined space new told'
-      by_result (Err e) noted unchanged entered = subst (λ (x : SpaceBooks). AreJoined x new told') (sym unchanged) still
-      by_result (Ok (Drain back)) noted unchanged entered = subst (λ (x : SpaceBooks). AreJoined x new told') (sym noted.1) still
-      by_result (Ok Replied) noted unchanged entered =
+          → ((t0 : Mounted) (m : ℕ → Option (List ℕ)) → option_map (newest_map b) told ≡ Some m → IsFaceOf t0 sp m → IfOk r (IsOutcome t0 sp space m session tag now call))
+          → ((t0 : Mounted) (m : ℕ → Option (List ℕ)) → option_map (newest_map b) told ≡ Some m → IsFaceOf t0 sp m → sp.nodes ≡ nodes_of (after t0 sp.view.history) → OnOk r (space.nodes ≡ nodes_of (after t0 space.view.history))) → AreJoined space new told'
+      by_result (Err e) noted unchanged entered counted = subst (λ (x : SpaceBooks). AreJoined x new told') (sym unchanged) still
+      by_result (Ok (Drain back)) noted unchanged entered counted = subst (λ (x : SpaceBooks). AreJoined x new told') (sym noted.1) still
+      by_result (Ok Replied) noted unchanged entered counted =
           let fitted = replied_fitted noted still.fitted in
           record {
             fitted = fitted;
             stands = λ st is.
                 let was : told ≡ Some st = sym same ∙ is in
                 let s = joined.stands st was in
-                replied_stands st fitted s (entered s.t0 (newest_map b st) (ap (option_map (newest_map b)) was) (face_stands sp b st s)) (still.stands st is);
+                let face = face_stands sp b st s in
+                let at = ap (option_map (newest_map b)) was in
+                replied_stands st fitted s (entered s.t0 (newest_map b st) at face) (counted s.t0 (newest_map b st) at face s.counted) (still.stands st is);
           }
 
   -- Core, where it held once the device was given back

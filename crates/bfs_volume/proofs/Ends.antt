@@ -44,3 +44,10 @@ tells_since b new told told' st rests same is =
 pub told_of : (history : List Entry) (old : Option Stop) (new : Books) (faults later : ℕ) (call : Call) (fault : DeviceFault) → (old ≡ None → list_any (λ (e : Entry). is_stop e.reply) history ≡ false) → HasStepCause old new.stop faults later fault → IsToldBy new history call (reply_of fault)
 told_of history old new faults later call (Disk before after stops) quiet cause = (quiet cause.0, cause.1)
 told_of history old new faults later call (Stopped durable count) quiet cause = cause.1 ∙ cause.0
+
+-- a device goes on or has stopped
+pub not_both : (stop : Option Stop) (s : Stop) → stop ≡ None → stop ≡ Some s → ⊥
+not_both stop s going stopped = none_some s (sym going ∙ stopped)
+  where
+    none_some : (x : Stop) → None ≡ Some x → ⊥
+    none_some x e = cc

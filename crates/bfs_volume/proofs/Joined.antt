@@ -1,7 +1,7 @@
 -- A space and a device stay joined over their events, by their numbers and on what the disk tells.
 use Rattle.std.proofs.lemmas.Bool.{cases_lt}
 use Rattle.std.proofs.lemmas.List.{get_or_append_left, get_or-append-add, length-append}
-use Rattle.std.proofs.Common.{◌≡◌, ◌≤◌, ◌<◌, ⊎_elim, get_or, length, ◌+◌, ◌++◌, ℕ, List, [], ◌∷◌, Bool, false, Option, Some, None, Result, Ok, Err, OnOk, OnErr, sym, ◌∙◌, ap, subst, arith}
+use Rattle.std.proofs.Common.{◌≡◌, ◌≤◌, ◌<◌, inl, inr, ⊎_elim, get_or, length, ◌+◌, ◌++◌, ℕ, List, [], ◌∷◌, Bool, false, Option, Some, None, Result, Ok, Err, OnOk, OnErr, refl, sym, ◌∙◌, ap, subst, arith}
 use Rattle.std.specs.List.{All, list_any}
 use Rattle.bfs_disk.specs.State.{State}
 use Rattle.bfs_bitmap.specs.Runs.{Room, Fits}
@@ -25,7 +25,7 @@ use Rattle.bfs_core.proofs.Seals.{core_sealed}
 use Rattle.bfs_device_blocks.proofs.Facing.{sealed_newest}
 use Rattle.bfs_space.specs.Books.{SpaceBooks, KnowsStop}
 use Rattle.bfs_space.proofs.Stops.{stop_kept}
-use Rattle.bfs_volume.specs.Volumes.{AreFitted, AreJoined, Stands}
+use Rattle.bfs_volume.specs.Volumes.{AreFitted, AreJoined, Stands, WaitsByEntry}
 
 -- ---- numbers
 
@@ -55,10 +55,11 @@ fitted_ahead sp b new fitted on stops marked = record {
   sealed_used = fitted.sealed_used ∙ sym on.last_used;
   idle = λ none. fitted.idle none ∙ sym on.last_used;
   going = λ none. fitted.going (stops none);
+  waits = fitted.waits;
 }
 
 pub fitted_released : (n : ℕ) (sp : SpaceView) (b : Books) → AreFitted sp b → AreFitted (released_space n sp) b
-fitted_released n sp b fitted = record { geometry = fitted.geometry; sealed = fitted.sealed; sealed_used = fitted.sealed_used; idle = fitted.idle; going = fitted.going; reached = fitted.reached }
+fitted_released n sp b fitted = record { geometry = fitted.geometry; sealed = fitted.sealed; sealed_used = fitted.sealed_used; idle = fitted.idle; going = fitted.going; reached = fitted.reached; waits = fitted.waits }
 
 pub fitted_next : (sp : SpaceView) (b : Books) (g : Group) → AreFitted sp b → IsGroupFor sp g → IsNext (layout_of b.sup) b.sup.block_size (sealed_of b) (last_used b) g
 fitted_next sp b g fitted group = record {
@@ -75,7 +76,15 @@ fitted_sealed sp b g fitted group = record {
   idle = λ none. sym (sealed_used b g ∙ group.used);
   going = fitted.going;
   reached = subst (λ (n : ℕ). All (λ (x : Mark). x.number ≤ n) b.marks) (sym (sealed_durable b g)) fitted.reached;
+  waits = inr (refl, refl);
 }
+
+-- an entry more waits for a seal
+pub waits_more : (old new : SpaceView) (e : Entry) → new.sealed ≡ old.sealed → new.history ≡ old.history ++ e ∷ [] → WaitsByEntry old → WaitsByEntry new
+waits_more old new e sealed history waits =
+    let long : length new.history ≡ length old.history + 1 = ap length history ∙ length-append old.history (e ∷ []) in
+    let low : old.sealed ≤ length old.history = ⊎_elim (λ some. omega (arith, some)) (λ none. let all = none.0 in omega (arith, all)) waits in
+    inl (omega (arith, long, low, sealed))
 
 -- one entry more, which tells of no stop, or of a device that has stopped
 pub going_more : (history : List Entry) (e : Entry) → is_stop e.reply ≡ false → list_any (λ (x : Entry). is_stop x.reply) history ≡ false → list_any (λ (x : Entry). is_stop x.reply) (history ++ e ∷ []) ≡ false
@@ -90,6 +99,7 @@ stands_ahead sp b new u st next s steady on right same core = record {
   core = core;
   known = known_ahead s.t0 sp.view b new s.touched st next s.core steady on same s.known;
   fits = subst (λ (m : ℕ → Option (List ℕ)). Fits sp.room (over sp.view.group m)) (sym (same_newest b new st next steady on same)) s.fits;
+  counted = s.counted;
 }
 
 pub stands_moved : (sp : SpaceBooks) (b new : Books) (told told' : Option State) (clock clock' : ℕ) (past since : ℕ → List ℕ → Type 0) → DeviceMoves b new told told' clock clock' past since → ((st : State) → told' ≡ Some st → (was : State) × (told ≡ Some was))
@@ -107,7 +117,7 @@ stands_moved sp b new told told' clock clock' past since moves before stands st 
 -- the space frees what has left the log
 pub stands_released : (sp : SpaceBooks) (b : Books) (st : State) (room : Room) (left : ℕ) → ((m : ℕ → Option (List ℕ)) → Fits sp.room m → Fits room m) → Stands sp b st
     → Stands (record sp { view = released_space b.left sp.view; room = room; left = left }) b st
-stands_released sp b st room left fits s = record { t0 = s.t0; touched = s.touched; core = core_released s.t0 sp.view b s.touched st s.core; known = known_released s.t0 sp.view b st b.left s.known; fits = fits (over sp.view.group (newest_map b st)) s.fits }
+stands_released sp b st room left fits s = record { t0 = s.t0; touched = s.touched; core = core_released s.t0 sp.view b s.touched st s.core; known = known_released s.t0 sp.view b st b.left s.known; fits = fits (over sp.view.group (newest_map b st)) s.fits; counted = s.counted }
 
 pub stands_sealed : (sp : SpaceBooks) (b : Books) (g : Group) (st : State) (room : Room) → IsGroupFor sp.view g → ((m : ℕ → Option (List ℕ)) → Fits sp.room m → Fits room m) → Stands sp b st
     → Stands (record sp { view = sealed_space sp.view; room = room }) (sealed_with b g) st
@@ -117,6 +127,7 @@ stands_sealed sp b g st room group fits s = record {
   core = core_sealed s.t0 sp.view b s.touched st g s.core group;
   known = known_sealed s.t0 sp.view b s.touched st g s.core group s.known;
   fits = subst (Fits room) (sym (λ i k. sealed_newest s.t0 sp.view b s.touched st g s.core group k i)) (fits (over sp.view.group (newest_map b st)) s.fits);
+  counted = s.counted;
 }
 
 -- ---- events
@@ -151,7 +162,7 @@ joined_sealed sp space b new g told room group is also fits joined =
 
 -- promises are no part of it
 same_promised : (sp space : SpaceBooks) (promised : List ℕ) (b : Books) (told : Option State) → space ≡ record sp { promised = promised } → AreJoined sp b told → AreJoined space b told
-same_promised sp space promised b told is joined = subst (λ (x : SpaceBooks). AreJoined x b told) (sym is) (record { fitted = joined.fitted; stands = λ st at. (let s = joined.stands st at in record { t0 = s.t0; touched = s.touched; core = s.core; known = s.known; fits = s.fits }) })
+same_promised sp space promised b told is joined = subst (λ (x : SpaceBooks). AreJoined x b told) (sym is) (record { fitted = joined.fitted; stands = λ st at. (let s = joined.stands st at in record { t0 = s.t0; touched = s.touched; core = s.core; known = s.known; fits = s.fits; counted = s.counted }) })
 
 pub joined_unpromised : (sp space : SpaceBooks) (promised : List ℕ) (b : Books) (told : Option State) → space ≡ record sp { promised = promised } → AreJoined sp b told → AreJoined space b told
 joined_unpromised = same_promised

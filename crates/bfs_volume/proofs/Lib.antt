@@ -7,6 +7,7 @@ pub mod Pieced
 pub mod Released
 pub mod Written
 pub mod Rooted
+pub mod Numbered
 pub mod Asking
 pub mod Gone
 pub mod Joined
@@ -14,7 +15,12 @@ pub mod Noting
 pub mod Asked
 pub mod Opened
 pub mod Closed
+pub mod Left
 pub mod Images
 pub mod Ends
 pub mod Happens
 pub mod Mounting
+pub mod Drawn
+pub use Rattle.bfs_check.proofs.Reading
+pub use Rattle.bfs_space.proofs.Groups
+pub use Rattle.bfs_space.proofs.Stamps

@@ -18,7 +18,6 @@ use Rattle.bfs_replay.proofs.Homes.{image_of_reads}
 use Rattle.bfs_replay.proofs.Sizes.{has_two}
 use Rattle.bfs_core.specs.Cores.{RecoversFrom}
 use Rattle.bfs_core.specs.Moments.{KeptSince}
-use Rattle.bfs_core.proofs.Openings.{whole_of}
 use Rattle.bfs_check.specs.Checked.{IsCheckFault, IsFound, IsVerdict, IsWholeWith, HasCauseIn}
 use Rattle.bfs_check.specs.declared.checking.Verdict.{Verdict}
 use Rattle.bfs_check.specs.declared.checking.Verdict.TheVariants as verdicts
@@ -27,13 +26,13 @@ use Rattle.bfs_check.specs.declared.checking.CheckFault.TheVariants as checking
 use Rattle.bfs_finding.specs.declared.finding.Finding.{Finding}
 use Rattle.bfs_check.specs.Summary.{Summary}
 use Rattle.bfs_device.proofs.Stepping.{filled_state, on_state}
-use Rattle.bfs_volume.specs.Volumes.{MayBeMounted}
 use Rattle.bfs_core.specs.KnownBytes.{HasBytesOf, HasKnown}
 use Rattle.bfs_core.specs.Spaces.{opened}
 use Rattle.bfs_core.proofs.Knowing.{known_opened}
 use Rattle.bfs_device.specs.Books.{IsOnDisk}
 use Rattle.bfs_device.specs.Seals.{adopted}
 use Rattle.bfs_tree.specs.Histories.{Mounted}
+use Rattle.bfs_count.specs.Counts.{nodes_of}
 use Rattle.bfs_volume.specs.Mounts.{IsHeld, IsHeldWhole, IsMountedFrom, IsUnshort}
 
 pub reads : (told : Option State) (image : List ℕ) → Tells told (Holds image) → Tells told (λ s. ReadsAs s image)
@@ -83,16 +82,16 @@ same_state a b e = cc
 
 -- where the disk held an image, what it holds since is whole
 module _ (old told : Option State) (s : Super) (held : IsHeld old) (silent : old ≡ None → told ≡ None) (recovered : (image : List ℕ) → Tells old (Holds image) → IsRecovered true image told s) where
-  pub held_whole : ((image : List ℕ) → Tells told (Holds image) → (tree : Tree) × IsWhole image tree) → IsHeldWhole s told
-  held_whole whole st is = by_old old refl
+  pub held_whole : (nodes : ℕ) → ((image : List ℕ) → Tells told (Holds image) → (tree : Tree) × IsWhole image tree × (nodes ≡ nodes_of tree)) → IsHeldWhole s nodes told
+  held_whole nodes whole st is = by_old old refl
     where
-      by_old : (o : Option State) → old ≡ o → (image : List ℕ) × (tree : Tree) × Holds image st × IsWhole image tree × (s ≡ super_of image)
+      by_old : (o : Option State) → old ≡ o → (image : List ℕ) × (tree : Tree) × Holds image st × IsWhole image tree × (s ≡ super_of image) × (nodes ≡ nodes_of tree)
       by_old None none = absurd (held_some told (silent none) st is)
       by_old (Some was) before =
           let h = held was before in
           let got = recovered h.0 (was, before, h.1) in
           let w = whole got.0 got.2 in
-          (got.0, w.0, subst (Holds got.0) (same_state got.2.0 st (sym got.2.1 ∙ is)) got.2.2, w.1, got.3)
+          (got.0, w.0, subst (Holds got.0) (same_state got.2.0 st (sym got.2.1 ∙ is)) got.2.2, w.1, got.3, w.2)
 
 -- two images that a quiet disk holds are one
 pub one_image : (told : Option State) (st : State) (a b : List ℕ) → told ≡ Some st → IfSome told Filled → Holds a st → Tells told (Holds b) → a ≡ b
@@ -100,12 +99,9 @@ one_image told st a b is filled ha hb =
     let same : st ≡ hb.0 = same_state st hb.0 (sym is ∙ hb.1) in
     quiet_image st b a ha.quiet (subst (λ (x : State). ReadsAs x b) (sym same) hb.2.reads) (image_of_reads st a (filled_state told st filled is) ha.reads)
 
--- what is held whole may be mounted, and is what replay gives of itself
-pub may_mount : (s : Super) (told : Option State) → IsHeldWhole s told → MayBeMounted told
-may_mount s told whole st is = let h = whole st is in (h.0, h.1, h.2, whole_recovers h.0 h.1 h.3)
-
-pub held_recovered : (s : Super) (told : Option State) → IfSome told Filled → IsHeldWhole s told → (image : List ℕ) → Tells told (Holds image) → IsRecovered true image told s
-held_recovered s told filled whole image held =
+-- what is held whole is what replay gives of itself
+pub held_recovered : (s : Super) (nodes : ℕ) (told : Option State) → IfSome told Filled → IsHeldWhole s nodes told → (image : List ℕ) → Tells told (Holds image) → IsRecovered true image told s
+held_recovered s nodes told filled whole image held =
     let h = whole held.0 held.1 in
     let same : h.0 ≡ image = one_image told held.0 h.0 image held.1 filled h.2 held in
     let replayed = replayed_empty h.0 h.3.valid (ap natural h.3.whole.emptied) in
@@ -133,17 +129,6 @@ module _ (image : List ℕ) (told : Option State) (size : Option ℕ) (s : Super
   unshort (checking.Short count needed) short = absurd (never_short count needed short)
   unshort (checking.Disk before after) h = tt
   unshort checking.NoMemory h = tt
-
--- what may be mounted is held whole once its log was replayed
-pub mounted_whole : (old told : Option State) (s : Super) → MayBeMounted old → (old ≡ None → told ≡ None) → ((image : List ℕ) → Tells old (Holds image) → IsRecovered true image told s) → IsHeldWhole s told
-mounted_whole old told s may silent recovered st is = by_old old refl
-  where
-    by_old : (o : Option State) → old ≡ o → (image : List ℕ) × (tree : Tree) × Holds image st × IsWhole image tree × (s ≡ super_of image)
-    by_old None none = absurd (held_some told (silent none) st is)
-    by_old (Some was) before =
-        let m = may was before in
-        let got = recovered m.0 (was, before, m.2) in
-        (got.0, m.1, subst (Holds got.0) (same_state got.2.0 st (sym got.2.1 ∙ is)) got.2.2, whole_of m.0 got.0 m.1 m.3 got.1, got.3)
 
 -- the known bytes of what is held whole, once it is opened
 pub known_held : (t0 : Mounted) (image : List ℕ) (told : Option State) (size : Option ℕ) (st : State) → IsWhole image t0.tree → HasBytesOf image t0 → Tells told (Holds image) → IfSome told Filled → IfSome told (λ x. size ≡ Some x.size) → IsOnDisk size (super_of image) → told ≡ Some st

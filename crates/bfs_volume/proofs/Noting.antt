@@ -1,6 +1,7 @@
 -- Entries of a volume: what may follow, and what the device knows of them.
 use Rattle.std.proofs.Common.{◌≡◌, ◌≢◌, ◌≤◌, ◌+◌, ◌++◌, ℕ, ℤ, List, [], ◌∷◌, length, Bool, true, false, cond, ◌==◌, Option, None, refl, sym, ◌∙◌, ap, subst, arith}
 use Rattle.std.specs.Prelude.{IsTrue}
+use Rattle.bfs_count.specs.Counts.{nodes_of}
 use Rattle.std.specs.List.{list_any}
 use Rattle.std.proofs.lemmas.Bool.{true≢false}
 use Rattle.std.proofs.lemmas.Grind.{fold-append}
@@ -29,7 +30,7 @@ use Rattle.bfs_space.specs.Files.{lets_go}
 use Rattle.bfs_space.proofs.Following.{follows, tree_after, tree_unsynced}
 use Rattle.bfs_volume.specs.Volumes.{AreFitted, AreJoined}
 use Rattle.bfs_volume.specs.Entries.{IsToldBy}
-use Rattle.bfs_volume.proofs.Joined.{going_more}
+use Rattle.bfs_volume.proofs.Joined.{going_more, waits_more}
 
 -- ---- a call is not answered by a number of durable entries
 
@@ -118,6 +119,7 @@ joined_noted law sp space b told session tag now durable call reply other goes t
     idle = joined.fitted.idle;
     reached = joined.fitted.reached;
     going = λ none. going_more sp.view.history (entry_noted sp session tag now call reply) ((told_is_known sp b session tag now call reply tells).1 none) (joined.fitted.going none);
+    waits = waits_more sp.view (noted sp.view (entry_noted sp session tag now call reply)) (entry_noted sp session tag now call reply) refl refl joined.fitted.waits;
   };
   stands = λ st told_st.
       let s = joined.stands st told_st in
@@ -129,5 +131,6 @@ joined_noted law sp space b told session tag now durable call reply other goes t
         core = core_entered s.t0 sp.view (noted sp.view (entry_noted sp session tag now call reply)) b s.touched st (entry_noted sp session tag now call reply) s.core e.0 e.1;
         known = known_entered s.t0 sp.view (noted sp.view (entry_noted sp session tag now call reply)) b st (entry_noted sp session tag now call reply) e.0 keeps s.known;
         fits = s.fits;
+        counted = s.counted ∙ sym (ap nodes_of ((told_follows s.t0 sp b session tag now call other s.core.space.legal joined.fitted.going reply tells).1));
       };
 })

@@ -1,17 +1,17 @@
 -- A space and a device of a volume that was just mounted.
-use Rattle.std.proofs.Common.{◌≡◌, ◌<◌, ◌+◌, ◌*◌, ◌/◌, inl, ℕ, List, length, Bool, true, Option, Some, None, IfSome, refl, sym, ◌∙◌, ap, subst, arith}
-use Rattle.std.specs.Prelude.{is_some}
+use Rattle.std.proofs.Common.{◌≡◌, ◌<◌, ◌+◌, ◌*◌, ◌/◌, inl, inr, ℕ, List, length, Option, Some, None, IfSome, refl, sym, ap, subst, arith}
 use Rattle.std.specs.FinMap.{empty}
 use Rattle.bfs_volume.proofs.Bare.{bare_bytes}
-use Rattle.std.proofs.lemmas.Bool.{cond-true, true≢false}
+use Rattle.bfs_volume.proofs.Mounting.{whole_recovers}
+use Rattle.bfs_log.proofs.Replays.{replayed_empty}
+use Rattle.std.proofs.lemmas.Bool.{cond-true}
 use Rattle.std.proofs.lemmas.Nat.{div-mul-add}
-use Rattle.bfs_disk.specs.State.{State, Tells, Filled, Holds}
+use Rattle.bfs_disk.specs.State.{State, Filled}
 use Rattle.bfs_super.specs.declared.sup.Super.{Super}
 use Rattle.bfs_super.specs.Conditions.{IsValid, ceil, natural}
 use Rattle.bfs_log.proofs.Bounds.{group_low}
 use Rattle.bfs_bitmap.specs.Runs.{Fits}
 use Rattle.bfs_tree.specs.Histories.{Mounted}
-use Rattle.bfs_replay.specs.Recover.{IsRecovered}
 use Rattle.bfs_device.specs.Layouts.{IsData, is_data, layout_of}
 use Rattle.bfs_device.specs.Phases.{none}
 use Rattle.bfs_device.specs.Books.{Books, IsOnDisk, sealed_of, version}
@@ -24,10 +24,11 @@ use Rattle.bfs_core.specs.Cores.{Core, newest_map}
 use Rattle.bfs_core.specs.KnownBytes.{HasKnown}
 use Rattle.bfs_core.proofs.Knowing.{known_opened}
 use Rattle.bfs_core.proofs.Masks.{of_data}
-use Rattle.bfs_core.proofs.Openings.{core_mounted, whole_of}
+use Rattle.bfs_core.proofs.Openings.{core_mounted}
 use Rattle.bfs_core.proofs.Wholes.{newest_is_sized}
 use Rattle.bfs_space.specs.Books.{first_room, fresh}
-use Rattle.bfs_volume.specs.Volumes.{AreFitted, AreJoined, MayBeMounted, Stands}
+use Rattle.bfs_volume.specs.Mounts.{IsHeldWhole}
+use Rattle.bfs_volume.specs.Volumes.{AreFitted, AreJoined, Stands}
 
 -- a block of the bitmap is one of data
 bitmap_data : (s : Super) (j : ℕ) → IsValid s → 8 * s.block_size * j < natural s.num_blocks → IsData (layout_of s) (1 + j)
@@ -60,33 +61,26 @@ fits_first s st steady filled on = record {
 }
 
 fitted_first : (s : Super) → AreFitted (opened s) (adopted s)
-fitted_first s = record { geometry = λ used. refl; sealed = refl; sealed_used = refl; idle = λ e. refl; going = λ e. refl; reached = λ k d lt. absurd (omega (arith, lt)) }
+fitted_first s = record { geometry = λ used. refl; sealed = refl; sealed_used = refl; idle = λ e. refl; going = λ e. refl; reached = λ k d lt. absurd (omega (arith, lt)); waits = inr (refl, refl) }
 
 -- they are joined, where the disk holds what replay gives of an image that recovers
-module _ (old told : Option State) (size : Option ℕ) (s : Super) (may : MayBeMounted old) (silent : old ≡ None → told ≡ None) (recovered : (quiet : Bool) (image : List ℕ) → quiet ≡ true → Tells old (Holds image) → IsRecovered true image told s)
+module _ (told : Option State) (size : Option ℕ) (s : Super) (nodes : ℕ) (whole : IsHeldWhole s nodes told)
     (filled : IfSome told Filled) (sized : IfSome told (λ x. size ≡ Some x.size)) (on : IsOnDisk size s) (steady : IsSteady (adopted s)) where
-  stands_first : (was st : State) → old ≡ Some was → told ≡ Some st → Stands (fresh s) (adopted s) st
-  stands_first was st before is =
-      let m = may was before in
-      let t0 : Mounted = record { tree = m.1; bytes = empty } in
-      let got = recovered true m.0 refl (was, before, m.2) in
-      let e : Some got.2.0 ≡ Some st = sym got.2.1 ∙ is in
-      let same : got.2.0 ≡ st = cc in
-      let holds : Holds got.0 st = subst (Holds got.0) same got.2.2 in
+  stands_first : (st : State) → told ≡ Some st → Stands (fresh s nodes) (adopted s) st
+  stands_first st is =
+      let h = whole st is in
+      let t0 : Mounted = record { tree = h.1; bytes = empty } in
       let full = filled_state told st filled is in
       let here : IsOnDisk (Some st.size) s = on_state s size told st sized on is in
+      let replayed = replayed_empty h.0 h.3.valid (ap natural h.3.whole.emptied) in
       record {
         t0 = t0;
         touched = none;
-        core = subst (λ (x : Super). Core t0 (opened x) (adopted x) none st) (sym got.3) (core_mounted t0 m.0 got.0 st m.3 got.1 holds full (subst (λ (x : Super). IsOnDisk (Some st.size) x) got.3 here));
-        known = subst (λ (x : Super). HasKnown t0 (opened x) (adopted x) st) (sym got.3)
-            (known_opened t0 got.0 st (whole_of m.0 got.0 m.1 m.3 got.1) holds full (subst (λ (x : Super). IsOnDisk (Some st.size) x) got.3 here) (bare_bytes got.0 m.1));
+        core = subst (λ (x : Super). Core t0 (opened x) (adopted x) none st) (sym h.4) (core_mounted t0 h.0 h.0 st (whole_recovers h.0 h.1 h.3) replayed h.2 full (subst (λ (x : Super). IsOnDisk (Some st.size) x) h.4 here));
+        known = subst (λ (x : Super). HasKnown t0 (opened x) (adopted x) st) (sym h.4) (known_opened t0 h.0 st h.3 h.2 full (subst (λ (x : Super). IsOnDisk (Some st.size) x) h.4 here) (bare_bytes h.0 h.1));
         fits = fits_first s st steady full here;
+        counted = h.5;
       }
 
-  by_old : (o : Option State) → old ≡ o → (st : State) → told ≡ Some st → Stands (fresh s) (adopted s) st
-  by_old None none st is = absurd (true≢false (ap is_some (sym is ∙ silent none)))
-  by_old (Some was) before st is = stands_first was st before is
-
-  pub joined_first : AreJoined (fresh s) (adopted s) told
-  joined_first = record { fitted = fitted_first s; stands = λ st is. by_old old refl st is }
+  pub joined_first : AreJoined (fresh s nodes) (adopted s) told
+  joined_first = record { fitted = fitted_first s; stands = stands_first }

@@ -1,6 +1,7 @@
 -- The entry of a release: what it may say of a piece that was read or written, and what it leaves.
 use Rattle.std.proofs.Common.{◌≡◌, ◌≢◌, ◌<◌, ◌+◌, ◌++◌, ⊎_elim, inl, inr, ℕ, ℤ, List, [], ◌∷◌, length, Bool, true, false, Option, Some, refl, sym, ◌∙◌, subst}
 use Rattle.std.specs.Prelude.{IsTrue, slice_index}
+use Rattle.bfs_space.proofs.Counting.{counted_on}
 use Rattle.std.proofs.lemmas.Bool.{true≢false}
 use Rattle.std.proofs.lemmas.Option.{get_or_from_slice_get, slice_get_within}
 use Rattle.bfs_disk.specs.State as disks
@@ -26,7 +27,7 @@ use Rattle.bfs_device_blocks.proofs.Holding.{hold_entered}
 use Rattle.bfs_space.specs.Books.{SpaceBooks, entry_noted, with_note}
 use Rattle.bfs_volume.specs.Held.{EndsInHold, IsOnDisk}
 use Rattle.bfs_volume.specs.Volumes.{AreJoined}
-use Rattle.bfs_volume.proofs.Joined.{going_more}
+use Rattle.bfs_volume.proofs.Joined.{going_more, waits_more}
 use Rattle.bfs_volume.proofs.Pieced.{byte_there, one_byte}
 use Rattle.bfs_volume.proofs.Taken.{IsHeldFile, hold_as, release_known, release_step, release_tree, taken_file}
 
@@ -108,6 +109,7 @@ module _ (sp : SpaceBooks) (b : Books) (told : Option disks.State) (session tag 
       idle = joined.fitted.idle;
       reached = joined.fitted.reached;
       going = λ none. going_more sp.view.history entry refl (joined.fitted.going none);
+      waits = waits_more sp.view (noted sp.view entry) entry refl refl joined.fitted.waits;
     };
     stands = λ st is.
         let s = joined.stands st is in
@@ -117,6 +119,7 @@ module _ (sp : SpaceBooks) (b : Books) (told : Option disks.State) (session tag 
           core = core_entered s.t0 sp.view (noted sp.view entry) b s.touched st entry s.core (entered s.t0 st is s.core.space s.known) is_known;
           known = known_entered s.t0 sp.view (noted sp.view entry) b st entry (entered s.t0 st is s.core.space s.known) (keeps s.t0 st is s.core.space s.known) s.known;
           fits = s.fits;
+          counted = counted_on s.t0 sp.view.history (noted sp.view entry).history entry sp.nodes false refl (entered s.t0 st is s.core.space s.known).follows s.counted (λ done state same fine. refl);
         };
   })
 

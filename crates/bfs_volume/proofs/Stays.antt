@@ -1,10 +1,11 @@
 -- Calls that leave the holds of sessions as they are.
-use Rattle.std.proofs.Common.{◌≡◌, ◌≢◌, ℕ, List, Bool, true, false, refl}
+use Rattle.std.proofs.Common.{rules, ◌≡◌, ◌≢◌, ℕ, List, [], ◌∷◌, Bool, true, false, refl}
 use Rattle.bfs_tree.specs.declared.call.Call.{Call}
 use Rattle.bfs_tree.specs.declared.call.Call.TheVariants as calls
 use Rattle.bfs_tree.specs.declared.reply.Reply.{Reply}
 use Rattle.bfs_tree.specs.declared.reply.Reply.TheVariants as replies
 use Rattle.bfs_tree.specs.Steps.{is_done}
+use Rattle.bfs_space.specs.Books.{without}
 use Rattle.bfs_space.specs.Faces.{promised_after}
 use Rattle.bfs_space.specs.Files.{lets_go}
 use Rattle.bfs_space.specs.Holds.{keeps_holds}
@@ -28,3 +29,8 @@ no_sync id at count writes e = cc
 pub promised_same : (session id at count : ℕ) (writes : Bool) (reply : Reply) (promised : List ℕ) → is_done reply ≡ false → promised_after session (calls.Hold id at count writes) reply promised ≡ promised
 promised_same session id at count writes replies.Done promised is = absurd (let bad : true ≡ false = is in cc)
 promised_same session id at count writes _ promised is = refl
+
+-- once a session has no promise left, that of session 0 is the only one
+pub promised_alone : (session : ℕ) (call : Call) (reply : Reply) → session ≢ 0 → without session (promised_after session call reply (0 ∷ session ∷ [])) ≡ 0 ∷ []
+promised_alone session (calls.Hold id at count writes) replies.Done other = search rules
+promised_alone session _ _ other = search rules

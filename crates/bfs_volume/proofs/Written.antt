@@ -169,7 +169,7 @@ module _ {E : Type 0} (sp : SpaceBooks) (b new : Books) (told told' : Option Sta
   pub fitted_written : AreFitted sp.view new
   fitted_written =
       let f = joined.fitted in
-      subst (AreFitted sp.view) (sym rest) (record { geometry = f.geometry; sealed = f.sealed; sealed_used = f.sealed_used; idle = f.idle; going = λ none. f.going begun; reached = f.reached })
+      subst (AreFitted sp.view) (sym rest) (record { geometry = f.geometry; sealed = f.sealed; sealed_used = f.sealed_used; idle = f.idle; going = λ none. f.going begun; reached = f.reached; waits = f.waits })
 
   core_here : (next : State) → (is : told' ≡ Some next) → (let o = others next is in HasCore (joined.stands o.0 o.1).t0 (adopted_at clock clock) sp.view b told clock since)
   core_here next is = let o = others next is in stands_core sp b told o.0 clock since o.1 (joined.stands o.0 o.1) joined.fitted only recovers
@@ -193,7 +193,7 @@ module _ {E : Type 0} (sp : SpaceBooks) (b new : Books) (told told' : Option Sta
         let s = joined.stands o.0 o.1 in
         let core = core_written s.t0 (adopted_at clock clock) (core_here next is) in
         let now = held_at s.t0 (adopted_at clock clock) sp.view new told' clock' since' core next is in
-        record { t0 = s.t0; touched = now.0; core = now.1; known = now.2; fits = fits_written next is now.1.steady };
+        record { t0 = s.t0; touched = now.0; core = now.1; known = now.2; fits = fits_written next is now.1.steady; counted = s.counted };
   }
 
   there : (next : State) → (is : told' ≡ Some next) → (let o = others next is in IsHeldPiece (joined.stands o.0 o.1).t0 sp.view (newest_map new next) id at (length bytes) skip places × OnOk result (IsPieceOf (contents_of next (layout_of b.sup).sectors) b.sup.block_size places skip bytes))

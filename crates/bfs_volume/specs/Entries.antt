@@ -1,5 +1,5 @@
 -- The entries that calls of a volume append.
-use Rattle.std.specs.Prelude.{◌≡◌, ◌≢◌, ◌≤◌, ℕ, ℤ, List, [], ◌∷◌, ◌++◌, true, false, Option, Some, None, length}
+use Rattle.std.specs.Prelude.{◌≡◌, ◌≢◌, ◌≤◌, ℕ, ℤ, List, [], ◌∷◌, ◌++◌, true, false, Option, Some, None, Result, Ok, Err, length}
 use Rattle.std.specs.List.{list_any}
 use Rattle.std.specs.Option.{option_map}
 use Rattle.bfs_txn.specs.Faults.{Counts}
@@ -93,3 +93,15 @@ pub record IsEnded (before now : List Entry) (session tag : ℕ) (call : Call) (
   pub reply : Reply
   pub entry : HasEntryOf before now session tag call reply
   pub cause : IsDeviceEnd old faults later reply
+
+-- the one entry of a call of a device that had stopped says that it has, with the numbers of that stop
+abbrev pub IsStoppedEntry : List Entry → List Entry → ℕ → ℕ → Call → Stop → Type 0
+IsStoppedEntry before now session tag call s = HasEntryOf before now session tag call (replies.Stopped s.durable s.faults)
+
+-- A sync of a device that had stopped is never made: it answers that it has, with the numbers of that stop, and so does its one entry; but for
+-- want of memory, where no entry came.
+abbrev pub IsStoppedSync : List Entry → List Entry → ℕ → ℕ → Stop → Result ℕ SyncFault → Type 0
+IsStoppedSync before now session tag s (Err (syncs.Stopped durable faults)) = (durable ≡ s.durable) × (faults ≡ s.faults) × IsStoppedEntry before now session tag calls.Sync s
+IsStoppedSync before now session tag s (Err syncs.NoMemory) = now ≡ before
+IsStoppedSync before now session tag s (Err (syncs.Disk from to stops)) = ⊥
+IsStoppedSync before now session tag s (Ok n) = ⊥

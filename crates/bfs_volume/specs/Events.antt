@@ -16,7 +16,9 @@ use Rattle.bfs_space.specs.Faces.{HasOutcome, IsOutcome}
 use Rattle.bfs_space.specs.Looks.{is_built}
 use Rattle.bfs_space.specs.declared.space.Outcome.{Outcome}
 use Rattle.bfs_space.specs.declared.space.Outcome.TheVariants.{Replied, Drain}
-use Rattle.bfs_volume.specs.Entries.{HasEntry, IsEnded}
+use Rattle.bfs_device.specs.declared.journal.DeviceFault.TheVariants as device
+use Rattle.bfs_device.specs.declared.journal.Stop.{Stop}
+use Rattle.bfs_volume.specs.Entries.{HasEntry, IsEnded, IsStoppedEntry}
 use Rattle.bfs_volume.specs.declared.event.Event.{Event}
 use Rattle.bfs_volume.specs.declared.event.Event.TheVariants as events
 use Rattle.bfs_volume.specs.declared.event.Happened.{Happened}
@@ -92,3 +94,15 @@ MayHappen _ = Unit {0}
 abbrev pub MayWantMemory : Event → Type 0
 MayWantMemory events.Step = ⊥
 MayWantMemory _ = Unit {0}
+
+-- A call of a device that had stopped, asked once, isn't put off: its one entry says that the device has stopped.
+abbrev pub IsStoppedTry : List Entry → List Entry → ℕ → ℕ → Call → Stop → Outcome → Type 0
+IsStoppedTry before now session tag call s Replied = IsStoppedEntry before now session tag call s
+IsStoppedTry before now session tag call s (Drain back) = ⊥
+
+-- What has become of an event where the device had stopped: a call is answered so, with the numbers of that stop; a step answers the same, and
+-- no entry came. A seal may be made: its group waits.
+abbrev pub IsStoppedEvent : List Entry → List Entry → Stop → Event → Happened → Type 0
+IsStoppedEvent before now s (events.Call session tag call) happened = (happened ≡ happens.Replied) × IsStoppedEntry before now session tag call s
+IsStoppedEvent before now s events.Seal happened = Unit {0}
+IsStoppedEvent before now s events.Step happened = (happened ≡ happens.Fault (device.Stopped s.durable s.faults)) × (now ≡ before)

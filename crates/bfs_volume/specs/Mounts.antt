@@ -6,6 +6,7 @@ use Rattle.bfs_log.specs.Replay.{Replayed, super_of}
 use Rattle.std.specs.FinMap.{empty}
 use Rattle.bfs_tree.specs.Histories.{Mounted}
 use Rattle.bfs_tree.specs.Trees.{Tree}
+use Rattle.bfs_count.specs.Counts.{nodes_of}
 use Rattle.bfs_sound.specs.Whole.{IsWhole, Recovers}
 use Rattle.bfs_core.specs.KnownBytes.{HasBytesOf}
 use Rattle.bfs_replay.specs.Recover.{HasCauseIn, IsMountFault}
@@ -19,9 +20,9 @@ use Rattle.bfs_volume.specs.declared.mount.Unmounted.TheVariants.{Unread, Wrong}
 abbrev pub IsHeld : Option State → Type 0
 IsHeld told = (st : State) → told ≡ Some st → (image : List ℕ) × Holds image st
 
--- where the disk tells, it is quiet and holds an image that is whole with a tree, with this superblock
-abbrev pub IsHeldWhole : Super → Option State → Type 0
-IsHeldWhole sup told = (st : State) → told ≡ Some st → (image : List ℕ) × (tree : Tree) × Holds image st × IsWhole image tree × (sup ≡ super_of image)
+-- where the disk tells, it is quiet and holds an image that is whole with a tree, with this superblock and so many nodes
+abbrev pub IsHeldWhole : Super → ℕ → Option State → Type 0
+IsHeldWhole sup nodes told = (st : State) → told ≡ Some st → (image : List ℕ) × (tree : Tree) × Holds image st × IsWhole image tree × (sup ≡ super_of image) × (nodes ≡ nodes_of tree)
 
 -- a check isn't hindered by a disk that is too short
 abbrev pub IsUnshort : CheckFault → Type 0

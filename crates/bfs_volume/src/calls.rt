@@ -1,10 +1,11 @@
 // Calls and syncs of a session: each appends one entry, or finds no memory and changes nothing of the history.
-ghost use Rattle.std.specs.Prelude.{◌≡◌, ◌≢◌, ◌≤◌, ◌<◌, ◌⊎◌, ◌^◌, ℕ, [], ◌∷◌, true, false, length, IfOk, IfErr, OnOk, OnErr};
+ghost use Rattle.std.specs.Prelude.{◌≡◌, ◌≢◌, ◌≤◌, ◌<◌, ◌⊎◌, ◌^◌, ℕ, [], ◌∷◌, Some, true, false, length, IfOk, IfErr, OnOk, OnErr};
 ghost use Rattle.bfs_tree.specs.declared.call.Call.TheVariants.{Sync};
 ghost use Rattle.bfs_tree.specs.declared.reply.Reply.TheVariants.{Synced};
 ghost use Rattle.bfs_tree.specs.Answers.{KeepsRanges};
 ghost use Rattle.bfs_tree.specs.Histories.{Mounted};
 ghost use Rattle.bfs_device.specs.Books.{durable_of};
+ghost use Rattle.bfs_device.specs.declared.journal.Stop as stops;
 ghost use Rattle.bfs_device_blocks.specs.Lent.{HasCore};
 ghost use Rattle.bfs_core.specs.Spaces.{SpaceView};
 ghost use Rattle.bfs_core.specs.Moments.{Adoption};
@@ -13,7 +14,8 @@ ghost use Rattle.bfs_space.specs.Files.{lets_go};
 ghost use Rattle.bfs_space.specs.Holds.{keeps_holds};
 ghost use Rattle.bfs_volume.specs.Volumes.{AreJoined};
 ghost use Rattle.bfs_volume.specs.Causes.{HasSyncCause};
-ghost use Rattle.bfs_volume.specs.Entries.{HasEntry, HasEntryOf, HasFailedSync, HasReplyIn, IsAnsweredIn, IsEnded, sync_fault_of};
+ghost use Rattle.bfs_volume.specs.Entries.{HasEntry, HasEntryOf, HasFailedSync, HasReplyIn, IsAnsweredIn, IsEnded, IsStoppedEntry, IsStoppedSync, sync_fault_of};
+ghost use Rattle.bfs_volume.specs.Stamps.{HasDrawn};
 
 use crate::events::{SyncFault, ask};
 use crate::notes::{as_reply, note};
@@ -95,6 +97,11 @@ pub fn answer<A: Answers, D: Disk>(
     ensures noted { OnOk result (HasReplyIn space.old space.new (D.faults device.old.disk) (D.faults device.new.disk) session tag call ⊎ IsEnded space.old.view.history space.new.view.history session tag call device.old.books.stop (D.faults device.old.disk) (D.faults device.new.disk)) }
     ensures answered { (t0 : Mounted) (adopted : Adoption) → HasCore t0 adopted space.old.view device.old.books (D.state device.old.disk) (D.clock device.old.disk) (D.since device.old.disk)
         → OnOk result (IsAnsweredIn t0 space.old space.new device.new.books (D.state device.new.disk) session tag call ⊎ IsEnded space.old.view.history space.new.view.history session tag call device.old.books.stop (D.faults device.old.disk) (D.faults device.new.disk)) }
+    // Of a device that had stopped the call is answered so, also where the disk tells nothing.
+    ensures stopped { (s : stops.Stop) → device.old.books.stop ≡ Some s → OnOk result (IsStoppedEntry space.old.view.history space.new.view.history session tag call s) }
+    // And it stays stopped, whatever is answered.
+    ensures stays_stopped { (s : stops.Stop) → device.old.books.stop ≡ Some s → device.new.books.stop ≡ Some s }
+    ensures stamps { HasDrawn space.old.view.history space.new.view.history now }
     ensures core { (t0 : Mounted) (adopted : Adoption) → HasCore t0 adopted space.old.view device.old.books (D.state device.old.disk) (D.clock device.old.disk) (D.since device.old.disk)
         → HasCore t0 adopted space.new.view device.new.books (D.state device.new.disk) (D.clock device.new.disk) (D.since device.new.disk) }
 {
@@ -167,6 +174,11 @@ pub fn sync<D: Disk>(
     ensures failed { IfErr result (HasFailedSync space.old.view.history space.new.view.history session tag) }
     ensures cause { IfErr result (HasSyncCause device.old.books.stop (D.faults device.old.disk) (D.faults device.new.disk)) }
     ensures later { D.faults device.old.disk ≤ D.faults device.new.disk }
+    // Of a device that had stopped nothing is made durable any more, and the sync is answered so, also where the disk tells nothing.
+    ensures stopped { (s : stops.Stop) → device.old.books.stop ≡ Some s → IsStoppedSync space.old.view.history space.new.view.history session tag s result }
+    // And it stays stopped, whatever is answered.
+    ensures stays_stopped { (s : stops.Stop) → device.old.books.stop ≡ Some s → device.new.books.stop ≡ Some s }
+    ensures stamps { HasDrawn space.old.view.history space.new.view.history now }
     ensures core { (t0 : Mounted) (adopted : Adoption) → HasCore t0 adopted space.old.view device.old.books (D.state device.old.disk) (D.clock device.old.disk) (D.since device.old.disk)
         → HasCore t0 adopted space.new.view device.new.books (D.state device.new.disk) (D.clock device.new.disk) (D.since device.new.disk) }
 {

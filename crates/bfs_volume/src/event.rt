@@ -1,17 +1,19 @@
 // One event of a volume: a call that is asked once, a seal, or a step of the device. Between two of them a volume may be left as it is: a crash there
 // recovers as one inside an event does.
-ghost use Rattle.std.specs.Prelude.{◌≡◌, ◌≢◌, ◌≤◌, ◌<◌, ◌⊎◌, ◌^◌, ℕ, [], ◌∷◌, true, false, length, Ok, Err, IfOk, IfErr, OnErr};
+ghost use Rattle.std.specs.Prelude.{◌≡◌, ◌≢◌, ◌≤◌, ◌<◌, ◌⊎◌, ◌^◌, ℕ, [], ◌∷◌, Some, true, false, length, Ok, Err, IfOk, IfErr, OnErr};
 ghost use Rattle.bfs_tree.specs.declared.call.Call.TheVariants.{Sync};
 ghost use Rattle.bfs_tree.specs.Answers.{KeepsRanges};
 ghost use Rattle.bfs_tree.specs.Histories.{Mounted};
 ghost use Rattle.bfs_device.specs.Books.{sealed_of};
+ghost use Rattle.bfs_device.specs.declared.journal.Stop as stops;
 ghost use Rattle.bfs_device_blocks.specs.Lent.{HasCore};
 ghost use Rattle.bfs_core.specs.Moments.{Adoption};
 ghost use Rattle.bfs_space.specs.Files.{lets_go};
 ghost use Rattle.bfs_space.specs.Holds.{keeps_holds};
 ghost use Rattle.bfs_volume.specs.Volumes.{AreJoined};
 ghost use Rattle.bfs_volume.specs.Entries.{IsEnded};
-ghost use Rattle.bfs_volume.specs.Events.{HasTried, HasOutcomeIn, IsOutcomeIn, IsSealing, happened_by};
+ghost use Rattle.bfs_volume.specs.Events.{HasTried, HasOutcomeIn, IsOutcomeIn, IsSealing, IsStoppedTry, happened_by};
+ghost use Rattle.bfs_volume.specs.Stamps.{HasDrawn};
 
 use crate::calls::{make_room, prepare};
 use crate::events::{ask, seal};
@@ -75,6 +77,11 @@ pub fn attempt<A: Answers, D: Disk>(
     ensures noted { IfOk result (λ o. HasOutcomeIn space.old space.new (D.faults device.old.disk) (D.faults device.new.disk) session tag call o ⊎ IsEnded space.old.view.history space.new.view.history session tag call device.old.books.stop (D.faults device.old.disk) (D.faults device.new.disk)) }
     ensures answered { (t0 : Mounted) (adopted : Adoption) → HasCore t0 adopted space.old.view device.old.books (D.state device.old.disk) (D.clock device.old.disk) (D.since device.old.disk)
         → IfOk result (λ o. IsOutcomeIn t0 space.old space.new device.new.books (D.state device.new.disk) session tag call o ⊎ IsEnded space.old.view.history space.new.view.history session tag call device.old.books.stop (D.faults device.old.disk) (D.faults device.new.disk)) }
+    // Of a device that had stopped the call is answered so, also where the disk tells nothing.
+    ensures stopped { (s : stops.Stop) → device.old.books.stop ≡ Some s → IfOk result (IsStoppedTry space.old.view.history space.new.view.history session tag call s) }
+    // And it stays stopped, whatever is answered.
+    ensures stays_stopped { (s : stops.Stop) → device.old.books.stop ≡ Some s → device.new.books.stop ≡ Some s }
+    ensures stamps { HasDrawn space.old.view.history space.new.view.history now }
     ensures core { (t0 : Mounted) (adopted : Adoption) → HasCore t0 adopted space.old.view device.old.books (D.state device.old.disk) (D.clock device.old.disk) (D.since device.old.disk)
         → HasCore t0 adopted space.new.view device.new.books (D.state device.new.disk) (D.clock device.new.disk) (D.since device.new.disk) }
 {

@@ -15,6 +15,7 @@ ghost use Rattle.bfs_space.specs.Faces.{IsFaceOf, IsOutcome, HasOutcome};
 ghost use Rattle.bfs_space.specs.Holds.{keeps_holds};
 ghost use Rattle.bfs_volume.specs.Volumes.{AreJoined};
 ghost use Rattle.bfs_volume.specs.Entries.{counts_of};
+ghost use Rattle.bfs_volume.specs.Stamps.{HasDrawn};
 
 use bfs_device::{Device, DeviceFault, Progress};
 use bfs_device_blocks::DeviceBlocks;
@@ -120,6 +121,7 @@ pub fn ask<A: Answers, D: Disk>(
     ensures no_memory { OnErr result (space.new ≡ space.old) }
     // What the disk tells, the call is entered on, or put off.
     ensures entered { (t0 : Mounted) (st : State) → D.state device.old.disk ≡ Some st → IsFaceOf t0 space.old (newest_map device.old.books st) → IfOk result (IsOutcome t0 space.old space.new (newest_map device.old.books st) session tag now call) }
+    ensures stamps { HasDrawn space.old.view.history space.new.view.history now }
     ensures core { (t0 : Mounted) (adopted : Adoption) → HasCore t0 adopted space.old.view device.old.books (D.state device.old.disk) (D.clock device.old.disk) (D.since device.old.disk)
         → HasCore t0 adopted space.new.view device.new.books (D.state device.new.disk) (D.clock device.new.disk) (D.since device.new.disk) }
 {

@@ -14,6 +14,8 @@ mod pieces;
 mod settle;
 mod volume;
 
+pub use bfs_check as check;
+pub use bfs_space as space;
 pub use event::{Event, Happened};
 pub use events::SyncFault;
 pub use laws::mounts_bare;

@@ -42,13 +42,16 @@ fn unchecked(fault: CheckFault) -> MountFault
     }
 }
 
-/// Replays the log of a volume, and checks it. Answers its superblock where it is whole.
-pub(crate) fn replay_and_check<D: Disk>(alloc: Global, disk: &mut D) -> Result<Super, Unmounted>
+/// Replays the log of a volume, and checks it. Answers its superblock where it is whole, and how many nodes it has.
+pub(crate) fn replay_and_check<D: Disk>(
+    alloc: Global,
+    disk: &mut D,
+) -> Result<(Super, u64), Unmounted>
     requires held { IsHeld (D.state disk.old) }
-    ensures valid { IfOk result IsValid }
-    ensures empty { IfOk result (λ s. s.log_start ≡ s.log_end) }
-    ensures on_disk { IfOk result (IsOnDisk (D.size disk.new)) }
-    ensures whole { IfOk result (λ s. IsHeldWhole s (D.state disk.new)) }
+    ensures valid { IfOk result (λ s. IsValid s.0) }
+    ensures empty { IfOk result (λ s. s.0.log_start ≡ s.0.log_end) }
+    ensures on_disk { IfOk result (λ s. IsOnDisk (D.size disk.new) s.0) }
+    ensures whole { IfOk result (λ s. IsHeldWhole s.0 s.1 (D.state disk.new)) }
     ensures recovers { (image : List ℕ) → Tells (D.state disk.old) (Holds image) → OnOk result ((tree : Tree) × Recovers image tree) }
     ensures replayed { (image : List ℕ) → Tells (D.state disk.old) (Holds image) → OnOk result ((next : List ℕ) × Replayed image next × Tells (D.state disk.new) (Holds next)) }
     ensures refused { (image : List ℕ) → Tells (D.state disk.old) (Holds image) → IfErr result (IsUnmounted image) }
@@ -64,7 +67,7 @@ pub(crate) fn replay_and_check<D: Disk>(alloc: Global, disk: &mut D) -> Result<S
         Err(fault) => return Err(Unmounted::Unread(fault)),
     };
     match check(alloc, disk) {
-        Ok(Verdict::Yes(_)) => Ok(sup),
+        Ok(Verdict::Yes(summary)) => Ok((sup, summary.nodes)),
         Ok(Verdict::No(finding)) => Err(Unmounted::Wrong(finding)),
         Err(fault) => Err(Unmounted::Unread(unchecked(fault))),
     }

@@ -10,6 +10,7 @@ ghost use Rattle.bfs_tree.specs.declared.reply.Entry as entries;
 ghost use Rattle.bfs_tree.specs.Histories.{Mounted};
 ghost use Rattle.bfs_tree.specs.Steps.{is_done};
 ghost use Rattle.bfs_device.specs.Data.{IsRested};
+ghost use Rattle.bfs_device.specs.declared.journal.Stop as stops;
 ghost use Rattle.bfs_device.specs.Layouts.{IsData, layout_of};
 ghost use Rattle.bfs_core.specs.Cores.{newest_map};
 ghost use Rattle.bfs_core.specs.Moments.{Adoption};
@@ -22,10 +23,11 @@ ghost use Rattle.bfs_space.specs.Faces.{IsFaceOf, IsOutcome, HasOutcome};
 ghost use Rattle.bfs_space.specs.Taken.{ArePlaces, HavePiece};
 ghost use Rattle.bfs_pieces.specs.Pieces.{HasPieceCause};
 ghost use Rattle.bfs_volume.specs.Volumes.{AreJoined};
-ghost use Rattle.bfs_volume.specs.Entries.{HasEntryOf, HasReplyIn, IsAnsweredIn, IsEnded, IsToldBy, counts_of, reply_of};
+ghost use Rattle.bfs_volume.specs.Entries.{HasEntryOf, HasReplyIn, IsAnsweredIn, IsEnded, IsStoppedEntry, IsToldBy, counts_of, reply_of};
 ghost use Rattle.bfs_volume.specs.Faults.{HasStepCause};
 ghost use Rattle.bfs_volume.specs.Held.{EndsInHold, asked_by, HasAsked, HasGone, HasLetGo, HasPlaces, IsAwaited, IsOnDisk, IsPlain, OnReply, TookHold, counts_round};
 ghost use Rattle.bfs_volume.specs.Pieces.{HasPiece, HasHoldIn, HasReleaseCause, HasUntaken, IsHoldIn};
+ghost use Rattle.bfs_volume.specs.Stamps.{HasDrawn};
 
 use crate::calls::prepare;
 use crate::notes::{as_reply, note};
@@ -87,6 +89,7 @@ fn ask_hold<D: Disk>(
     ensures piece { (st : State) → D.state device.old.disk ≡ Some st → IfOk result (λ o. HavePiece space.old space.new (newest_map device.old.books st) piece.id piece.at piece.length places.new.items) }
     // What the disk tells, the call is entered on, or put off.
     ensures entered { (t0 : Mounted) (st : State) → D.state device.old.disk ≡ Some st → IsFaceOf t0 space.old (newest_map device.old.books st) → IfOk result (IsOutcome t0 space.old space.new (newest_map device.old.books st) piece.session piece.tag piece.now (Hold piece.id piece.at piece.length piece.write)) }
+    ensures stamps { HasDrawn space.old.view.history space.new.view.history piece.now }
     ensures core { (t0 : Mounted) (adopted : Adoption) → HasCore t0 adopted space.old.view device.old.books (D.state device.old.disk) (D.clock device.old.disk) (D.since device.old.disk)
         → HasCore t0 adopted space.new.view device.new.books (D.state device.new.disk) (D.clock device.new.disk) (D.since device.new.disk) }
 {
@@ -166,6 +169,7 @@ fn ask_once<D: Disk>(
     ensures noted { IfOk result (OnReply (HasReplyIn space.old space.new (D.faults device.old.disk) (D.faults device.new.disk) piece.session piece.tag (Hold piece.id piece.at piece.length piece.write))) }
     ensures answered { (t0 : Mounted) (adopted : Adoption) → HasCore t0 adopted space.old.view device.old.books (D.state device.old.disk) (D.clock device.old.disk) (D.since device.old.disk)
         → IfOk result (OnReply (IsAnsweredIn t0 space.old space.new device.new.books (D.state device.new.disk) piece.session piece.tag (Hold piece.id piece.at piece.length piece.write))) }
+    ensures stamps { HasDrawn space.old.view.history space.new.view.history piece.now }
     ensures core { (t0 : Mounted) (adopted : Adoption) → HasCore t0 adopted space.old.view device.old.books (D.state device.old.disk) (D.clock device.old.disk) (D.since device.old.disk)
         → HasCore t0 adopted space.new.view device.new.books (D.state device.new.disk) (D.clock device.new.disk) (D.since device.new.disk) }
 {
@@ -209,6 +213,7 @@ fn end_hold<D: Disk>(space: &mut Space, device: &Device<D>, piece: Piece, fault:
     ensures joined { AreJoined space.new device.now.books (D.state device.now.disk) }
     ensures promised { space.new.promised ≡ 0 ∷ [] }
     ensures entry { HasEntryOf space.old.view.history space.new.view.history piece.session piece.tag (Hold piece.id piece.at piece.length piece.write) (reply_of fault) }
+    ensures stamps { HasDrawn space.old.view.history space.new.view.history piece.now }
     ensures core { (t0 : Mounted) (adopted : Adoption) → HasCore t0 adopted space.old.view device.now.books (D.state device.now.disk) (D.clock device.now.disk) (D.since device.now.disk)
         → HasCore t0 adopted space.new.view device.now.books (D.state device.now.disk) (D.clock device.now.disk) (D.since device.now.disk) }
 {
@@ -243,6 +248,11 @@ fn make_quiet<D: Disk>(
     ensures ready { IfOk result (λ ready. ready ≡ true → IsAwaited space.old space.new device.old.books device.new.books piece.write) }
     ensures ended { IfOk result (λ ready. ready ≡ false → IsEnded space.old.view.history space.new.view.history piece.session piece.tag (Hold piece.id piece.at piece.length piece.write) device.old.books.stop (D.faults device.old.disk) (D.faults device.new.disk) × (space.new.promised ≡ 0 ∷ [])) }
     ensures no_memory { OnErr result ((space.new.view.history ≡ space.old.view.history) × (space.new.promised ≡ 0 ∷ [])) }
+    // Of a device that had stopped the hold is answered so, also where the disk tells nothing.
+    ensures stopped { (s : stops.Stop) → device.old.books.stop ≡ Some s → IfOk result (λ ready. (ready ≡ false) × IsStoppedEntry space.old.view.history space.new.view.history piece.session piece.tag (Hold piece.id piece.at piece.length piece.write) s) }
+    // And it stays stopped, whatever is answered.
+    ensures stays_stopped { (s : stops.Stop) → device.old.books.stop ≡ Some s → device.new.books.stop ≡ Some s }
+    ensures stamps { HasDrawn space.old.view.history space.new.view.history piece.now }
     ensures core { (t0 : Mounted) (adopted : Adoption) → HasCore t0 adopted space.old.view device.old.books (D.state device.old.disk) (D.clock device.old.disk) (D.since device.old.disk)
         → HasCore t0 adopted space.new.view device.new.books (D.state device.new.disk) (D.clock device.new.disk) (D.since device.new.disk) }
 {
@@ -289,6 +299,7 @@ fn make_empty<D: Disk>(
     ensures ready { IfOk result (λ ready. ready ≡ true → IsAwaited space.old space.new device.old.books device.new.books piece.write) }
     ensures ended { IfOk result (λ ready. ready ≡ false → IsEnded space.old.view.history space.new.view.history piece.session piece.tag (Hold piece.id piece.at piece.length piece.write) device.old.books.stop (D.faults device.old.disk) (D.faults device.new.disk) × (space.new.promised ≡ 0 ∷ [])) }
     ensures no_memory { OnErr result ((space.new.view.history ≡ space.old.view.history) × (space.new.promised ≡ 0 ∷ [])) }
+    ensures stamps { HasDrawn space.old.view.history space.new.view.history piece.now }
     ensures core { (t0 : Mounted) (adopted : Adoption) → HasCore t0 adopted space.old.view device.old.books (D.state device.old.disk) (D.clock device.old.disk) (D.since device.old.disk)
         → HasCore t0 adopted space.new.view device.new.books (D.state device.new.disk) (D.clock device.new.disk) (D.since device.new.disk) }
 {
@@ -326,6 +337,7 @@ fn ask_again<D: Disk>(
     ensures noted { OnOk result (HasReplyIn space.old space.new (D.faults device.old.disk) (D.faults device.new.disk) piece.session piece.tag (Hold piece.id piece.at piece.length piece.write) ⊎ IsEnded space.old.view.history space.new.view.history piece.session piece.tag (Hold piece.id piece.at piece.length piece.write) device.old.books.stop (D.faults device.old.disk) (D.faults device.new.disk)) }
     ensures answered { (t0 : Mounted) (adopted : Adoption) → HasCore t0 adopted space.old.view device.old.books (D.state device.old.disk) (D.clock device.old.disk) (D.since device.old.disk)
         → OnOk result (IsAnsweredIn t0 space.old space.new device.new.books (D.state device.new.disk) piece.session piece.tag (Hold piece.id piece.at piece.length piece.write) ⊎ IsEnded space.old.view.history space.new.view.history piece.session piece.tag (Hold piece.id piece.at piece.length piece.write) device.old.books.stop (D.faults device.old.disk) (D.faults device.new.disk)) }
+    ensures stamps { HasDrawn space.old.view.history space.new.view.history piece.now }
     ensures core { (t0 : Mounted) (adopted : Adoption) → HasCore t0 adopted space.old.view device.old.books (D.state device.old.disk) (D.clock device.old.disk) (D.since device.old.disk)
         → HasCore t0 adopted space.new.view device.new.books (D.state device.new.disk) (D.clock device.new.disk) (D.since device.new.disk) }
 {
@@ -365,6 +377,11 @@ fn hold<D: Disk>(
     ensures noted { OnOk result (HasReplyIn space.old space.new (D.faults device.old.disk) (D.faults device.new.disk) piece.session piece.tag (Hold piece.id piece.at piece.length piece.write) ⊎ IsEnded space.old.view.history space.new.view.history piece.session piece.tag (Hold piece.id piece.at piece.length piece.write) device.old.books.stop (D.faults device.old.disk) (D.faults device.new.disk)) }
     ensures answered { (t0 : Mounted) (adopted : Adoption) → HasCore t0 adopted space.old.view device.old.books (D.state device.old.disk) (D.clock device.old.disk) (D.since device.old.disk)
         → OnOk result (IsAnsweredIn t0 space.old space.new device.new.books (D.state device.new.disk) piece.session piece.tag (Hold piece.id piece.at piece.length piece.write) ⊎ IsEnded space.old.view.history space.new.view.history piece.session piece.tag (Hold piece.id piece.at piece.length piece.write) device.old.books.stop (D.faults device.old.disk) (D.faults device.new.disk)) }
+    // Of a device that had stopped the hold is answered so, also where the disk tells nothing.
+    ensures stopped { (s : stops.Stop) → device.old.books.stop ≡ Some s → IfOk result (λ taken. (taken ≡ false) × IsStoppedEntry space.old.view.history space.new.view.history piece.session piece.tag (Hold piece.id piece.at piece.length piece.write) s) }
+    // And it stays stopped, whatever is answered.
+    ensures stays_stopped { (s : stops.Stop) → device.old.books.stop ≡ Some s → device.new.books.stop ≡ Some s }
+    ensures stamps { HasDrawn space.old.view.history space.new.view.history piece.now }
     ensures core { (t0 : Mounted) (adopted : Adoption) → HasCore t0 adopted space.old.view device.old.books (D.state device.old.disk) (D.clock device.old.disk) (D.since device.old.disk)
         → HasCore t0 adopted space.new.view device.new.books (D.state device.new.disk) (D.clock device.new.disk) (D.since device.new.disk) }
 {
@@ -471,6 +488,7 @@ fn release<D: Disk>(
     ensures joined { AreJoined space.new device.now.books (D.state device.now.disk) }
     ensures promised { space.new.promised ≡ 0 ∷ [] }
     ensures entry { HasEntryOf space.old.view.history space.new.view.history piece.session piece.tag (Release piece.id bytes whole before after) Done }
+    ensures stamps { HasDrawn space.old.view.history space.new.view.history piece.now }
     ensures core { (t0 : Mounted) (adopted : Adoption) → HasCore t0 adopted space.old.view device.now.books (D.state device.now.disk) (D.clock device.now.disk) (D.since device.now.disk)
         → HasCore t0 adopted space.new.view device.now.books (D.state device.now.disk) (D.clock device.now.disk) (D.since device.now.disk) }
 {
@@ -521,6 +539,7 @@ fn let_go<D: Disk>(
     ensures joined { AreJoined space.new device.now.books (D.state device.now.disk) }
     ensures promised { space.new.promised ≡ 0 ∷ [] }
     ensures gone { HasLetGo space.old.view.history space.new.view.history piece.session piece.tag piece.id made bytes.items }
+    ensures stamps { HasDrawn space.old.view.history space.new.view.history piece.now }
     ensures core { (t0 : Mounted) (adopted : Adoption) → HasCore t0 adopted space.old.view device.now.books (D.state device.now.disk) (D.clock device.now.disk) (D.since device.now.disk)
         → HasCore t0 adopted space.new.view device.now.books (D.state device.now.disk) (D.clock device.now.disk) (D.since device.now.disk) }
 {
@@ -563,6 +582,7 @@ fn write_held<D: Disk>(
     ensures spare { device.new.books.spare ≡ device.old.books.spare }
     ensures gone { HasGone space.old.view.history space.new.view.history piece.session piece.tag piece.id (D.faults device.old.disk) (D.faults device.new.disk) bytes.now }
     ensures faults { D.faults device.old.disk ≤ D.faults device.new.disk }
+    ensures stamps { HasDrawn space.old.view.history space.new.view.history piece.now }
     ensures core { (t0 : Mounted) (adopted : Adoption) → HasCore t0 adopted space.old.view device.old.books (D.state device.old.disk) (D.clock device.old.disk) (D.since device.old.disk)
         → HasCore t0 adopted space.new.view device.new.books (D.state device.new.disk) (D.clock device.new.disk) (D.since device.new.disk) }
 {
@@ -601,6 +621,7 @@ fn read_held<D: Disk>(
     ensures spare { device.new.books.spare ≡ device.old.books.spare }
     ensures gone { HasGone space.old.view.history space.new.view.history piece.session piece.tag piece.id (D.faults device.old.disk) (D.faults device.new.disk) into.new }
     ensures faults { D.faults device.old.disk ≤ D.faults device.new.disk }
+    ensures stamps { HasDrawn space.old.view.history space.new.view.history piece.now }
     ensures core { (t0 : Mounted) (adopted : Adoption) → HasCore t0 adopted space.old.view device.old.books (D.state device.old.disk) (D.clock device.old.disk) (D.since device.old.disk)
         → HasCore t0 adopted space.new.view device.new.books (D.state device.new.disk) (D.clock device.new.disk) (D.since device.new.disk) }
 {
@@ -646,6 +667,11 @@ pub fn write<D: Disk>(
     ensures answered { (t0 : Mounted) (adopted : Adoption) → HasCore t0 adopted space.old.view device.old.books (D.state device.old.disk) (D.clock device.old.disk) (D.since device.old.disk)
         → OnOk result (IsHoldIn t0 space.old (D.faults device.old.disk) (D.faults device.new.disk) piece.session piece.tag (Hold piece.id piece.at (length bytes.now) true) device.old.books.stop) }
     ensures released { OnOk result (HasReleaseCause space.old.view.history space.new.view.history device.old.books.stop (D.faults device.old.disk) (D.faults device.new.disk)) }
+    // Of a device that had stopped the one entry is that of the hold, which is answered so, also where the disk tells nothing.
+    ensures stopped { (s : stops.Stop) → device.old.books.stop ≡ Some s → OnOk result (IsStoppedEntry space.old.view.history space.new.view.history piece.session piece.tag (Hold piece.id piece.at (length bytes.now) true) s) }
+    // And it stays stopped, whatever is answered.
+    ensures stays_stopped { (s : stops.Stop) → device.old.books.stop ≡ Some s → device.new.books.stop ≡ Some s }
+    ensures stamps { HasDrawn space.old.view.history space.new.view.history piece.now }
     ensures core { (t0 : Mounted) (adopted : Adoption) → HasCore t0 adopted space.old.view device.old.books (D.state device.old.disk) (D.clock device.old.disk) (D.since device.old.disk)
         → HasCore t0 adopted space.new.view device.new.books (D.state device.new.disk) (D.clock device.new.disk) (D.since device.new.disk) }
 {
@@ -703,6 +729,11 @@ pub fn read<D: Disk>(
     ensures answered { (t0 : Mounted) (adopted : Adoption) → HasCore t0 adopted space.old.view device.old.books (D.state device.old.disk) (D.clock device.old.disk) (D.since device.old.disk)
         → OnOk result (IsHoldIn t0 space.old (D.faults device.old.disk) (D.faults device.new.disk) piece.session piece.tag (Hold piece.id piece.at (length into.old) false) device.old.books.stop) }
     ensures released { OnOk result (HasReleaseCause space.old.view.history space.new.view.history device.old.books.stop (D.faults device.old.disk) (D.faults device.new.disk)) }
+    // Of a device that had stopped the one entry is that of the hold, which is answered so, also where the disk tells nothing.
+    ensures stopped { (s : stops.Stop) → device.old.books.stop ≡ Some s → OnOk result (IsStoppedEntry space.old.view.history space.new.view.history piece.session piece.tag (Hold piece.id piece.at (length into.old) false) s) }
+    // And it stays stopped, whatever is answered.
+    ensures stays_stopped { (s : stops.Stop) → device.old.books.stop ≡ Some s → device.new.books.stop ≡ Some s }
+    ensures stamps { HasDrawn space.old.view.history space.new.view.history piece.now }
     ensures core { (t0 : Mounted) (adopted : Adoption) → HasCore t0 adopted space.old.view device.old.books (D.state device.old.disk) (D.clock device.old.disk) (D.since device.old.disk)
         → HasCore t0 adopted space.new.view device.new.books (D.state device.new.disk) (D.clock device.new.disk) (D.since device.new.disk) }
 {

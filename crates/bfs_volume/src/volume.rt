@@ -1,9 +1,9 @@
 // A mounted volume.
-ghost use Rattle.std.specs.Prelude.{◌≡◌, ◌≢◌, ◌≤◌, ◌⊎◌, ℕ, List, [], ◌∷◌, true, false, length, IfOk, IfErr, OnOk, OnErr, MatchResult};
+ghost use Rattle.std.specs.Prelude.{◌≡◌, ◌≢◌, ◌≤◌, ◌⊎◌, ℕ, List, [], ◌∷◌, Some, true, false, length, IfOk, IfErr, OnOk, OnErr, MatchResult};
 ghost use Rattle.bfs_base.specs.Moments.{Passed};
 ghost use Rattle.bfs_disk.specs.State.{Tells, Holds, ReadsAs};
 ghost use Rattle.bfs_disk.specs.Disk.{MayLeave};
-ghost use Rattle.bfs_replay.specs.Recover.{GoesOn, HasCauseIn, IsMountFault};
+ghost use Rattle.bfs_replay.specs.Recover.{GoesOn};
 ghost use Rattle.bfs_tree.specs.declared.call.Call.TheVariants.{Hold, Sync};
 ghost use Rattle.bfs_tree.specs.declared.reply.Reply.TheVariants.{Synced};
 ghost use Rattle.bfs_tree.specs.Answers.{KeepsRanges};
@@ -13,16 +13,19 @@ ghost use Rattle.bfs_super.specs.Conditions.{IsValid};
 ghost use Rattle.bfs_super.specs.Geometry.{geometry_of};
 ghost use Rattle.bfs_sound.specs.Whole.{Recovers};
 ghost use Rattle.bfs_device.specs.Books.{IsOnDisk, durable_of};
+ghost use Rattle.bfs_device.specs.declared.journal.Stop as stops;
 ghost use Rattle.bfs_core.specs.Cores.{RecoversFrom};
 ghost use Rattle.bfs_core.specs.Moments.{Adoption, KeptSince, adopted_at};
 ghost use Rattle.bfs_device_blocks.specs.Lent.{HasCore};
+ghost use Rattle.bfs_count.specs.Counts.{nodes_of};
 ghost use Rattle.bfs_space.specs.Looks.{is_built};
-ghost use Rattle.bfs_volume.specs.Volumes.{MayBeMounted};
 ghost use Rattle.bfs_volume.specs.Mounts.{IsHeld, IsHeldWhole, IsMountedFrom, IsUnmounted, HasUnmountedCause};
-ghost use Rattle.bfs_volume.specs.Entries.{HasEntry, HasEntryOf, HasFailedSync, HasReplyIn, IsAnsweredIn, IsEnded};
-ghost use Rattle.bfs_volume.specs.Events.{MayHappen, MayWantMemory, IsHappened, HasReplied};
+ghost use Rattle.bfs_volume.specs.Entries.{HasEntry, HasEntryOf, HasFailedSync, HasReplyIn, IsAnsweredIn, IsEnded, IsStoppedEntry, IsStoppedSync};
+ghost use Rattle.bfs_volume.specs.Events.{MayHappen, MayWantMemory, IsHappened, IsStoppedEvent, HasReplied};
 ghost use Rattle.bfs_volume.specs.Causes.{HasSyncCause, HasStopCause};
+ghost use Rattle.bfs_volume.specs.Closing.{IsLeft};
 ghost use Rattle.bfs_volume.specs.Pieces.{HasPiece, HasHoldIn, IsHoldIn, HasReleaseCause};
+ghost use Rattle.bfs_volume.specs.Stamps.{HasDrawn};
 
 use crate::calls::{answer, sync};
 use crate::event::{Event, Happened, as_happened, attempt, seal_open};
@@ -34,7 +37,7 @@ use bfs_cache::Cache;
 use bfs_device::{Device, DeviceFault};
 use bfs_disk::Disk;
 use bfs_ports::Clock;
-use bfs_replay::{MountFault, recover};
+use bfs_replay::MountFault;
 use bfs_space::{Calls, Space};
 use bfs_super::Super;
 use bfs_tree::{Call, Entry};
@@ -54,28 +57,30 @@ impl<D: Disk, C: Clock> Model for Volume<D, C> {
     ghost use Rattle.std.specs.Prelude.{◌≡◌, ◌≤◌, [], ◌∷◌};
     ghost use Rattle.bfs_volume.specs.Volumes.{VolumeView, AreJoined};
 
-    ghost Value = { VolumeView D };
+    ghost Value = { VolumeView D C };
 
-    ghost view = { λ v. record { space = v.space; device = v.device } };
+    ghost view = { λ v. record { space = v.space; device = v.device; clock = v.clock } };
 
     ghost invariant = { λ v. AreJoined v.space v.device.books (D.state v.device.disk) × (v.space.promised ≡ 0 ∷ []) × (1 ≤ v.device.books.spare) };
 }
 
 impl<D: Disk, C: Clock> Volume<D, C> {
-    /// Opens a volume whose log was replayed, and that is whole. Takes memory alone: for want of it disk and clock are handed back.
+    /// Opens a volume whose log was replayed, and that is whole with so many nodes. Takes memory alone: for want of it disk and clock are handed back.
     fn open_replayed(
         alloc: Global,
         disk: D,
         clock: C,
         cache: u32,
         sup: Super,
+        nodes: u64,
     ) -> Result<Volume<D, C>, (D, C)>
         requires valid { IsValid sup }
         requires empty { sup.log_start ≡ sup.log_end }
         requires on_disk { IsOnDisk (D.size disk) sup }
-        requires whole { IsHeldWhole sup (D.state disk) }
+        requires whole { IsHeldWhole sup nodes (D.state disk) }
         ensures core { (t0 : Mounted) (image : List ℕ) (begun : ℕ) → begun ≤ D.clock disk → ∥ KeptSince t0 [] (D.clock disk) (D.since disk) begun 0 ∥₁ → Tells (D.state disk) (Holds image) → IsMountedFrom image t0
             → IfOk result (λ v. HasCore t0 (adopted_at begun (D.clock v.device.disk)) v.space.view v.device.books (D.state v.device.disk) (D.clock v.device.disk) (D.since v.device.disk)) }
+        ensures clock { IfOk result (λ v. v.clock ≡ clock) }
         ensures fresh { IfOk result (λ v. v.space.view.history ≡ []) }
         ensures disk { IfOk result (λ v. v.device.disk ≡ disk) }
         ensures back { IfErr result (λ e. e.0 ≡ disk) }
@@ -88,7 +93,7 @@ impl<D: Disk, C: Clock> Volume<D, C> {
         let Ok(kept) = Cache::new(alloc, cache) else {
             return Err((disk, clock));
         };
-        let Ok(space) = Space::open(alloc, sup) else {
+        let Ok(space) = Space::open(alloc, sup, nodes) else {
             return Err((disk, clock));
         };
         let device = match Device::adopt(alloc, disk, sup) {
@@ -102,33 +107,6 @@ impl<D: Disk, C: Clock> Volume<D, C> {
             device,
             clock,
         })
-    }
-
-    /// Opens a volume that is known to be whole, with an empty history, after its log was replayed. `cache` is for how many read blocks there is
-    /// room. Where it can't be opened, disk and clock are handed back.
-    pub fn open(
-        alloc: Global,
-        disk: D,
-        clock: C,
-        cache: u32,
-    ) -> Result<Volume<D, C>, (MountFault, D, C)>
-        requires whole { MayBeMounted (D.state disk) }
-        ensures core { (t0 : Mounted) (image : List ℕ) (begun : ℕ) → begun ≤ D.clock disk → ∥ KeptSince t0 [] (D.clock disk) (D.since disk) begun 0 ∥₁ → Tells (D.state disk) (Holds image) → IsMountedFrom image t0
-            → IfOk result (λ v. HasCore t0 (adopted_at begun (D.clock v.device.disk)) v.space.view v.device.books (D.state v.device.disk) (D.clock v.device.disk) (D.since v.device.disk)) }
-        ensures fresh { IfOk result (λ v. v.space.view.history ≡ []) }
-        // A fault is true of what the disk reads as, and a failed disk has its cause.
-        ensures fault { (image : List ℕ) → Tells (D.state disk) (λ s. ReadsAs s image) → IfErr result (λ e. IsMountFault image e.0) }
-        ensures cause { IfErr result (λ e. HasCauseIn (D.faults disk) (D.faults e.1) e.0) }
-    {
-        let mut disk = disk;
-        let sup = match recover(alloc, &mut disk) {
-            Ok(sup) => sup,
-            Err(fault) => return Err((fault, disk, clock)),
-        };
-        match Volume::open_replayed(alloc, disk, clock, cache, sup) {
-            Ok(volume) => Ok(volume),
-            Err((disk, clock)) => Err((MountFault::NoMemory, disk, clock)),
-        }
     }
 
     /// Mounts a volume: replays its log, checks it, and opens it with an empty history where it is whole. `cache` is for how many read blocks there
@@ -145,6 +123,7 @@ impl<D: Disk, C: Clock> Volume<D, C> {
         ensures recovers { (image : List ℕ) → Tells (D.state disk) (Holds image) → OnOk result ((tree : Tree) × Recovers image tree) }
         ensures core { (t0 : Mounted) (image : List ℕ) (begun : ℕ) → begun ≤ D.clock disk → ∥ KeptSince t0 [] (D.clock disk) (D.since disk) begun 0 ∥₁ → Tells (D.state disk) (Holds image) → IsMountedFrom image t0
             → IfOk result (λ v. HasCore t0 (adopted_at begun (D.clock v.device.disk)) v.space.view v.device.books (D.state v.device.disk) (D.clock v.device.disk) (D.since v.device.disk)) }
+        ensures clock { IfOk result (λ v. v.clock ≡ clock) }
         ensures fresh { IfOk result (λ v. v.space.view.history ≡ []) }
         // Why it isn't mounted is true of what the disk held, and a failed disk has its cause.
         ensures refused { (image : List ℕ) → Tells (D.state disk) (Holds image) → IfErr result (λ e. IsUnmounted image e.0) }
@@ -154,11 +133,11 @@ impl<D: Disk, C: Clock> Volume<D, C> {
         ensures later { MatchResult result (λ v. D.faults disk ≤ D.faults v.device.disk) (λ e. D.faults disk ≤ D.faults e.1) }
     {
         let mut disk = disk;
-        let sup = match replay_and_check(alloc, &mut disk) {
-            Ok(sup) => sup,
+        let (sup, nodes) = match replay_and_check(alloc, &mut disk) {
+            Ok(whole) => whole,
             Err(refusal) => return Err((refusal, disk, clock)),
         };
-        match Volume::open_replayed(alloc, disk, clock, cache, sup) {
+        match Volume::open_replayed(alloc, disk, clock, cache, sup, nodes) {
             Ok(volume) => Ok(volume),
             Err((disk, clock)) => Err((Unmounted::Unread(MountFault::NoMemory), disk, clock)),
         }
@@ -169,6 +148,13 @@ impl<D: Disk, C: Clock> Volume<D, C> {
         ensures { result.now ≡ self.now.space.view.history }
     {
         self.space.history()
+    }
+
+    /// How many nodes the tree has after the entries. Takes no memory.
+    pub fn nodes(&self) -> u64
+        ensures counted { (t0 : Mounted) (adopted : Adoption) → HasCore t0 adopted self.now.space.view self.now.device.books (D.state self.now.device.disk) (D.clock self.now.device.disk) (D.since self.now.device.disk) → result ≡ nodes_of (after t0 self.now.space.view.history) }
+    {
+        self.space.nodes()
     }
 
     /// Answers a call of a session. Its entry is the last one of the history, with the reply. Where no memory was found, there is none.
@@ -184,6 +170,13 @@ impl<D: Disk, C: Clock> Volume<D, C> {
         ensures noted { OnOk result (HasReplyIn self.old.space self.new.space (D.faults self.old.device.disk) (D.faults self.new.device.disk) session tag call ⊎ IsEnded self.old.space.view.history self.new.space.view.history session tag call self.old.device.books.stop (D.faults self.old.device.disk) (D.faults self.new.device.disk)) }
         ensures answered { (t0 : Mounted) (adopted : Adoption) → HasCore t0 adopted self.old.space.view self.old.device.books (D.state self.old.device.disk) (D.clock self.old.device.disk) (D.since self.old.device.disk)
             → OnOk result (IsAnsweredIn t0 self.old.space self.new.space self.new.device.books (D.state self.new.device.disk) session tag call ⊎ IsEnded self.old.space.view.history self.new.space.view.history session tag call self.old.device.books.stop (D.faults self.old.device.disk) (D.faults self.new.device.disk)) }
+        // Of a device that had stopped the call is answered so, also where the disk tells nothing.
+        ensures stopped { (s : stops.Stop) → self.old.device.books.stop ≡ Some s → OnOk result (IsStoppedEntry self.old.space.view.history self.new.space.view.history session tag call s) }
+        // And it stays stopped, whatever is answered.
+        ensures stays_stopped { (s : stops.Stop) → self.old.device.books.stop ≡ Some s → self.new.device.books.stop ≡ Some s }
+        // The clock stands where it stood, and what was appended has its stamps from it.
+        ensures clock { C.stands self.new.clock ≡ C.stands self.old.clock }
+        ensures stamps { (s : ℕ) → C.stands self.old.clock ≡ Some s → HasDrawn self.old.space.view.history self.new.space.view.history s }
         ensures core { (t0 : Mounted) (adopted : Adoption) → HasCore t0 adopted self.old.space.view self.old.device.books (D.state self.old.device.disk) (D.clock self.old.device.disk) (D.since self.old.device.disk)
             → HasCore t0 adopted self.new.space.view self.new.device.books (D.state self.new.device.disk) (D.clock self.new.device.disk) (D.since self.new.device.disk) }
     {
@@ -209,6 +202,13 @@ impl<D: Disk, C: Clock> Volume<D, C> {
         // Over what the disk tells, a call's reply is as the space's call says it, and it is put off only as that says.
         ensures replied { (t0 : Mounted) (adopted : Adoption) → HasCore t0 adopted self.old.space.view self.old.device.books (D.state self.old.device.disk) (D.clock self.old.device.disk) (D.since self.old.device.disk)
             → IfOk result (HasReplied t0 self.old.space self.new.space self.old.device.books self.new.device.books (D.state self.new.device.disk) (D.faults self.old.device.disk) (D.faults self.new.device.disk) event) }
+        // Of a device that had stopped a call and a step are answered so, also where the disk tells nothing.
+        ensures stopped { (s : stops.Stop) → self.old.device.books.stop ≡ Some s → IfOk result (IsStoppedEvent self.old.space.view.history self.new.space.view.history s event) }
+        // And it stays stopped, whatever is answered.
+        ensures stays_stopped { (s : stops.Stop) → self.old.device.books.stop ≡ Some s → self.new.device.books.stop ≡ Some s }
+        // The clock stands where it stood, and what was appended has its stamps from it.
+        ensures clock { C.stands self.new.clock ≡ C.stands self.old.clock }
+        ensures stamps { (s : ℕ) → C.stands self.old.clock ≡ Some s → HasDrawn self.old.space.view.history self.new.space.view.history s }
         ensures core { (t0 : Mounted) (adopted : Adoption) → HasCore t0 adopted self.old.space.view self.old.device.books (D.state self.old.device.disk) (D.clock self.old.device.disk) (D.since self.old.device.disk)
             → HasCore t0 adopted self.new.space.view self.new.device.books (D.state self.new.device.disk) (D.clock self.new.device.disk) (D.since self.new.device.disk) }
     {
@@ -237,6 +237,13 @@ impl<D: Disk, C: Clock> Volume<D, C> {
         ensures failed { IfErr result (HasFailedSync self.old.space.view.history self.new.space.view.history session tag) }
         ensures cause { IfErr result (HasSyncCause self.old.device.books.stop (D.faults self.old.device.disk) (D.faults self.new.device.disk)) }
         ensures later { D.faults self.old.device.disk ≤ D.faults self.new.device.disk }
+        // Of a device that had stopped nothing is made durable any more, and the sync is answered so, also where the disk tells nothing.
+        ensures stopped { (s : stops.Stop) → self.old.device.books.stop ≡ Some s → IsStoppedSync self.old.space.view.history self.new.space.view.history session tag s result }
+        // And it stays stopped, whatever is answered.
+        ensures stays_stopped { (s : stops.Stop) → self.old.device.books.stop ≡ Some s → self.new.device.books.stop ≡ Some s }
+        // The clock stands where it stood, and what was appended has its stamps from it.
+        ensures clock { C.stands self.new.clock ≡ C.stands self.old.clock }
+        ensures stamps { (s : ℕ) → C.stands self.old.clock ≡ Some s → HasDrawn self.old.space.view.history self.new.space.view.history s }
         ensures core { (t0 : Mounted) (adopted : Adoption) → HasCore t0 adopted self.old.space.view self.old.device.books (D.state self.old.device.disk) (D.clock self.old.device.disk) (D.since self.old.device.disk)
             → HasCore t0 adopted self.new.space.view self.new.device.books (D.state self.new.device.disk) (D.clock self.new.device.disk) (D.since self.new.device.disk) }
     {
@@ -270,6 +277,13 @@ impl<D: Disk, C: Clock> Volume<D, C> {
         ensures answered { (t0 : Mounted) (adopted : Adoption) → HasCore t0 adopted self.old.space.view self.old.device.books (D.state self.old.device.disk) (D.clock self.old.device.disk) (D.since self.old.device.disk)
             → OnOk result (IsHoldIn t0 self.old.space (D.faults self.old.device.disk) (D.faults self.new.device.disk) session tag (Hold id at (length bytes.now) true) self.old.device.books.stop) }
         ensures released { OnOk result (HasReleaseCause self.old.space.view.history self.new.space.view.history self.old.device.books.stop (D.faults self.old.device.disk) (D.faults self.new.device.disk)) }
+        // Of a device that had stopped the one entry is that of the hold, which is answered so, also where the disk tells nothing.
+        ensures stopped { (s : stops.Stop) → self.old.device.books.stop ≡ Some s → OnOk result (IsStoppedEntry self.old.space.view.history self.new.space.view.history session tag (Hold id at (length bytes.now) true) s) }
+        // And it stays stopped, whatever is answered.
+        ensures stays_stopped { (s : stops.Stop) → self.old.device.books.stop ≡ Some s → self.new.device.books.stop ≡ Some s }
+        // The clock stands where it stood, and what was appended has its stamps from it.
+        ensures clock { C.stands self.new.clock ≡ C.stands self.old.clock }
+        ensures stamps { (s : ℕ) → C.stands self.old.clock ≡ Some s → HasDrawn self.old.space.view.history self.new.space.view.history s }
         ensures core { (t0 : Mounted) (adopted : Adoption) → HasCore t0 adopted self.old.space.view self.old.device.books (D.state self.old.device.disk) (D.clock self.old.device.disk) (D.since self.old.device.disk)
             → HasCore t0 adopted self.new.space.view self.new.device.books (D.state self.new.device.disk) (D.clock self.new.device.disk) (D.since self.new.device.disk) }
     {
@@ -304,6 +318,13 @@ impl<D: Disk, C: Clock> Volume<D, C> {
         ensures answered { (t0 : Mounted) (adopted : Adoption) → HasCore t0 adopted self.old.space.view self.old.device.books (D.state self.old.device.disk) (D.clock self.old.device.disk) (D.since self.old.device.disk)
             → OnOk result (IsHoldIn t0 self.old.space (D.faults self.old.device.disk) (D.faults self.new.device.disk) session tag (Hold id at (length into.old) false) self.old.device.books.stop) }
         ensures released { OnOk result (HasReleaseCause self.old.space.view.history self.new.space.view.history self.old.device.books.stop (D.faults self.old.device.disk) (D.faults self.new.device.disk)) }
+        // Of a device that had stopped the one entry is that of the hold, which is answered so, also where the disk tells nothing.
+        ensures stopped { (s : stops.Stop) → self.old.device.books.stop ≡ Some s → OnOk result (IsStoppedEntry self.old.space.view.history self.new.space.view.history session tag (Hold id at (length into.old) false) s) }
+        // And it stays stopped, whatever is answered.
+        ensures stays_stopped { (s : stops.Stop) → self.old.device.books.stop ≡ Some s → self.new.device.books.stop ≡ Some s }
+        // The clock stands where it stood, and what was appended has its stamps from it.
+        ensures clock { C.stands self.new.clock ≡ C.stands self.old.clock }
+        ensures stamps { (s : ℕ) → C.stands self.old.clock ≡ Some s → HasDrawn self.old.space.view.history self.new.space.view.history s }
         ensures core { (t0 : Mounted) (adopted : Adoption) → HasCore t0 adopted self.old.space.view self.old.device.books (D.state self.old.device.disk) (D.clock self.old.device.disk) (D.since self.old.device.disk)
             → HasCore t0 adopted self.new.space.view self.new.device.books (D.state self.new.device.disk) (D.clock self.new.device.disk) (D.since self.new.device.disk) }
     {
@@ -351,6 +372,9 @@ impl<D: Disk, C: Clock> Volume<D, C> {
             → (c : List ℕ) → D.since result.0 adopted.begun c → ∥ RecoversFrom t0 self.space.view.history 0 c ∥₁ }
         ensures all { (t0 : Mounted) (adopted : Adoption) → HasCore t0 adopted self.space.view self.device.books (D.state self.device.disk) (D.clock self.device.disk) (D.since self.device.disk)
             → OnOk result.3 ((image : List ℕ) → MayLeave (D.state result.0) image → Recovers image (after t0 self.space.view.history)) }
+        // The disk as it reads is whole with that tree then, and its files have the bytes that are known.
+        ensures left { (t0 : Mounted) (adopted : Adoption) → HasCore t0 adopted self.space.view self.device.books (D.state self.device.disk) (D.clock self.device.disk) (D.since self.device.disk)
+            → OnOk result.3 ((image : List ℕ) → Tells (D.state result.0) (λ st. ReadsAs st image) → IsLeft t0 self.space.view.history image) }
         ensures cause { IfErr result.3 (HasStopCause self.device.books.stop (D.faults self.device.disk) (D.faults result.0)) }
         ensures later { D.faults self.device.disk ≤ D.faults result.0 }
     {
@@ -361,6 +385,7 @@ impl<D: Disk, C: Clock> Volume<D, C> {
             clock,
         } = self;
         let ended = settle(&mut space, &mut device);
+        device.steady();
         let _durable = device.durable();
         (device.into_disk(), clock, space.into_history(), ended)
     }

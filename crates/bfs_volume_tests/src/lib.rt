@@ -5,6 +5,8 @@
 #[cfg(test)]
 mod core_tests;
 #[cfg(test)]
+mod event_tests;
+#[cfg(test)]
 mod space_tests;
 #[cfg(test)]
 mod volume_tests;

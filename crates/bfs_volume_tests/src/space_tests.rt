@@ -8,21 +8,21 @@ ghost use Rattle.bfs_base.specs.Lists.{times, Has};
 ghost use Rattle.bfs_super.specs.Conditions.{IsValid};
 ghost use Rattle.bfs_tree.specs.Answers.{KeepsRanges};
 ghost use Rattle.bfs_tree.specs.declared.call.Call.TheVariants.{Sync};
-ghost use Rattle.bfs_space.specs.Holds.{keeps_holds};
-ghost use Rattle.bfs_space.specs.Looks.{is_served};
+ghost use Rattle.bfs_volume.specs.Holds.{keeps_holds};
+ghost use Rattle.bfs_volume.specs.Looks.{is_served};
 
 use bfs_bitmap::Bitmap;
 use bfs_bytes::{Run, put_run, put_u32};
 use bfs_disk::{Disk, MemDisk};
 use bfs_mkfs::{format, layout_with_log};
 use bfs_node::TreeFault;
-use bfs_space::{
-    Allowance, Answers, CallFault, Calls, Looked, Outcome, Space, answer_call, note_holds,
-};
 use bfs_stream_pages::MapFault;
 use bfs_super::{Super, SuperFault};
 use bfs_tree::{Bytes, Call, Entry, FoundRow, Hold, Key, KeyKind, MakeKind, Reply};
 use bfs_txn::{BlockFault, Blocks, Changed, Edits, MemBlocks};
+use bfs_volume::space::{
+    Allowance, Answers, CallFault, Calls, Looked, Outcome, Space, answer_call, note_holds,
+};
 use std::alloc::{AllocError, Global};
 use std::test::Fail;
 
@@ -96,7 +96,7 @@ fn what_is_promised_is_noted_with_rising_stamps_and_sealed_once(
     assert_eq!(rt; sup.log_end, 0);
     assert_eq!(rt; sup.used_blocks, 529);
     assert_eq!(rt; sup.num_blocks, 4096);
-    let mut space = Space::open(alloc, sup)?;
+    let mut space = Space::open(alloc, sup, 1)?;
     assert_eq!(rt; seals(&mut space), (0, 0, 0, 0));
     notes(&mut space, 7, 1000, Reply::Synced { upto: 0 }, 0)?;
     notes(&mut space, 8, 1000, Reply::Synced { upto: 1 }, 1)?;
@@ -156,7 +156,7 @@ struct Failing {
 }
 
 impl Answers for Failing {
-    ghost use Rattle.bfs_space.specs.Holds.{keeps_holds};
+    ghost use Rattle.bfs_volume.specs.Holds.{keeps_holds};
 
     ghost serves = { keeps_holds };
 
@@ -285,7 +285,7 @@ fn mounts(alloc: Global, bytes: Vec<u8>, blocks: usize) -> Result<Option<Mount>,
     if sup.block_size != 1024 || sup.log_start != sup.log_end || geometry.used > geometry.blocks {
         return Ok(None);
     }
-    let space = Space::open(alloc, sup)?;
+    let space = Space::open(alloc, sup, 1)?;
     let under = Silent {
         blocks: MemBlocks::new(bytes, 1024),
     };
@@ -1154,6 +1154,8 @@ fn a_node_takes_the_place_of_another_or_its_name_is_refused(rt: HostRuntime) -> 
     }
     let wanted = [(11, 0, 0), (8, 2, 0), (8, 0, 0), (16, 1, 533)];
     assert_eq!(rt; places(alloc, &mut mount)?, wanted);
+    // The root, the directory and one file: three were made, and one has gone.
+    assert_eq!(rt; mount.space.nodes(), 3);
     Ok(())
 }
 

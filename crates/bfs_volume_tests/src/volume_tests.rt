@@ -21,7 +21,7 @@ use std::test::Fail;
 /// The blocks of the volumes here, and those of their logs.
 const BLOCKS: u64 = 600;
 
-const LOG: u16 = 64;
+pub(crate) const LOG: u16 = 64;
 
 /// Formats a disk of zeros, and tells whether it worked.
 fn formats(alloc: Global, disk: &mut MemDisk) -> bool
@@ -44,7 +44,7 @@ fn formats(alloc: Global, disk: &mut MemDisk) -> bool
 }
 
 /// The image of a new volume; none where it can't be had.
-fn new_image(alloc: Global) -> Result<Option<Vec<u8>>, AllocError>
+pub(crate) fn new_image(alloc: Global) -> Result<Option<Vec<u8>>, AllocError>
     ensures { IfOk result (λ o. IfSome o (λ image. HasTree image.items)) }
 {
     let bytes = vec![in alloc; 0u8; 1024 * BLOCKS as usize]?;
@@ -66,14 +66,14 @@ fn mounts(alloc: Global, image: Vec<u8>, failing: u64) -> Result<Volume<MemDisk,
     let mut plan = Vec::new(alloc);
     plan.push(failing)?;
     let disk = MemDisk::failing(alloc, image, plan);
-    match Volume::open(alloc, disk, Fixed::clock(1000), 8) {
+    match Volume::mount(alloc, disk, Fixed::clock(1000), 8) {
         Ok(volume) => Ok(volume),
         Err(_) => Err(AllocError),
     }
 }
 
 /// A name of one letter.
-fn letter(alloc: Global, name: u8) -> Result<Bytes, AllocError> {
+pub(crate) fn letter(alloc: Global, name: u8) -> Result<Bytes, AllocError> {
     let mut letters = Vec::new(alloc);
     letters.push(name)?;
     Ok(Bytes::new(letters))
@@ -100,7 +100,7 @@ fn make_file(
 }
 
 /// Whether the last entry says that a node was made.
-fn is_made<D: Disk>(volume: &Volume<D, Fixed>) -> bool {
+pub(crate) fn is_made<D: Disk>(volume: &Volume<D, Fixed>) -> bool {
     match volume.history().last() {
         Some(entry) => matches!(entry.reply, Reply::Made { .. }),
         None => false,
@@ -108,7 +108,7 @@ fn is_made<D: Disk>(volume: &Volume<D, Fixed>) -> bool {
 }
 
 /// Whether the last entry says that a name was found.
-fn is_found(volume: &Volume<MemDisk, Fixed>) -> bool {
+fn is_found<D: Disk>(volume: &Volume<D, Fixed>) -> bool {
     match volume.history().last() {
         Some(entry) => matches!(entry.reply, Reply::Found { .. }),
         None => false,
@@ -189,7 +189,7 @@ fn what_a_sync_acknowledged_is_there_after_a_stop_at_each_disk_call(
     rt: HostRuntime,
 ) -> Result<(), Fail> {
     let alloc = rt.alloc();
-    for failing in 1..80 {
+    for failing in 1..240 {
         for pick in [0, u64::MAX, 0x5555_5555_5555_5555] {
             if let Some((kept, _)) = keeps_acknowledged(alloc, 66, failing, pick)? {
                 assert!(rt; kept);
@@ -200,7 +200,7 @@ fn what_a_sync_acknowledged_is_there_after_a_stop_at_each_disk_call(
 }
 
 /// The next of numbers that come in no order which shows.
-fn next_number(number: u64) -> u64 {
+pub(crate) fn next_number(number: u64) -> u64 {
     number
         .wrapping_mul(6_364_136_223_846_793_005)
         .wrapping_add(1_442_695_040_888_963_407)
@@ -304,15 +304,16 @@ fn left_by_events(
 }
 
 /// How many letters from a on are names of a directory, where those are all of the first 26.
-fn letters_there(alloc: Global, image: Vec<u8>, dir: u64) -> Result<Option<u8>, AllocError>
-    requires { HasTree image.items }
-{
-    let mut volume = mounts(alloc, image, 0)?;
+pub(crate) fn letters_in<D: Disk>(
+    alloc: Global,
+    volume: &mut Volume<D, Fixed>,
+    dir: u64,
+) -> Result<Option<u8>, AllocError> {
     let mut count = 0u8;
     for i in 0..26u8 {
         let name = letter(alloc, b'a' + i)?;
         volume.call(1, 1, Call::Lookup { dir, name })?;
-        if is_found(&volume) {
+        if is_found(volume) {
             if count != i {
                 return Ok(None);
             }
@@ -320,6 +321,14 @@ fn letters_there(alloc: Global, image: Vec<u8>, dir: u64) -> Result<Option<u8>, 
         }
     }
     Ok(Some(count))
+}
+
+/// The same of the volume of an image.
+fn letters_there(alloc: Global, image: Vec<u8>, dir: u64) -> Result<Option<u8>, AllocError>
+    requires { HasTree image.items }
+{
+    let mut volume = mounts(alloc, image, 0)?;
+    letters_in(alloc, &mut volume, dir)
 }
 
 #[test]
@@ -491,7 +500,7 @@ fn a_read_that_fails_lets_its_piece_go_and_the_next_one_has_its_bytes(
 ) -> Result<(), Fail> {
     let alloc = rt.alloc();
     let mut broken = 0u64;
-    for failing in 1..80 {
+    for failing in 1..240 {
         if let Some(whole) = reads_after_fault(alloc, failing)? {
             assert!(rt; whole);
             broken = broken.wrapping_add(1);

@@ -1,18 +1,20 @@
-use Rattle.std.proofs.Common.{rules, ◌≡◌, inl, inr, ◌∙◌, Result, sym, ap, subst, arith}
+use Rattle.std.proofs.Common.{rules, ◌≡◌, inl, inr, ◌∙◌, Result, refl, sym, ap, subst, arith, [], ◌∷◌}
 use Rattle.std.specs.Prelude.{IfOk}
 use Rattle.std.specs.declared.alloc.AllocError.{AllocError}
 use Rattle.bfs_device.specs.Books.{Books}
 use Rattle.bfs_core.specs.Cores.{newest_map}
 use Rattle.bfs_tree.specs.declared.call.Call.{Call}
-use Rattle.bfs_space.specs.Faces.{HasEntered, HasOutcome, IsOutcome}
+use Rattle.bfs_space.specs.Faces.{HasEntered, HasOutcome, IsOutcome, promised_after}
 use Rattle.bfs_space.specs.declared.space.Outcome.{Outcome}
 use Rattle.bfs_space.specs.declared.space.Outcome.TheVariants.{Replied}
 use Rattle.bfs_device_blocks.specs.Lent.{HasCore}
-use Rattle.bfs_space.specs.Books.{SpaceBooks}
+use Rattle.bfs_space.specs.Books.{SpaceBooks, without}
 use Rattle.bfs_volume.specs.Entries.{counts_of}
 use Rattle.bfs_volume.proofs.Asked.{face_core}
 use Rattle.bfs_volume.proofs.Ends.{device_end, noted_entry, rest_of, tells_since}
 use Rattle.bfs_volume.proofs.Joined.{joined_unpromised}
+use Rattle.bfs_volume.proofs.Drawn.{drawn_both, drawn_noted, drawn_within}
+use Rattle.bfs_volume.proofs.Stays.{promised_alone}
 use Rattle.bfs_volume.proofs.calls.answer.Goals as goal
 
 pub returns-in-Some-clause-core : goal.returns-in-Some-clause-core
@@ -135,3 +137,58 @@ returns-in-Ok-Replied-outcome-clause-answered g c = λ t0 adopted core.
       tells = tells_since d.books c.ask-outcome.new.device.books (g.D.Disk.state d.disk) (g.D.Disk.state c.ask-outcome.new.device.disk) held.0.0 c.ask-outcome.ensures.rests c.ask-outcome.ensures.state held.0.1;
       entered = subst (λ (k : Call). HasEntered t0 sp c.ask-outcome.new.space (newest_map d.books held.0.0) c.args.session c.args.tag c.args.now k) off.0 replied;
     })
+
+-- ---- stamps
+
+pub returns-in-Some-clause-stamps : goal.returns-in-Some-clause-stamps
+returns-in-Some-clause-stamps g c = drawn_noted c.prepare.new.space c.note.new.space c.args.space.now.view.history c.args.session c.args.tag c.args.now _ _ _ c.prepare.ensures.history c.note.ensures.noted
+
+pub returns-in-Ok-Replied-clause-stamps : goal.returns-in-Ok-Replied-clause-stamps
+returns-in-Ok-Replied-clause-stamps g c = drawn_within c.args.space.now.view.history c.prepare.new.space.view.history c.ask.new.space.view.history c.unpromise.new.self.view.history c.args.now c.prepare.ensures.history (ap (λ (x : SpaceBooks). x.view.history) c.unpromise.ensures) c.ask.ensures.stamps
+
+pub returns-in-Err-clause-stamps : goal.returns-in-Err-clause-stamps
+returns-in-Err-clause-stamps g c = drawn_within c.args.space.now.view.history c.prepare.new.space.view.history c.ask.new.space.view.history c.unpromise-in-Err.new.self.view.history c.args.now c.prepare.ensures.history (ap (λ (x : SpaceBooks). x.view.history) c.unpromise-in-Err.ensures) c.ask.ensures.stamps
+
+pub returns-in-Err-settle-clause-stamps : goal.returns-in-Err-settle-clause-stamps
+returns-in-Err-settle-clause-stamps g c =
+    let asked = c.ask.new.space.view.history in
+    drawn_both c.args.space.now.view.history asked c.note-in-Err-settle.new.space.view.history c.args.now (drawn_within c.args.space.now.view.history c.prepare.new.space.view.history asked asked c.args.now c.prepare.ensures.history refl c.ask.ensures.stamps)
+    (drawn_noted c.settle.new.space c.note-in-Err-settle.new.space asked c.args.session c.args.tag c.args.now _ _ _ c.settle.ensures.history c.note-in-Err-settle.ensures.noted)
+
+pub returns-in-Ok-Replied-outcome-clause-stamps : goal.returns-in-Ok-Replied-outcome-clause-stamps
+returns-in-Ok-Replied-outcome-clause-stamps g c =
+    let asked = c.ask.new.space.view.history in
+    drawn_both c.args.space.now.view.history asked c.unpromise-2.new.self.view.history c.args.now (drawn_within c.args.space.now.view.history c.prepare.new.space.view.history asked asked c.args.now c.prepare.ensures.history refl c.ask.ensures.stamps)
+    (drawn_within asked c.settle.new.space.view.history c.ask-outcome.new.space.view.history c.unpromise-2.new.self.view.history c.args.now c.settle.ensures.history (ap (λ (x : SpaceBooks). x.view.history) c.unpromise-2.ensures) c.ask-outcome.ensures.stamps)
+
+pub returns-in-Ok-Drain-outcome-clause-stamps : goal.returns-in-Ok-Drain-outcome-clause-stamps
+returns-in-Ok-Drain-outcome-clause-stamps g c =
+    let asked = c.ask.new.space.view.history in
+    drawn_both c.args.space.now.view.history asked c.unpromise-2.new.self.view.history c.args.now (drawn_within c.args.space.now.view.history c.prepare.new.space.view.history asked asked c.args.now c.prepare.ensures.history refl c.ask.ensures.stamps)
+    (drawn_within asked c.settle.new.space.view.history c.ask-outcome.new.space.view.history c.unpromise-2.new.self.view.history c.args.now c.settle.ensures.history (ap (λ (x : SpaceBooks). x.view.history) c.unpromise-2.ensures) c.ask-outcome.ensures.stamps)
+
+pub returns-clause-stamps : goal.returns-clause-stamps
+returns-clause-stamps g c =
+    let asked = c.ask.new.space.view.history in
+    drawn_both c.args.space.now.view.history asked c.unpromise-2.new.self.view.history c.args.now (drawn_within c.args.space.now.view.history c.prepare.new.space.view.history asked asked c.args.now c.prepare.ensures.history refl c.ask.ensures.stamps)
+    (drawn_within asked c.settle.new.space.view.history c.ask-outcome.new.space.view.history c.unpromise-2.new.self.view.history c.args.now c.settle.ensures.history (ap (λ (x : SpaceBooks). x.view.history) c.unpromise-2.ensures) c.ask-outcome.ensures.stamps)
+
+-- ---- promises
+
+pub returns-in-Ok-Replied-outcome-clause-promised : goal.returns-in-Ok-Replied-outcome-clause-promised
+returns-in-Ok-Replied-outcome-clause-promised g c =
+    let q = c.prepare.new.device in
+    let u = c.ask.new.device in
+    let d = c.settle.new.device in
+    let l = c.ask-outcome.new.device in
+    let sp = c.settle.new.space in
+    let space = c.ask-outcome.new.space in
+    let session = c.args.session in
+    let before = counts_of (g.D.Disk.faults d.disk) (g.D.Disk.stops d.disk) d.books.stop in
+    let after_it = counts_of (g.D.Disk.faults l.disk) (g.D.Disk.stops l.disk) l.books.stop in
+    let off = subst (λ (o : Outcome). HasOutcome (counts_of (g.D.Disk.faults q.disk) (g.D.Disk.stops q.disk) q.books.stop) (counts_of (g.D.Disk.faults u.disk) (g.D.Disk.stops u.disk) u.books.stop) c.prepare.new.space c.ask.new.space session c.args.tag c.args.now c.args.call o) c.in-Ok-Drain.field-0-is c.in-Ok-Drain.ensures.noted in
+    let asked = subst (λ (r : Result Outcome AllocError). IfOk r (HasOutcome before after_it sp space session c.args.tag c.args.now c.in-Ok-Drain.call)) c.in-Ok-Replied-outcome.is c.ask-outcome.ensures.noted in
+    let is : c.in-Ok-Replied-outcome.field-0 ≡ Replied = search rules in
+    let replied = subst (λ (o : Outcome). HasOutcome before after_it sp space session c.args.tag c.args.now c.in-Ok-Drain.call o) is asked in
+    let promised : sp.promised ≡ 0 ∷ session ∷ [] = c.settle.ensures.promised ∙ ap (λ (x : SpaceBooks). x.promised) off.1 ∙ c.in_ok-prepare.ensures.ok.0 in
+    ap (λ (x : SpaceBooks). x.promised) c.unpromise-2.ensures ∙ ap (without session) (replied.promised ∙ ap (promised_after session c.in-Ok-Drain.call replied.reply) promised) ∙ promised_alone session c.in-Ok-Drain.call replied.reply c.requires.session

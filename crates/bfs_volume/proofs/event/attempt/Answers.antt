@@ -1,4 +1,4 @@
-use Rattle.std.proofs.Common.{◌⊎◌, inl, sym, subst}
+use Rattle.std.proofs.Common.{◌⊎◌, inl, sym, ap, subst}
 use Rattle.std.proofs.lemmas.Result.{IfOk-weaker}
 use Rattle.bfs_core.specs.Cores.{newest_map}
 use Rattle.bfs_space.specs.Books.{SpaceBooks}
@@ -10,6 +10,7 @@ use Rattle.bfs_volume.specs.Events.{IsOutcomeIn}
 use Rattle.bfs_volume.proofs.Asked.{face_core}
 use Rattle.bfs_volume.proofs.Ends.{rest_of, tells_since}
 use Rattle.bfs_volume.proofs.Joined.{joined_unpromised}
+use Rattle.bfs_volume.proofs.Drawn.{drawn_noted, drawn_within}
 use Rattle.bfs_volume.proofs.event.attempt.Goals as goal
 
 pub returns-in-Some-clause-core : goal.returns-in-Some-clause-core
@@ -47,3 +48,9 @@ returns-clause-answered g c = λ t0 adopted core.
       outcome_is = is;
     }) in it))
     (c.ask-outcome.ensures.entered t0 held.0.0 held.0.1 face)
+
+pub returns-in-Some-clause-stamps : goal.returns-in-Some-clause-stamps
+returns-in-Some-clause-stamps g c = drawn_noted c.prepare.new.space c.note.new.space c.args.space.now.view.history c.args.session c.args.tag c.args.now _ _ _ c.prepare.ensures.history c.note.ensures.noted
+
+pub returns-clause-stamps : goal.returns-clause-stamps
+returns-clause-stamps g c = drawn_within c.args.space.now.view.history c.prepare.new.space.view.history c.ask-outcome.new.space.view.history c.unpromise.new.self.view.history c.args.now c.prepare.ensures.history (ap (λ (x : SpaceBooks). x.view.history) c.unpromise.ensures) c.ask-outcome.ensures.stamps

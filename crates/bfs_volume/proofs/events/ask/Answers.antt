@@ -7,6 +7,7 @@ use Rattle.bfs_device_blocks.specs.Lent.{HasCore, Lent}
 use Rattle.bfs_volume.specs.Volumes.{AreJoined}
 use Rattle.bfs_volume.proofs.Asked.{core_asked, faced, joined_asked, size_is}
 use Rattle.bfs_volume.proofs.Stays.{stays_goes}
+use Rattle.bfs_volume.proofs.Drawn.{drawn_outcome}
 use Rattle.bfs_volume.proofs.events.ask.Goals as goal
 
 pub call-outcome-requires-clause-size : goal.call-outcome-requires-clause-size
@@ -31,7 +32,8 @@ returns-clause-joined g c =
     let state : g.D.Disk.state u.device.now.disk ≡ g.D.Disk.state old.disk = c.done.ensures.state ∙ ap (λ (x : View g.row.D.Denot). g.D.Disk.state x.disk) began in
     subst (λ (x : View g.row.D.Denot). AreJoined space x.books (g.D.Disk.state x.disk)) (sym back)
     (joined_asked sp space old.books u.device.now.books (g.D.Disk.state old.disk) (g.D.Disk.state u.device.now.disk) c.args.session c.args.tag c.args.now c.args.call c.call-outcome.result _ _ rests state c.requires.call c.entered_keeps_files.ensures (stays_goes c.args.call c.requires.stays) c.call-outcome.ensures.noted c.call-outcome.ensures.no_memory
-    (λ t m at face. c.call-outcome.ensures.entered t m (subst (λ (x : View g.row.D.Denot). option_map (newest_map x.books) (g.D.Disk.state x.disk) ≡ Some m) (sym c.over-blocks.ensures.device_now) at) face) c.requires.joined)
+    (λ t m at face. c.call-outcome.ensures.entered t m (subst (λ (x : View g.row.D.Denot). option_map (newest_map x.books) (g.D.Disk.state x.disk) ≡ Some m) (sym c.over-blocks.ensures.device_now) at) face)
+    (λ t m at face counts. c.call-outcome.ensures.counted t m (subst (λ (x : View g.row.D.Denot). option_map (newest_map x.books) (g.D.Disk.state x.disk) ≡ Some m) (sym c.over-blocks.ensures.device_now) at) face counts) c.requires.joined)
 
 pub returns-clause-core : goal.returns-clause-core
 returns-clause-core g c = λ t0 adopted core.
@@ -50,3 +52,6 @@ returns-clause-core g c = λ t0 adopted core.
     (core_asked sp space old.books u.device.now.books (g.D.Disk.state old.disk) (g.D.Disk.state u.device.now.disk) c.args.session c.args.tag c.args.now c.args.call c.call-outcome.result _ _ rests state c.requires.call c.entered_keeps_files.ensures (stays_goes c.args.call c.requires.stays) c.call-outcome.ensures.noted c.call-outcome.ensures.no_memory
     (λ t m at face. c.call-outcome.ensures.entered t m (subst (λ (x : View g.row.D.Denot). option_map (newest_map x.books) (g.D.Disk.state x.disk) ≡ Some m) (sym c.over-blocks.ensures.device_now) at) face)
     t0 adopted (g.D.Disk.clock u.device.now.disk) (g.D.Disk.since u.device.now.disk) c.requires.joined (c.done.ensures.core t0 adopted sp.view first))
+
+pub returns-clause-stamps : goal.returns-clause-stamps
+returns-clause-stamps g c = drawn_outcome _ _ c.args.space.now c.call-outcome.new.self c.args.session c.args.tag c.args.now c.args.call c.call-outcome.result c.call-outcome.ensures.noted c.call-outcome.ensures.no_memory

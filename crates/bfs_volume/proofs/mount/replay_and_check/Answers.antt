@@ -9,14 +9,14 @@ returns-in-Err-clause-refused g c image held = c.in-Err.ensures.fault image (rea
 
 pub returns-in-Ok-Yes-clause-whole : goal.returns-in-Ok-Yes-clause-whole
 returns-in-Ok-Yes-clause-whole g c st is =
-    held_whole (g.D.Disk.state c.args.disk.now) (g.D.Disk.state c.recover.new.disk) c.in-Ok.sup c.requires.held c.in-Ok.ensures.silent (λ image held. c.in-Ok.ensures.recovered true image held)
-    (λ image held. let w = summed image c.in-Ok-Yes.field-0 c.in-Ok-Yes.field-0-0 c.in-Ok-Yes.field-0-is (c.in-Ok-Yes.ensures.verdict image (reads (g.D.Disk.state c.recover.new.disk) image held)) in (w.tree, w.whole))
+    held_whole (g.D.Disk.state c.args.disk.now) (g.D.Disk.state c.recover.new.disk) c.in-Ok.sup c.requires.held c.in-Ok.ensures.silent (λ image held. c.in-Ok.ensures.recovered true image held) c.in-Ok-Yes.summary.nodes
+    (λ image held. let w = summed image c.in-Ok-Yes.field-0 c.in-Ok-Yes.summary c.in-Ok-Yes.field-0-is (c.in-Ok-Yes.ensures.verdict image (reads (g.D.Disk.state c.recover.new.disk) image held)) in (w.tree, w.whole, w.nodes))
     st (sym c.in-Ok-Yes.ensures.state ∙ is)
 
 pub returns-in-Ok-Yes-clause-recovers : goal.returns-in-Ok-Yes-clause-recovers
 returns-in-Ok-Yes-clause-recovers g c image held =
     let got = c.in-Ok.ensures.recovered true image held in
-    let w = summed got.0 c.in-Ok-Yes.field-0 c.in-Ok-Yes.field-0-0 c.in-Ok-Yes.field-0-is (c.in-Ok-Yes.ensures.verdict got.0 (reads (g.D.Disk.state c.recover.new.disk) got.0 got.2)) in
+    let w = summed got.0 c.in-Ok-Yes.field-0 c.in-Ok-Yes.summary c.in-Ok-Yes.field-0-is (c.in-Ok-Yes.ensures.verdict got.0 (reads (g.D.Disk.state c.recover.new.disk) got.0 got.2)) in
     (w.tree, record { result = got.0; replayed = got.1; whole = w.whole })
 
 pub returns-in-Ok-Yes-clause-replayed : goal.returns-in-Ok-Yes-clause-replayed

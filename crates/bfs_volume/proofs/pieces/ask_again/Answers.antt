@@ -5,6 +5,7 @@ use Rattle.bfs_volume.specs.Entries.{HasReplyIn, IsAnsweredIn}
 use Rattle.bfs_volume.specs.Held.{HasAsked, IsAwaited, OnReply}
 use Rattle.bfs_volume.specs.declared.pieces.Asked.{Asked}
 use Rattle.bfs_volume.proofs.Asking.{answered_from, ended_untaken, reply_from, took_from, untaken_from}
+use Rattle.bfs_volume.proofs.Drawn.{drawn_both}
 use Rattle.bfs_volume.proofs.pieces.ask_again.Goals as goal
 
 pub ask_once-requires-clause-promised : goal.ask_once-requires-clause-promised
@@ -134,3 +135,17 @@ returns-in-Ok-PutOff-clause-no_memory g c =
 
 pub returns-in-Ok-PutOff-clause-core : goal.returns-in-Ok-PutOff-clause-core
 returns-in-Ok-PutOff-clause-core g c = λ t0 adopted core. c.ask_once.ensures.core t0 adopted (c.make_empty.ensures.core t0 adopted core)
+
+-- ---- stamps
+
+pub returns-in-Ok-Taken-clause-stamps : goal.returns-in-Ok-Taken-clause-stamps
+returns-in-Ok-Taken-clause-stamps g c = drawn_both c.args.space.now.view.history c.make_empty.new.space.view.history c.ask_once.new.space.view.history c.args.piece.now c.make_empty.ensures.stamps c.ask_once.ensures.stamps
+
+pub returns-in-Ok-Refused-clause-stamps : goal.returns-in-Ok-Refused-clause-stamps
+returns-in-Ok-Refused-clause-stamps g c = drawn_both c.args.space.now.view.history c.make_empty.new.space.view.history c.ask_once.new.space.view.history c.args.piece.now c.make_empty.ensures.stamps c.ask_once.ensures.stamps
+
+pub returns-in-Err-ask_once-clause-stamps : goal.returns-in-Err-ask_once-clause-stamps
+returns-in-Err-ask_once-clause-stamps g c = drawn_both c.args.space.now.view.history c.make_empty.new.space.view.history c.ask_once.new.space.view.history c.args.piece.now c.make_empty.ensures.stamps c.ask_once.ensures.stamps
+
+pub returns-in-Ok-PutOff-clause-stamps : goal.returns-in-Ok-PutOff-clause-stamps
+returns-in-Ok-PutOff-clause-stamps g c = drawn_both c.args.space.now.view.history c.make_empty.new.space.view.history c.ask_once.new.space.view.history c.args.piece.now c.make_empty.ensures.stamps c.ask_once.ensures.stamps

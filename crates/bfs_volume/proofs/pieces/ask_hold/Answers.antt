@@ -8,6 +8,7 @@ use Rattle.bfs_volume.specs.Volumes.{AreJoined}
 use Rattle.bfs_volume.proofs.Asked.{core_asked, face_there, faced, joined_asked, size_is}
 use Rattle.bfs_tree.specs.declared.call.Call.TheVariants.{Hold}
 use Rattle.bfs_volume.proofs.Stays.{no_sync}
+use Rattle.bfs_volume.proofs.Drawn.{drawn_outcome}
 use Rattle.bfs_volume.proofs.pieces.ask_hold.Goals as goal
 
 pub hold-outcome-requires-clause-size : goal.hold-outcome-requires-clause-size
@@ -32,7 +33,8 @@ returns-clause-joined g c =
     let state : g.D.Disk.state u.device.now.disk ≡ g.D.Disk.state old.disk = c.done.ensures.state ∙ ap (λ (x : View g.row.D.Denot). g.D.Disk.state x.disk) began in
     subst (λ (x : View g.row.D.Denot). AreJoined space x.books (g.D.Disk.state x.disk)) (sym back)
     (joined_asked sp space old.books u.device.now.books (g.D.Disk.state old.disk) (g.D.Disk.state u.device.now.disk) c.args.piece.session c.args.piece.tag c.args.piece.now (Hold c.args.piece.id c.args.piece.at c.args.piece.length c.args.piece.write) c.hold-outcome.result _ _ rests state (no_sync c.args.piece.id c.args.piece.at c.args.piece.length c.args.piece.write) c.entered_keeps_files.ensures refl c.hold-outcome.ensures.noted c.hold-outcome.ensures.no_memory
-    (λ t m at face. c.hold-outcome.ensures.entered t m (subst (λ (x : View g.row.D.Denot). option_map (newest_map x.books) (g.D.Disk.state x.disk) ≡ Some m) (sym c.over-blocks.ensures.device_now) at) face) c.requires.joined)
+    (λ t m at face. c.hold-outcome.ensures.entered t m (subst (λ (x : View g.row.D.Denot). option_map (newest_map x.books) (g.D.Disk.state x.disk) ≡ Some m) (sym c.over-blocks.ensures.device_now) at) face)
+    (λ t m at face counts. c.hold-outcome.ensures.counted t m (subst (λ (x : View g.row.D.Denot). option_map (newest_map x.books) (g.D.Disk.state x.disk) ≡ Some m) (sym c.over-blocks.ensures.device_now) at) face counts) c.requires.joined)
 
 pub returns-clause-core : goal.returns-clause-core
 returns-clause-core g c = λ t0 adopted core.
@@ -57,3 +59,8 @@ returns-clause-piece g c = λ st is.
     let old = c.args.device.now in
     let there = face_there c.args.space.now old.books (g.D.Disk.state old.disk) st c.requires.joined is in
     c.hold-outcome.ensures.piece there.t0 (newest_map old.books st) (subst (λ (x : View g.row.D.Denot). option_map (newest_map x.books) (g.D.Disk.state x.disk) ≡ Some (newest_map old.books st)) (sym c.over-blocks.ensures.device_now) (ap (option_map (newest_map old.books)) is)) there.face
+
+pub returns-clause-stamps : goal.returns-clause-stamps
+returns-clause-stamps g c =
+    let p = c.args.piece in
+    drawn_outcome _ _ c.args.space.now c.hold-outcome.new.self p.session p.tag p.now (Hold p.id p.at p.length p.write) c.hold-outcome.result c.hold-outcome.ensures.noted c.hold-outcome.ensures.no_memory

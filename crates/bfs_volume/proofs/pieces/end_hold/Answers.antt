@@ -5,6 +5,7 @@ use Rattle.bfs_tree.specs.declared.reply.Reply.{Reply}
 use Rattle.bfs_space.specs.Files.{lets_go}
 use Rattle.bfs_volume.specs.Entries.{IsToldBy}
 use Rattle.bfs_volume.proofs.Ends.{noted_entry}
+use Rattle.bfs_volume.proofs.Drawn.{drawn_noted}
 use Rattle.bfs_volume.proofs.pieces.end_hold.Goals as goal
 
 pub note-requires-clause-goes : goal.note-requires-clause-goes
@@ -23,3 +24,8 @@ returns-clause-entry g c =
 
 pub returns-clause-core : goal.returns-clause-core
 returns-clause-core g c = λ t0 adopted core. c.note.ensures.core t0 adopted core
+
+pub returns-clause-stamps : goal.returns-clause-stamps
+returns-clause-stamps g c =
+    let p = c.args.piece in
+    drawn_noted c.args.space.now c.note.new.space c.args.space.now.view.history p.session p.tag p.now _ _ _ refl c.note.ensures.noted

@@ -6,6 +6,8 @@ use Rattle.bfs_volume.specs.Entries.{HasReplyIn, IsAnsweredIn}
 use Rattle.bfs_volume.specs.Held.{HasAsked, IsAwaited, OnReply}
 use Rattle.bfs_volume.specs.declared.pieces.Asked.{Asked}
 use Rattle.bfs_volume.proofs.Asking.{answered_from, done_from, ended_from, ended_untaken, err_from, ok_from, reply_from, took_from, untaken_from}
+use Rattle.bfs_volume.proofs.Ends.{not_both}
+use Rattle.bfs_volume.proofs.Drawn.{drawn_both}
 use Rattle.bfs_volume.proofs.pieces.hold.Goals as goal
 
 pub ask_once-requires-clause-promised : goal.ask_once-requires-clause-promised
@@ -212,3 +214,42 @@ returns-in-Ok-PutOff-clause-answered g c = λ t0 adopted core.
 
 pub returns-in-Ok-PutOff-clause-core : goal.returns-in-Ok-PutOff-clause-core
 returns-in-Ok-PutOff-clause-core g c = λ t0 adopted core. c.ask_again.ensures.core t0 adopted (c.ask_once.ensures.core t0 adopted (c.make_quiet.ensures.core t0 adopted core))
+
+-- ---- stamps
+
+pub returns-in-Ok-Taken-clause-stamps : goal.returns-in-Ok-Taken-clause-stamps
+returns-in-Ok-Taken-clause-stamps g c = drawn_both c.args.space.now.view.history c.make_quiet.new.space.view.history c.ask_once.new.space.view.history c.args.piece.now c.make_quiet.ensures.stamps c.ask_once.ensures.stamps
+
+pub returns-in-Ok-Refused-clause-stamps : goal.returns-in-Ok-Refused-clause-stamps
+returns-in-Ok-Refused-clause-stamps g c = drawn_both c.args.space.now.view.history c.make_quiet.new.space.view.history c.ask_once.new.space.view.history c.args.piece.now c.make_quiet.ensures.stamps c.ask_once.ensures.stamps
+
+pub returns-in-Err-ask_once-clause-stamps : goal.returns-in-Err-ask_once-clause-stamps
+returns-in-Err-ask_once-clause-stamps g c = drawn_both c.args.space.now.view.history c.make_quiet.new.space.view.history c.ask_once.new.space.view.history c.args.piece.now c.make_quiet.ensures.stamps c.ask_once.ensures.stamps
+
+pub returns-in-Ok-PutOff-clause-stamps : goal.returns-in-Ok-PutOff-clause-stamps
+returns-in-Ok-PutOff-clause-stamps g c =
+    drawn_both c.args.space.now.view.history c.ask_once.new.space.view.history c.ask_again.new.space.view.history c.args.piece.now
+    (drawn_both c.args.space.now.view.history c.make_quiet.new.space.view.history c.ask_once.new.space.view.history c.args.piece.now c.make_quiet.ensures.stamps c.ask_once.ensures.stamps) c.ask_again.ensures.stamps
+
+-- ---- of a device that had stopped
+
+pub returns-in-Ok-Taken-clause-stopped : goal.returns-in-Ok-Taken-clause-stopped
+returns-in-Ok-Taken-clause-stopped g c = λ s is. absurd (not_both c.args.device.now.books.stop s (c.in-Ok-true.ensures.ready c.in-Ok-true.field-0-test).begun is)
+
+pub returns-in-Ok-Taken-clause-stays_stopped : goal.returns-in-Ok-Taken-clause-stays_stopped
+returns-in-Ok-Taken-clause-stays_stopped g c = λ s is. absurd (not_both c.args.device.now.books.stop s (c.in-Ok-true.ensures.ready c.in-Ok-true.field-0-test).begun is)
+
+pub returns-in-Ok-Refused-clause-stopped : goal.returns-in-Ok-Refused-clause-stopped
+returns-in-Ok-Refused-clause-stopped g c = λ s is. absurd (not_both c.args.device.now.books.stop s (c.in-Ok-true.ensures.ready c.in-Ok-true.field-0-test).begun is)
+
+pub returns-in-Ok-Refused-clause-stays_stopped : goal.returns-in-Ok-Refused-clause-stays_stopped
+returns-in-Ok-Refused-clause-stays_stopped g c = λ s is. absurd (not_both c.args.device.now.books.stop s (c.in-Ok-true.ensures.ready c.in-Ok-true.field-0-test).begun is)
+
+pub returns-in-Ok-PutOff-clause-stopped : goal.returns-in-Ok-PutOff-clause-stopped
+returns-in-Ok-PutOff-clause-stopped g c = λ s is. absurd (not_both c.args.device.now.books.stop s (c.in-Ok-true.ensures.ready c.in-Ok-true.field-0-test).begun is)
+
+pub returns-in-Ok-PutOff-clause-stays_stopped : goal.returns-in-Ok-PutOff-clause-stays_stopped
+returns-in-Ok-PutOff-clause-stays_stopped g c = λ s is. absurd (not_both c.args.device.now.books.stop s (c.in-Ok-true.ensures.ready c.in-Ok-true.field-0-test).begun is)
+
+pub returns-in-Err-ask_once-clause-stays_stopped : goal.returns-in-Err-ask_once-clause-stays_stopped
+returns-in-Err-ask_once-clause-stays_stopped g c = λ s is. absurd (not_both c.args.device.now.books.stop s (c.in-Ok-true.ensures.ready c.in-Ok-true.field-0-test).begun is)

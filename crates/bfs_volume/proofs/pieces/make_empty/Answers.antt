@@ -1,4 +1,4 @@
-use Rattle.std.proofs.Common.{rules, ◌≡◌, ◌∙◌, List, false, sym, ap, subst, arith}
+use Rattle.std.proofs.Common.{rules, ◌≡◌, ◌∙◌, List, false, sym, ap, subst, arith, refl}
 use Rattle.std.specs.List.{list_any}
 use Rattle.bfs_device_blocks.specs.Lent.{HasCore}
 use Rattle.bfs_space.specs.Books.{SpaceBooks}
@@ -8,6 +8,7 @@ use Rattle.bfs_tree.specs.Histories.{is_stop}
 use Rattle.bfs_volume.specs.Entries.{HasEntryOf, reply_of}
 use Rattle.bfs_volume.proofs.Ends.{device_end, told_of}
 use Rattle.bfs_volume.proofs.Joined.{joined_unpromised}
+use Rattle.bfs_volume.proofs.Drawn.{drawn_none, drawn_within}
 use Rattle.bfs_volume.proofs.pieces.make_empty.Goals as goal
 
 pub returns-in-Err-clause-core : goal.returns-in-Err-clause-core
@@ -53,3 +54,12 @@ returns-clause-ready g c = λ is.
       going = c.in-Ok.ensures.stop.1;
       empty = λ w. c.in-Ok.ensures.done.0;
     }
+
+pub returns-in-Err-clause-stamps : goal.returns-in-Err-clause-stamps
+returns-in-Err-clause-stamps g c =
+    let new = c.end_hold.new.space.view.history in
+    drawn_within c.args.space.now.view.history c.settle.new.space.view.history new new c.args.piece.now (c.settle.ensures.history ∙ c.prepare.ensures.history) refl c.end_hold.ensures.stamps
+
+pub returns-clause-stamps : goal.returns-clause-stamps
+returns-clause-stamps g c =
+    drawn_none c.args.space.now.view.history c.unpromise.new.self.view.history c.args.piece.now (ap (λ (x : SpaceBooks). x.view.history) c.unpromise.ensures ∙ c.settle.ensures.history ∙ c.prepare.ensures.history)

@@ -3,9 +3,12 @@ use Rattle.std.specs.List.{All}
 use Rattle.bfs_device.specs.Layouts.{IsData, layout_of}
 use Rattle.bfs_tree.specs.declared.call.Call.{Call}
 use Rattle.bfs_tree.specs.declared.call.Call.TheVariants.{Hold}
+use Rattle.bfs_volume.specs.Entries.{IsStoppedEntry}
 use Rattle.bfs_volume.specs.Pieces.{HasHoldIn, HasReleased, HasUntaken, IsHoldIn}
 use Rattle.bfs_volume.specs.Held.{HasPlaces}
+use Rattle.bfs_volume.proofs.Ends.{not_both}
 use Rattle.bfs_volume.proofs.Gone.{hold_in, is_hold_in, released_cause, released_entries, untaken_cause}
+use Rattle.bfs_volume.proofs.Drawn.{drawn_both}
 use Rattle.bfs_volume.proofs.pieces.read.Goals as goal
 
 pub read_held-requires-clause-promised : goal.read_held-requires-clause-promised
@@ -120,3 +123,20 @@ returns-clause-released g c =
 
 pub returns-clause-core : goal.returns-clause-core
 returns-clause-core g c = λ t0 adopted core. c.read_held.ensures.core t0 adopted (c.hold.ensures.core t0 adopted core)
+
+pub returns-clause-stamps : goal.returns-clause-stamps
+returns-clause-stamps g c = drawn_both c.args.space.now.view.history c.hold.new.space.view.history c.read_held.new.space.view.history c.args.piece.now c.hold.ensures.stamps c.read_held.ensures.stamps
+
+-- ---- of a device that had stopped
+
+pub returns-in-Ok-false-clause-stopped : goal.returns-in-Ok-false-clause-stopped
+returns-in-Ok-false-clause-stopped g c = λ s is.
+    let p = c.args.piece in
+    let call : (Hold p.id p.at p.length p.write) ≡ (Hold p.id p.at (length c.args.into.now) false) = (λ i. Hold p.id p.at (c.requires.long i) (c.requires.way i)) in
+    subst (λ (k : Call). IsStoppedEntry c.args.space.now.view.history c.hold.new.space.view.history p.session p.tag k s) call (c.in-Ok-false.ensures.stopped s is).1
+
+pub returns-clause-stopped : goal.returns-clause-stopped
+returns-clause-stopped g c = λ s is. absurd (not_both c.args.device.now.books.stop s (c.in-Ok-true.ensures.taken c.in-Ok-true.field-0-test).begun is)
+
+pub returns-clause-stays_stopped : goal.returns-clause-stays_stopped
+returns-clause-stays_stopped g c = λ s is. absurd (not_both c.args.device.now.books.stop s (c.in-Ok-true.ensures.taken c.in-Ok-true.field-0-test).begun is)

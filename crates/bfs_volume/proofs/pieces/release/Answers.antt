@@ -3,6 +3,7 @@ use Rattle.bfs_core.proofs.Images.{some_bytes}
 use Rattle.bfs_volume.proofs.Asked.{size_is}
 use Rattle.bfs_volume.proofs.Ends.{noted_entry}
 use Rattle.bfs_volume.proofs.Released.{core_released, joined_released}
+use Rattle.bfs_volume.proofs.Drawn.{drawn_noted}
 use Rattle.bfs_volume.proofs.pieces.release.Goals as goal
 
 pub returns-clause-joined : goal.returns-clause-joined
@@ -28,3 +29,8 @@ returns-clause-entry g c =
     let sp = c.args.space.now in
     let p = c.args.piece in
     noted_entry sp c.note.new.self sp.view.history p.session p.tag p.now _ _ _ _ _ refl refl refl c.note.ensures
+
+pub returns-clause-stamps : goal.returns-clause-stamps
+returns-clause-stamps g c =
+    let p = c.args.piece in
+    drawn_noted c.args.space.now c.note.new.self c.args.space.now.view.history p.session p.tag p.now _ _ _ refl c.note.ensures

@@ -3,9 +3,12 @@ use Rattle.std.specs.List.{All}
 use Rattle.bfs_device.specs.Layouts.{IsData, layout_of}
 use Rattle.bfs_tree.specs.declared.call.Call.{Call}
 use Rattle.bfs_tree.specs.declared.call.Call.TheVariants.{Hold}
+use Rattle.bfs_volume.specs.Entries.{IsStoppedEntry}
 use Rattle.bfs_volume.specs.Pieces.{HasHoldIn, HasReleased, HasUntaken, IsHoldIn}
 use Rattle.bfs_volume.specs.Held.{HasPlaces}
+use Rattle.bfs_volume.proofs.Ends.{not_both}
 use Rattle.bfs_volume.proofs.Gone.{hold_in, is_hold_in, released_cause, released_entries, untaken_cause}
+use Rattle.bfs_volume.proofs.Drawn.{drawn_both}
 use Rattle.bfs_volume.proofs.pieces.write.Goals as goal
 
 pub write_held-requires-clause-promised : goal.write_held-requires-clause-promised
@@ -123,3 +126,20 @@ returns-clause-core g c = λ t0 adopted core. c.write_held.ensures.core t0 adopt
 
 pub write_held-requires-clause-empty : goal.write_held-requires-clause-empty
 write_held-requires-clause-empty g c = (c.in-Ok-true.ensures.taken c.in-Ok-true.field-0-test).empty c.requires.way
+
+pub returns-clause-stamps : goal.returns-clause-stamps
+returns-clause-stamps g c = drawn_both c.args.space.now.view.history c.hold.new.space.view.history c.write_held.new.space.view.history c.args.piece.now c.hold.ensures.stamps c.write_held.ensures.stamps
+
+-- ---- of a device that had stopped
+
+pub returns-in-Ok-false-clause-stopped : goal.returns-in-Ok-false-clause-stopped
+returns-in-Ok-false-clause-stopped g c = λ s is.
+    let p = c.args.piece in
+    let call : (Hold p.id p.at p.length p.write) ≡ (Hold p.id p.at (length c.args.bytes.now) true) = (λ i. Hold p.id p.at (c.requires.long i) (c.requires.way i)) in
+    subst (λ (k : Call). IsStoppedEntry c.args.space.now.view.history c.hold.new.space.view.history p.session p.tag k s) call (c.in-Ok-false.ensures.stopped s is).1
+
+pub returns-clause-stopped : goal.returns-clause-stopped
+returns-clause-stopped g c = λ s is. absurd (not_both c.args.device.now.books.stop s (c.in-Ok-true.ensures.taken c.in-Ok-true.field-0-test).begun is)
+
+pub returns-clause-stays_stopped : goal.returns-clause-stays_stopped
+returns-clause-stays_stopped g c = λ s is. absurd (not_both c.args.device.now.books.stop s (c.in-Ok-true.ensures.taken c.in-Ok-true.field-0-test).begun is)

@@ -1,7 +1,7 @@
 use Rattle.std.proofs.Common.{◌≡◌, ◌∙◌, ◌++◌, ◌∷◌, [], ℕ, List, ap, sym, subst}
 use Rattle.bfs_base.specs.Lists.{times, Has}
-use Rattle.bfs_space.specs.Books.{SpaceBooks, without}
-use Rattle.bfs_space.proofs.Stamps.{has_last, none_without}
+use Rattle.bfs_volume.specs.Books.{SpaceBooks, without}
+use Rattle.bfs_volume.proofs.Stamps.{has_last, none_without}
 use Rattle.bfs_volume_tests.proofs.space_tests.notes.Goals as goal
 
 pub note-requires-clause-promised : goal.note-requires-clause-promised

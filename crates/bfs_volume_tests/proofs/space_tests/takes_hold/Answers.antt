@@ -1,7 +1,7 @@
 use Rattle.std.proofs.Common.{◌≡◌, ◌∙◌, ap}
 use Rattle.bfs_base.specs.Lists.{times}
-use Rattle.bfs_space.specs.Books.{SpaceBooks, without}
-use Rattle.bfs_space.proofs.Stamps.{none_without}
+use Rattle.bfs_volume.specs.Books.{SpaceBooks, without}
+use Rattle.bfs_volume.proofs.Stamps.{none_without}
 use Rattle.bfs_volume_tests.proofs.space_tests.takes_hold.Goals as goal
 
 pub hold-requires-clause-unpromised : goal.hold-requires-clause-unpromised

@@ -1,4 +1,4 @@
-use Rattle.std.proofs.Common.{ℕ, ◌<◌}
+use Rattle.std.proofs.Common.{◌<◌}
 use Rattle.bfs_tree.specs.Histories.{Mounted}
 use Rattle.bfs_device_blocks.specs.Lent.{HasCore}
 use Rattle.bfs_core.specs.Moments.{Adoption}

@@ -10,14 +10,14 @@ use Rattle.bfs_volume.proofs.Images.{holds_bytes}
 use Rattle.bfs_volume.proofs.Mounting.{kept_quiet}
 use Rattle.bfs_volume_tests.proofs.volume_tests.mounts.Goals as goal
 
-pub open-requires : goal.open-requires
-open-requires c = record {
-  whole = λ st e.
+pub mount-requires : goal.mount-requires
+mount-requires c = record {
+  held = λ st e.
       let items = c.args.image.items in
       let long : length c.args.image.items ≡ 512 * (length c.args.image.items / 512) = search rules in
       let q : Some (state_of items) ≡ Some st = sym c.failing-disk.ensures.quiet ∙ e in
       let same : state_of items ≡ st = cc in
-      (items, c.requires.0, subst (Holds items) same (holds_bytes items long), c.requires.1);
+      (items, subst (Holds items) same (holds_bytes items long));
 }
 
 pub returns-in-Ok : goal.returns-in-Ok

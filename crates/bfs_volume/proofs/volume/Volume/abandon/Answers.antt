@@ -10,10 +10,10 @@ pub returns-clause-held : goal.returns-clause-held
 returns-clause-held g c = λ t0 adopted core image left.
     let i = c.self.inside in
     let d = i.device in
-    let history : i.space.view.history ≡ c.args.self.space.view.history = ap (λ (v : VolumeView g.row.D.Denot). v.space.view.history) c.self.view_is in
+    let history : i.space.view.history ≡ c.args.self.space.view.history = ap (λ (v : VolumeView g.row.D.Denot g.row.C.Denot). v.space.view.history) c.self.view_is in
     let inside : HasCore t0 adopted i.space.view d.books (g.D.Disk.state d.disk) (g.D.Disk.clock d.disk) (g.D.Disk.since d.disk) =
-    subst (λ (v : VolumeView g.row.D.Denot). HasCore t0 adopted v.space.view v.device.books (g.D.Disk.state v.device.disk) (g.D.Disk.clock v.device.disk) (g.D.Disk.since v.device.disk)) (sym c.self.view_is) core in
-    let durable : durable_of d.books ≡ durable_of c.args.self.device.books = ap (λ (v : VolumeView g.row.D.Denot). durable_of v.device.books) c.self.view_is in
+    subst (λ (v : VolumeView g.row.D.Denot g.row.C.Denot). HasCore t0 adopted v.space.view v.device.books (g.D.Disk.state v.device.disk) (g.D.Disk.clock v.device.disk) (g.D.Disk.since v.device.disk)) (sym c.self.view_is) core in
+    let durable : durable_of d.books ≡ durable_of c.args.self.device.books = ap (λ (v : VolumeView g.row.D.Denot g.row.C.Denot). durable_of v.device.books) c.self.view_is in
     some_recovers t0 adopted (durable_of c.args.self.device.books) i.space.view c.args.self.space.view.history d.books (g.D.Disk.state d.disk) (g.D.Disk.clock d.disk) (g.D.Disk.since d.disk) history
     (omega (arith, durable)) c.durable-durable.ensures.recovers inside image
     (subst (λ k. MayLeave (g.D.Disk.state k) image) c.into_disk.ensures left)
@@ -22,8 +22,8 @@ pub returns-clause-since : goal.returns-clause-since
 returns-clause-since g c = λ t0 adopted core image left.
     let i = c.self.inside in
     let d = i.device in
-    let history : i.space.view.history ≡ c.args.self.space.view.history = ap (λ (v : VolumeView g.row.D.Denot). v.space.view.history) c.self.view_is in
+    let history : i.space.view.history ≡ c.args.self.space.view.history = ap (λ (v : VolumeView g.row.D.Denot g.row.C.Denot). v.space.view.history) c.self.view_is in
     let inside : HasCore t0 adopted i.space.view d.books (g.D.Disk.state d.disk) (g.D.Disk.clock d.disk) (g.D.Disk.since d.disk) =
-    subst (λ (v : VolumeView g.row.D.Denot). HasCore t0 adopted v.space.view v.device.books (g.D.Disk.state v.device.disk) (g.D.Disk.clock v.device.disk) (g.D.Disk.since v.device.disk)) (sym c.self.view_is) core in
+    subst (λ (v : VolumeView g.row.D.Denot g.row.C.Denot). HasCore t0 adopted v.space.view v.device.books (g.D.Disk.state v.device.disk) (g.D.Disk.clock v.device.disk) (g.D.Disk.since v.device.disk)) (sym c.self.view_is) core in
     since_begun t0 adopted i.space.view c.args.self.space.view.history d.books (g.D.Disk.state d.disk) (g.D.Disk.clock d.disk) (g.D.Disk.since d.disk) history inside image
     (subst (λ k. g.D.Disk.since k adopted.begun image) c.into_disk.ensures left)

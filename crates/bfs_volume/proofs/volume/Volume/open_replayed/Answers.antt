@@ -11,7 +11,7 @@ use Rattle.bfs_core.proofs.Mounts.{mount_core, mount_kept}
 use Rattle.bfs_device_blocks.specs.Lent.{HasCore}
 use Rattle.bfs_space.specs.Books.{SpaceBooks}
 use Rattle.bfs_volume.specs.Volumes.{AreJoined}
-use Rattle.bfs_volume.proofs.Mounting.{held_recovered, known_held, may_mount, mounted_next, mounted_recovers}
+use Rattle.bfs_volume.proofs.Mounting.{held_recovered, known_held, mounted_next, mounted_recovers}
 use Rattle.bfs_volume.proofs.Opened.{joined_first}
 use Rattle.bfs_volume.proofs.volume.Volume.open_replayed.Goals as goal
 
@@ -28,7 +28,7 @@ invariant_of-result g c =
     let on : IsOnDisk (g.D.Disk.size disk) s =
     subst (λ k. IsOnDisk (g.D.Disk.size k) s) same (subst (λ (b : Books). IsOnDisk (g.D.Disk.size d.disk) b.sup) books (subst (λ (x : View g.row.D.Denot). IsOnDisk (g.D.Disk.size x.disk) x.books.sup) is c.steady.ensures.on_disk)) in
     let steady : IsSteady (adopted s) = subst IsSteady (ap (λ (x : View g.row.D.Denot). x.books) is ∙ books) c.steady.ensures.steady in
-    let first = joined_first (g.D.Disk.state c.args.disk) (g.D.Disk.state disk) (g.D.Disk.size disk) s (may_mount s (g.D.Disk.state disk) c.requires.whole) (λ e. e) (λ quiet image q held. held_recovered s (g.D.Disk.state disk) (g.met.D.Disk.filled disk) c.requires.whole image held) (g.met.D.Disk.filled disk) (g.met.D.Disk.sized disk) on steady in
+    let first = joined_first (g.D.Disk.state disk) (g.D.Disk.size disk) s c.args.nodes c.requires.whole (g.met.D.Disk.filled disk) (g.met.D.Disk.sized disk) on steady in
     let spare : v.books.spare ≡ 1 = ap (λ (x : View g.row.D.Denot). x.books.spare) is ∙ ap (λ (b : Books). b.spare) books in (
       subst (λ (x : View g.row.D.Denot). AreJoined space x.books (g.D.Disk.state x.disk)) (sym is)
           (subst (λ k. AreJoined space d.books (g.D.Disk.state k)) (sym same) (subst (λ (b : Books). AreJoined space b (g.D.Disk.state disk)) (sym books) (subst (λ (x : SpaceBooks). AreJoined x (adopted s) (g.D.Disk.state disk)) (sym c.in-Ok-open.ensures) first))),
@@ -48,7 +48,7 @@ returns-clause-core g c = λ t0 image begun early kept held from.
     let same : d.disk ≡ disk = c.in-Ok-adopt.ensures.ok.0 in
     let on : IsOnDisk (g.D.Disk.size disk) s =
     subst (λ k. IsOnDisk (g.D.Disk.size k) s) same (subst (λ (b : Books). IsOnDisk (g.D.Disk.size d.disk) b.sup) books (subst (λ (x : View g.row.D.Denot). IsOnDisk (g.D.Disk.size x.disk) x.books.sup) is c.steady.ensures.on_disk)) in
-    let got = held_recovered s (g.D.Disk.state disk) (g.met.D.Disk.filled disk) c.requires.whole image held in
+    let got = held_recovered s c.args.nodes (g.D.Disk.state disk) (g.met.D.Disk.filled disk) c.requires.whole image held in
     let at_it : Adoption = adopted_at begun (g.D.Disk.clock disk) in
     let core = mount_core t0 image got.0 (g.D.Disk.state disk) (g.D.Disk.size disk) (mounted_recovers image t0 from) got.1 got.2 (g.met.D.Disk.filled disk) (g.met.D.Disk.sized disk) (subst (IsOnDisk (g.D.Disk.size disk)) got.3 on) in
     let past = ∥∥₁_map kept (λ k. mount_kept t0 begun (g.D.Disk.clock disk) (g.D.Disk.since disk) early k) in

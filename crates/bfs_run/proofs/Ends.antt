@@ -1,11 +1,13 @@
 -- How a run ends.
-use Rattle.std.proofs.Common.{◌≡◌, inl, inr, ℕ, ◌⊎◌, List, [], Bool, Option, Some, None, Result, Ok, Err, OnOk, refl, sym, subst}
+use Rattle.std.proofs.Common.{◌≡◌, ◌∙◌, inl, inr, ℕ, pos, ◌⊎◌, List, [], Bool, Option, Some, None, Result, Ok, Err, OnOk, refl, sym, ap, subst}
 use Rattle.std.specs.List.{All}
 use Rattle.std.proofs.lemmas.List.Elements.{All-nil, All-weaker}
-use Rattle.bfs_disk.specs.State.{State}
+use Rattle.bfs_disk.specs.State.{State, Tells, ReadsAs}
 use Rattle.bfs_disk.specs.Disk.{MayLeave}
 use Rattle.bfs_tree.specs.declared.reply.Entry.{Entry}
 use Rattle.bfs_tree.specs.Histories.{Mounted, Legal, after}
+use Rattle.bfs_tree.specs.Trees.{Tree}
+use Rattle.bfs_count.specs.Counts.{nodes_of}
 use Rattle.bfs_command.specs.declared.line.Line.{Line}
 use Rattle.bfs_command.specs.Spelled.{Spelled, SpelledSoFar}
 use Rattle.bfs_sound.specs.Whole.{Recovers}
@@ -13,10 +15,13 @@ use Rattle.bfs_device.specs.Books.{Books, durable_of}
 use Rattle.bfs_device.specs.declared.journal.DeviceFault.{DeviceFault}
 use Rattle.bfs_core.specs.Spaces.{SpaceView}
 use Rattle.bfs_core.specs.Cores.{Core, IsAcknowledged, IsKnown, RecoversFrom}
+use Rattle.bfs_volume.specs.declared.mount.Unmounted.{Unmounted}
+use Rattle.bfs_volume.specs.Stamps.{AreDrawn, HasDrawn}
+use Rattle.bfs_volume.specs.Closing.{IsLeft}
 use Rattle.bfs_run.specs.declared.run.Closed.{Closed}
 use Rattle.bfs_run.specs.declared.run.Run.{Run}
 use Rattle.bfs_run.specs.declared.run.Run.TheVariants as runs
-use Rattle.bfs_run.specs.Runs.{AreLinesOf, HasHistory, HasNoScript, HasRun, IsClosedWell, IsEarly, IsScriptOf, IsSpelledBy, IsUnmountedRun, SaysScript}
+use Rattle.bfs_run.specs.Runs.{AreLinesOf, HasHistory, HasNoScript, HasRun, IsClosedWell, IsCounted, IsEarly, IsScriptOf, IsSpelledBy, IsUnmountedRun, SaysScript}
 use Rattle.bfs_run.specs.Sources.{IsReadOf}
 use Rattle.bfs_script.specs.Scripts.{script_of}
 
@@ -35,6 +40,13 @@ early_spelled (runs.BadLine number) root lines early = refl
 early_spelled runs.NoMemory root lines early = inl refl
 early_spelled (runs.Closed closed) root lines early = absurd early
 
+early_counted : (run : Run) → IsEarly run → (tree : Tree) → IsCounted run tree
+early_counted (runs.Unmounted why) early tree = tt
+early_counted runs.Unread early tree = tt
+early_counted (runs.BadLine number) early tree = tt
+early_counted runs.NoMemory early tree = tt
+early_counted (runs.Closed closed) early tree = absurd early
+
 early_open : (run : Run) → IsEarly run → IsClosedWell run → ⊥
 early_open (runs.Unmounted why) early well = early
 early_open runs.Unread early well = well
@@ -42,9 +54,9 @@ early_open (runs.BadLine number) early well = well
 early_open runs.NoMemory early well = well
 early_open (runs.Closed closed) early well = early
 
-pub early_run : (t0 : Mounted) (run : Run) (lines : List Line) (told : Option State) (begun : ℕ) (since : ℕ → List ℕ → Type 0) (history : List Entry) (durable : ℕ) → IsEarly run → history ≡ [] → ((image : List ℕ) → MayLeave told image → RecoversFrom t0 history durable image)
-    → ((c : List ℕ) → since begun c → ∥ RecoversFrom t0 history 0 c ∥₁) → HasRun t0 run lines told begun since
-early_run t0 run lines told begun since history durable early none leaves moments = record {
+pub early_run : (t0 : Mounted) (run : Run) (lines : List Line) (told : Option State) (begun : ℕ) (since : ℕ → List ℕ → Type 0) (stands : Option ℕ) (history : List Entry) (durable : ℕ) → IsEarly run → history ≡ [] → ((image : List ℕ) → MayLeave told image → RecoversFrom t0 history durable image)
+    → ((c : List ℕ) → since begun c → ∥ RecoversFrom t0 history 0 c ∥₁) → HasRun t0 run lines told begun since stands
+early_run t0 run lines told begun since stands history durable early none leaves moments = record {
   history = [];
   is = early_history run early;
   legal = tt;
@@ -53,7 +65,10 @@ early_run t0 run lines told begun since history durable early none leaves moment
   acknowledged = All-nil (IsAcknowledged durable);
   leaves = λ image left. subst (λ (h : List Entry). RecoversFrom t0 h durable image) none (leaves image left);
   all = λ well. absurd (early_open run early well);
+  left = λ well. absurd (early_open run early well);
   moments = λ c left. subst (λ (h : List Entry). ∥ RecoversFrom t0 h 0 c ∥₁) none (moments c left);
+  counted = early_counted run early (after t0 []);
+  stamps = λ s is. tt;
 }
 
 -- and it isn't for want of a volume
@@ -64,6 +79,10 @@ early_mounted (runs.BadLine number) early not = not
 early_mounted runs.NoMemory early not = not
 early_mounted (runs.Closed closed) early not = not
 
+-- two reasons of which each is a run's are one
+pub same_why : (a b : Unmounted) → runs.Unmounted a ≡ runs.Unmounted b → a ≡ b
+same_why a b e = cc
+
 -- ---- lines were run
 
 on_well : (ended : Result Unit DeviceFault) (P : Type 0) → OnOk ended P → ended ≡ Ok tt → P
@@ -71,7 +90,8 @@ on_well (Ok u) P all well = all
 on_well (Err fault) P all well = absurd (let bad : Err fault ≡ Ok tt = well in cc)
 
 module _ (t0 : Mounted) (sp : SpaceView) (b : Books) (touched : ℕ → Bool) (told : Option State) (at : State) (core : Core t0 sp b touched at) (history : List Entry) (same : history ≡ sp.history)
-    (leaves : (image : List ℕ) → MayLeave told image → RecoversFrom t0 sp.history (durable_of b) image) (begun : ℕ) (since : ℕ → List ℕ → Type 0) (moments : (c : List ℕ) → since begun c → ∥ RecoversFrom t0 sp.history 0 c ∥₁) where
+    (leaves : (image : List ℕ) → MayLeave told image → RecoversFrom t0 sp.history (durable_of b) image) (begun : ℕ) (since : ℕ → List ℕ → Type 0) (moments : (c : List ℕ) → since begun c → ∥ RecoversFrom t0 sp.history 0 c ∥₁)
+    (stands : Option ℕ) (stamps : (s : ℕ) → stands ≡ Some s → HasDrawn [] sp.history s) where
   acknowledged : All (IsAcknowledged (durable_of b)) history
   acknowledged = subst (All (IsAcknowledged (durable_of b))) (sym same) (All-weaker (IsKnown b) (IsAcknowledged (durable_of b)) (λ e known. known.0) sp.history core.one.known)
 
@@ -84,8 +104,12 @@ module _ (t0 : Mounted) (sp : SpaceView) (b : Books) (touched : ℕ → Bool) (t
   moments_history : (c : List ℕ) → since begun c → ∥ RecoversFrom t0 history 0 c ∥₁
   moments_history c left = subst (λ (h : List Entry). ∥ RecoversFrom t0 h 0 c ∥₁) (sym same) (moments c left)
 
-  pub closed_run : (closed : Closed) (lines : List Line) → closed.history.items ≡ history → Spelled t0.tree.root history lines → OnOk closed.ended ((image : List ℕ) → MayLeave told image → Recovers image (after t0 sp.history)) → HasRun t0 (runs.Closed closed) lines told begun since
-  closed_run closed lines items spelled all = record {
+  drawn_history : (s : ℕ) → stands ≡ Some s → AreDrawn (pos 0) s history
+  drawn_history s is = let all = stamps s is in subst (AreDrawn (pos 0) s) (sym (same ∙ all.appended)) all.drawn
+
+  pub closed_run : (closed : Closed) (lines : List Line) → closed.history.items ≡ history → Spelled t0.tree.root history lines → OnOk closed.ended ((image : List ℕ) → MayLeave told image → Recovers image (after t0 sp.history))
+      → OnOk closed.ended ((image : List ℕ) → Tells told (λ st. ReadsAs st image) → IsLeft t0 sp.history image) → closed.nodes ≡ nodes_of (after t0 sp.history) → HasRun t0 (runs.Closed closed) lines told begun since stands
+  closed_run closed lines items spelled all left counted = record {
     history = history;
     is = items;
     legal = legal_history;
@@ -94,10 +118,13 @@ module _ (t0 : Mounted) (sp : SpaceView) (b : Books) (touched : ℕ → Bool) (t
     acknowledged = acknowledged;
     leaves = leaves_history;
     all = λ well image left. subst (λ (h : List Entry). Recovers image (after t0 h)) (sym same) (on_well closed.ended ((image : List ℕ) → MayLeave told image → Recovers image (after t0 sp.history)) all well image left);
+    left = λ well image reads. subst (λ (h : List Entry). IsLeft t0 h image) (sym same) (on_well closed.ended ((image : List ℕ) → Tells told (λ st. ReadsAs st image) → IsLeft t0 sp.history image) left well image reads);
     moments = moments_history;
+    counted = counted ∙ sym (ap (λ (h : List Entry). nodes_of (after t0 h)) same);
+    stamps = drawn_history;
   }
 
-  pub broken_run : (lines : List Line) → SpelledSoFar t0.tree.root history lines → HasRun t0 runs.NoMemory lines told begun since
+  pub broken_run : (lines : List Line) → SpelledSoFar t0.tree.root history lines → HasRun t0 runs.NoMemory lines told begun since stands
   broken_run lines spelled = record {
     history = history;
     is = tt;
@@ -107,7 +134,10 @@ module _ (t0 : Mounted) (sp : SpaceView) (b : Books) (touched : ℕ → Bool) (t
     acknowledged = acknowledged;
     leaves = leaves_history;
     all = λ well. absurd well;
+    left = λ well. absurd well;
     moments = moments_history;
+    counted = tt;
+    stamps = drawn_history;
   }
 
 -- ---- the lines of a script

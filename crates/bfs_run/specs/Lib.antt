@@ -3,3 +3,8 @@ pub mod Runs
 pub mod Scripts
 pub use Rattle.bfs_volume.specs.Mounts
 pub use Rattle.bfs_volume.specs.declared.mount.Unmounted
+pub use Rattle.bfs_volume.specs.CheckFaultVariants
+pub use Rattle.bfs_volume.specs.CheckFault
+pub use Rattle.bfs_volume.specs.Verdict
+pub use Rattle.bfs_volume.specs.Checked
+pub use Rattle.bfs_volume.specs.Summary

@@ -1,15 +1,19 @@
 -- How a run of the shell ends, and what it leaves on the disk.
-use Rattle.std.specs.Prelude.{◌≡◌, ◌⊎◌, ℕ, List, [], Option, Some, None, Ok}
+use Rattle.std.specs.Prelude.{◌≡◌, ◌⊎◌, ℕ, pos, List, [], Option, Some, None, Ok}
 use Rattle.std.specs.List.{All}
-use Rattle.bfs_disk.specs.State.{State}
+use Rattle.bfs_disk.specs.State.{State, Tells, ReadsAs}
 use Rattle.bfs_disk.specs.Disk.{MayLeave}
 use Rattle.bfs_tree.specs.declared.reply.Entry.{Entry}
 use Rattle.bfs_tree.specs.Histories.{Mounted, Legal, after}
+use Rattle.bfs_tree.specs.Trees.{Tree}
+use Rattle.bfs_count.specs.Counts.{nodes_of}
 use Rattle.bfs_command.specs.declared.line.Line.{Line}
 use Rattle.bfs_command.specs.Spelled.{Spelled, SpelledSoFar}
 use Rattle.bfs_script.specs.Scripts.{script_of, bad_line}
 use Rattle.bfs_sound.specs.Whole.{Recovers}
 use Rattle.bfs_core.specs.Cores.{IsAcknowledged, RecoversFrom}
+use Rattle.bfs_volume.specs.Stamps.{AreDrawn}
+use Rattle.bfs_volume.specs.Closing.{IsLeft}
 use Rattle.bfs_run.specs.Sources.{IsReadOf}
 use Rattle.bfs_run.specs.declared.run.Run.{Run}
 use Rattle.bfs_run.specs.declared.run.Run.TheVariants as runs
@@ -40,6 +44,11 @@ abbrev pub IsClosedWell : Run → Type 0
 IsClosedWell (runs.Closed closed) = closed.ended ≡ Ok tt
 IsClosedWell _ = ⊥
 
+-- the number of nodes that a closed volume tells is that of the tree
+abbrev pub IsCounted : Run → Tree → Type 0
+IsCounted (runs.Closed closed) tree = closed.nodes ≡ nodes_of tree
+IsCounted _ tree = Unit {0}
+
 -- the volume was not mounted
 abbrev pub IsUnmountedRun : Run → Type 0
 IsUnmountedRun (runs.Unmounted why) = Unit {0}
@@ -59,9 +68,10 @@ HasNoScript _ = Unit {0}
 
 -- A run on a volume with this tree and these bytes at mounting: its entries form one history, which is the plain tree's, and they are those of the
 -- lines. What a crash may leave then recovers to the tree after so many of them at least, which are all that a sync has acknowledged; and where the
--- volume was closed well, after all of them. And what a crash might have left at any moment since the run began recovers to the tree after a prefix of
--- them.
-pub record HasRun (t0 : Mounted) (run : Run) (lines : List Line) (told : Option State) (begun : ℕ) (since : ℕ → List ℕ → Type 0) : Type 0 where
+-- volume was closed well, after all of them; the disk as it reads is whole with that tree then, and its files have the bytes that are known. And what a
+-- crash might have left at any moment since the run began recovers to the tree after a prefix of them. Where the clock tells at which second it stands,
+-- each of them has its stamp of that second. The number of nodes is that of the tree after all of them.
+pub record HasRun (t0 : Mounted) (run : Run) (lines : List Line) (told : Option State) (begun : ℕ) (since : ℕ → List ℕ → Type 0) (stands : Option ℕ) : Type 0 where
   pub history : List Entry
   pub is : HasHistory run history
   pub legal : Legal t0 history
@@ -70,7 +80,10 @@ pub record HasRun (t0 : Mounted) (run : Run) (lines : List Line) (told : Option 
   pub acknowledged : All (IsAcknowledged durable) history
   pub leaves : (image : List ℕ) → MayLeave told image → RecoversFrom t0 history durable image
   pub all : IsClosedWell run → (image : List ℕ) → MayLeave told image → Recovers image (after t0 history)
+  pub left : IsClosedWell run → (image : List ℕ) → Tells told (λ st. ReadsAs st image) → IsLeft t0 history image
   pub moments : (c : List ℕ) → since begun c → ∥ RecoversFrom t0 history 0 c ∥₁
+  pub counted : IsCounted run (after t0 history)
+  pub stamps : (s : ℕ) → stands ≡ Some s → AreDrawn (pos 0) s history
 
 -- the script that was read of a source, where that tells, is one of which the run says what is true; or none was read
 abbrev pub SaysScript : Option (List ℕ) → Run → Type 0

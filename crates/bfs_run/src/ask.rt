@@ -1,5 +1,5 @@
 // What is due is asked of a volume.
-ghost use Rattle.std.specs.Prelude.{◌≡◌, ◌≢◌, ◌≤◌, ℕ, true, false, length, IfOk, OnErr};
+ghost use Rattle.std.specs.Prelude.{◌≡◌, ◌≢◌, ◌≤◌, ℕ, Some, true, false, length, IfOk, OnErr};
 ghost use Rattle.bfs_tree.specs.declared.call.Call.TheVariants as calls;
 ghost use Rattle.bfs_tree.specs.Histories.{Mounted};
 ghost use Rattle.bfs_tree.specs.Answers.{KeepsRanges};
@@ -8,6 +8,7 @@ ghost use Rattle.bfs_core.specs.Moments.{Adoption};
 ghost use Rattle.bfs_command.specs.declared.due.Due.TheVariants as dues;
 ghost use Rattle.bfs_command.specs.Forms.{IsDueInForm, is_service};
 ghost use Rattle.bfs_command.specs.Left.{makes};
+ghost use Rattle.bfs_volume.specs.Stamps.{HasDrawn};
 ghost use Rattle.bfs_run.specs.Scripts.{HasMade};
 
 use bfs_command::Due;
@@ -30,6 +31,8 @@ fn call<D: Disk, C: Clock>(
     ensures asked { IfOk result (λ asked. asked ≡ true) }
     ensures made { IfOk result (λ asked. HasMade volume.old.space.view.history volume.new.space.view.history session tag (makes (dues.Call call))) }
     ensures no_memory { OnErr result (volume.new.space.view.history ≡ volume.old.space.view.history) }
+    ensures clock { C.stands volume.new.clock ≡ C.stands volume.old.clock }
+    ensures stamps { (s : ℕ) → C.stands volume.old.clock ≡ Some s → HasDrawn volume.old.space.view.history volume.new.space.view.history s }
     ensures core { (t0 : Mounted) (adopted : Adoption) → HasCore t0 adopted volume.old.space.view volume.old.device.books (D.state volume.old.device.disk) (D.clock volume.old.device.disk) (D.since volume.old.device.disk)
         → HasCore t0 adopted volume.new.space.view volume.new.device.books (D.state volume.new.device.disk) (D.clock volume.new.device.disk) (D.since volume.new.device.disk) }
     ensures later { D.faults volume.old.device.disk ≤ D.faults volume.new.device.disk }
@@ -53,6 +56,8 @@ fn write<D: Disk, C: Clock>(
     ensures asked { IfOk result (λ asked. asked ≡ true) }
     ensures made { IfOk result (λ asked. HasMade volume.old.space.view.history volume.new.space.view.history session tag (makes (dues.Write id at bytes.now))) }
     ensures no_memory { OnErr result (volume.new.space.view.history ≡ volume.old.space.view.history) }
+    ensures clock { C.stands volume.new.clock ≡ C.stands volume.old.clock }
+    ensures stamps { (s : ℕ) → C.stands volume.old.clock ≡ Some s → HasDrawn volume.old.space.view.history volume.new.space.view.history s }
     ensures core { (t0 : Mounted) (adopted : Adoption) → HasCore t0 adopted volume.old.space.view volume.old.device.books (D.state volume.old.device.disk) (D.clock volume.old.device.disk) (D.since volume.old.device.disk)
         → HasCore t0 adopted volume.new.space.view volume.new.device.books (D.state volume.new.device.disk) (D.clock volume.new.device.disk) (D.since volume.new.device.disk) }
     ensures later { D.faults volume.old.device.disk ≤ D.faults volume.new.device.disk }
@@ -76,6 +81,8 @@ fn read_into<D: Disk, C: Clock>(
     ensures asked { IfOk result (λ asked. asked ≡ true) }
     ensures made { IfOk result (λ asked. HasMade volume.old.space.view.history volume.new.space.view.history session tag (makes (dues.Read id at (length into.old)))) }
     ensures no_memory { OnErr result (volume.new.space.view.history ≡ volume.old.space.view.history) }
+    ensures clock { C.stands volume.new.clock ≡ C.stands volume.old.clock }
+    ensures stamps { (s : ℕ) → C.stands volume.old.clock ≡ Some s → HasDrawn volume.old.space.view.history volume.new.space.view.history s }
     ensures core { (t0 : Mounted) (adopted : Adoption) → HasCore t0 adopted volume.old.space.view volume.old.device.books (D.state volume.old.device.disk) (D.clock volume.old.device.disk) (D.since volume.old.device.disk)
         → HasCore t0 adopted volume.new.space.view volume.new.device.books (D.state volume.new.device.disk) (D.clock volume.new.device.disk) (D.since volume.new.device.disk) }
     ensures later { D.faults volume.old.device.disk ≤ D.faults volume.new.device.disk }
@@ -108,6 +115,8 @@ fn read<D: Disk, C: Clock>(
     ensures asked { IfOk result (λ asked. asked ≡ true) }
     ensures made { IfOk result (λ asked. HasMade volume.old.space.view.history volume.new.space.view.history session tag (makes (dues.Read id at count))) }
     ensures no_memory { OnErr result (volume.new.space.view.history ≡ volume.old.space.view.history) }
+    ensures clock { C.stands volume.new.clock ≡ C.stands volume.old.clock }
+    ensures stamps { (s : ℕ) → C.stands volume.old.clock ≡ Some s → HasDrawn volume.old.space.view.history volume.new.space.view.history s }
     ensures core { (t0 : Mounted) (adopted : Adoption) → HasCore t0 adopted volume.old.space.view volume.old.device.books (D.state volume.old.device.disk) (D.clock volume.old.device.disk) (D.since volume.old.device.disk)
         → HasCore t0 adopted volume.new.space.view volume.new.device.books (D.state volume.new.device.disk) (D.clock volume.new.device.disk) (D.since volume.new.device.disk) }
     ensures later { D.faults volume.old.device.disk ≤ D.faults volume.new.device.disk }
@@ -129,6 +138,8 @@ fn sync<D: Disk, C: Clock>(
     ensures asked { IfOk result (λ asked. asked ≡ true) }
     ensures made { IfOk result (λ asked. HasMade volume.old.space.view.history volume.new.space.view.history session tag (makes dues.Sync)) }
     ensures no_memory { OnErr result (volume.new.space.view.history ≡ volume.old.space.view.history) }
+    ensures clock { C.stands volume.new.clock ≡ C.stands volume.old.clock }
+    ensures stamps { (s : ℕ) → C.stands volume.old.clock ≡ Some s → HasDrawn volume.old.space.view.history volume.new.space.view.history s }
     ensures core { (t0 : Mounted) (adopted : Adoption) → HasCore t0 adopted volume.old.space.view volume.old.device.books (D.state volume.old.device.disk) (D.clock volume.old.device.disk) (D.since volume.old.device.disk)
         → HasCore t0 adopted volume.new.space.view volume.new.device.books (D.state volume.new.device.disk) (D.clock volume.new.device.disk) (D.since volume.new.device.disk) }
     ensures later { D.faults volume.old.device.disk ≤ D.faults volume.new.device.disk }
@@ -157,6 +168,8 @@ pub fn ask<D: Disk, C: Clock>(
     ensures nothing { IfOk result (λ asked. asked ≡ false → due ≡ dues.Nothing) }
     ensures idle { IfOk result (λ asked. asked ≡ false → volume.new.space.view.history ≡ volume.old.space.view.history) }
     ensures no_memory { OnErr result (volume.new.space.view.history ≡ volume.old.space.view.history) }
+    ensures clock { C.stands volume.new.clock ≡ C.stands volume.old.clock }
+    ensures stamps { (s : ℕ) → C.stands volume.old.clock ≡ Some s → HasDrawn volume.old.space.view.history volume.new.space.view.history s }
     ensures core { (t0 : Mounted) (adopted : Adoption) → HasCore t0 adopted volume.old.space.view volume.old.device.books (D.state volume.old.device.disk) (D.clock volume.old.device.disk) (D.since volume.old.device.disk)
         → HasCore t0 adopted volume.new.space.view volume.new.device.books (D.state volume.new.device.disk) (D.clock volume.new.device.disk) (D.since volume.new.device.disk) }
     ensures later { D.faults volume.old.device.disk ≤ D.faults volume.new.device.disk }

@@ -9,5 +9,5 @@ mod quiet;
 mod run;
 mod source;
 
-pub use bfs_volume::Unmounted;
-pub use run::{Closed, Run, run_shell};
+pub use bfs_volume::{Unmounted, check as check};
+pub use run::{Closed, Run, run_shell, run_workload};

@@ -1,5 +1,5 @@
 // One line, call by call.
-ghost use Rattle.std.specs.Prelude.{◌≡◌, ◌≤◌, ◌<◌, ◌+◌, ℕ, List, [], true, false, IfOk, OnOk, OnErr};
+ghost use Rattle.std.specs.Prelude.{◌≡◌, ◌≤◌, ◌<◌, ◌+◌, ℕ, List, [], Some, true, false, IfOk, OnOk, OnErr};
 ghost use Rattle.bfs_tree.specs.declared.reply.Entry.{Entry};
 ghost use Rattle.bfs_tree.specs.Histories.{Mounted};
 ghost use Rattle.bfs_device_blocks.specs.Lent.{HasCore};
@@ -7,6 +7,7 @@ ghost use Rattle.bfs_core.specs.Moments.{Adoption};
 ghost use Rattle.bfs_text.specs.Printed.{is_held};
 ghost use Rattle.bfs_command.specs.Forms.{InForm, IsLineInForm};
 ghost use Rattle.bfs_command.specs.Left.{left, due_of, makes, most_left};
+ghost use Rattle.bfs_volume.specs.Stamps.{HasDrawn};
 ghost use Rattle.bfs_run.specs.Scripts.{HasMade, HasGone, HasLine, HasBegun};
 
 use crate::ask::ask;
@@ -69,6 +70,8 @@ fn turn<D: Disk, C: Clock>(
     ensures less { IfOk result (λ ended. ended ≡ false → most_left calls.new + holds.new < most_left calls.old + holds.old) }
     ensures gone { HasGone line.now calls.old calls.new volume.old.space.view.history volume.new.space.view.history }
     ensures command { calls.new.command ≡ calls.old.command }
+    ensures clock { C.stands volume.new.clock ≡ C.stands volume.old.clock }
+    ensures stamps { (s : ℕ) → C.stands volume.old.clock ≡ Some s → HasDrawn volume.old.space.view.history volume.new.space.view.history s }
     ensures core { (t0 : Mounted) (adopted : Adoption) → HasCore t0 adopted volume.old.space.view volume.old.device.books (D.state volume.old.device.disk) (D.clock volume.old.device.disk) (D.since volume.old.device.disk)
         → HasCore t0 adopted volume.new.space.view volume.new.device.books (D.state volume.new.device.disk) (D.clock volume.new.device.disk) (D.since volume.new.device.disk) }
     ensures later { D.faults volume.old.device.disk ≤ D.faults volume.new.device.disk }
@@ -99,6 +102,8 @@ pub fn run_line<D: Disk, C: Clock>(
     requires line { IsLineInForm line.now }
     ensures done { OnOk result (HasLine root line.now volume.old.space.view.history volume.new.space.view.history) }
     ensures begun { OnErr result (HasBegun root line.now volume.old.space.view.history volume.new.space.view.history) }
+    ensures clock { C.stands volume.new.clock ≡ C.stands volume.old.clock }
+    ensures stamps { (s : ℕ) → C.stands volume.old.clock ≡ Some s → HasDrawn volume.old.space.view.history volume.new.space.view.history s }
     ensures core { (t0 : Mounted) (adopted : Adoption) → HasCore t0 adopted volume.old.space.view volume.old.device.books (D.state volume.old.device.disk) (D.clock volume.old.device.disk) (D.since volume.old.device.disk)
         → HasCore t0 adopted volume.new.space.view volume.new.device.books (D.state volume.new.device.disk) (D.clock volume.new.device.disk) (D.since volume.new.device.disk) }
     ensures later { D.faults volume.old.device.disk ≤ D.faults volume.new.device.disk }

@@ -6,6 +6,7 @@ ghost use Rattle.bfs_device_blocks.specs.Lent.{HasCore};
 ghost use Rattle.bfs_core.specs.Moments.{Adoption};
 ghost use Rattle.bfs_command.specs.Forms.{IsLineInForm};
 ghost use Rattle.bfs_command.specs.Spelled.{Spelled, SpelledSoFar};
+ghost use Rattle.bfs_volume.specs.Stamps.{HasDrawn};
 
 use crate::line::run_line;
 use bfs_command::{Line, line_is_spelled, nothing_is_spelled, stop_is_spelled};
@@ -29,6 +30,8 @@ fn run_read<D: Disk, C: Clock>(
     requires spelled { Spelled root volume.old.space.view.history (take at script.now) }
     ensures spelled { OnOk result (Spelled root volume.new.space.view.history (take (at + 1) script.now)) }
     ensures so_far { OnErr result (SpelledSoFar root volume.new.space.view.history script.now) }
+    ensures clock { C.stands volume.new.clock ≡ C.stands volume.old.clock }
+    ensures stamps { (s : ℕ) → C.stands volume.old.clock ≡ Some s → HasDrawn volume.old.space.view.history volume.new.space.view.history s }
     ensures core { (t0 : Mounted) (adopted : Adoption) → HasCore t0 adopted volume.old.space.view volume.old.device.books (D.state volume.old.device.disk) (D.clock volume.old.device.disk) (D.since volume.old.device.disk)
         → HasCore t0 adopted volume.new.space.view volume.new.device.books (D.state volume.new.device.disk) (D.clock volume.new.device.disk) (D.since volume.new.device.disk) }
     ensures later { D.faults volume.old.device.disk ≤ D.faults volume.new.device.disk }
@@ -56,6 +59,8 @@ fn run_next<D: Disk, C: Clock>(
     requires spelled { Spelled root volume.old.space.view.history (take at script.now) }
     ensures spelled { OnOk result (Spelled root volume.new.space.view.history (take (at + 1) script.now)) }
     ensures so_far { OnErr result (SpelledSoFar root volume.new.space.view.history script.now) }
+    ensures clock { C.stands volume.new.clock ≡ C.stands volume.old.clock }
+    ensures stamps { (s : ℕ) → C.stands volume.old.clock ≡ Some s → HasDrawn volume.old.space.view.history volume.new.space.view.history s }
     ensures core { (t0 : Mounted) (adopted : Adoption) → HasCore t0 adopted volume.old.space.view volume.old.device.books (D.state volume.old.device.disk) (D.clock volume.old.device.disk) (D.since volume.old.device.disk)
         → HasCore t0 adopted volume.new.space.view volume.new.device.books (D.state volume.new.device.disk) (D.clock volume.new.device.disk) (D.since volume.new.device.disk) }
     ensures later { D.faults volume.old.device.disk ≤ D.faults volume.new.device.disk }
@@ -79,6 +84,8 @@ pub fn run_script<D: Disk, C: Clock>(
     requires fresh { volume.old.space.view.history ≡ [] }
     ensures spelled { OnOk result (Spelled root volume.new.space.view.history script.now) }
     ensures so_far { OnErr result (SpelledSoFar root volume.new.space.view.history script.now) }
+    ensures clock { C.stands volume.new.clock ≡ C.stands volume.old.clock }
+    ensures stamps { (s : ℕ) → C.stands volume.old.clock ≡ Some s → HasDrawn volume.old.space.view.history volume.new.space.view.history s }
     // What the volume was over what its disk tells, it is.
     ensures core { (t0 : Mounted) (adopted : Adoption) → HasCore t0 adopted volume.old.space.view volume.old.device.books (D.state volume.old.device.disk) (D.clock volume.old.device.disk) (D.since volume.old.device.disk)
         → HasCore t0 adopted volume.new.space.view volume.new.device.books (D.state volume.new.device.disk) (D.clock volume.new.device.disk) (D.since volume.new.device.disk) }

@@ -1,6 +1,7 @@
-use Rattle.std.proofs.Common.{sym, subst, refl, arith}
+use Rattle.std.proofs.Common.{◌∙◌, sym, subst, refl, arith}
 use Rattle.bfs_command.specs.Forms.{InForm}
 use Rattle.bfs_command.specs.Left.{Rest}
+use Rattle.bfs_volume.proofs.Drawn.{drawn_both, drawn_none}
 use Rattle.bfs_run.proofs.Gone.{gone_none, gone_twice, line_done, line_begun}
 use Rattle.bfs_run.proofs.line.run_line.Goals as goal
 
@@ -9,6 +10,8 @@ turns-init g c = record {
   form = subst (λ (r : Rest). InForm r.command) (sym c.of-calls.ensures.begun) c.requires.line.2;
   gone = gone_none c.args.line.now c.of-calls.result c.args.volume.now.space.view.history c.args.volume.now.space.view.history refl;
   core = λ t0 adopted core. core;
+  clock = refl;
+  stamps = λ s is. drawn_none c.args.volume.now.space.view.history c.args.volume.now.space.view.history s refl;
   later = omega arith;
 }
 
@@ -32,6 +35,8 @@ turns-preserved g c = record {
   form = subst InForm (sym c.in-Ok-false.ensures.command) c.turns.invariant.form;
   gone = gone_twice c.args.line.now c.of-calls.result c.turns.calls c.turn-ended.new.calls c.args.volume.now.space.view.history c.turns.volume.space.view.history c.turn-ended.new.volume.space.view.history c.turns.invariant.gone c.in-Ok-false.ensures.gone;
   core = λ t0 adopted core. c.in-Ok-false.ensures.core t0 adopted (c.turns.invariant.core t0 adopted core);
+  clock = c.in-Ok-false.ensures.clock ∙ c.turns.invariant.clock;
+  stamps = λ s is. drawn_both c.args.volume.now.space.view.history c.turns.volume.space.view.history c.turn-ended.new.volume.space.view.history s (c.turns.invariant.stamps s is) (c.in-Ok-false.ensures.stamps s (c.turns.invariant.clock ∙ is));
   later = (let a = c.turns.invariant.later in let b = c.in-Ok-false.ensures.later in omega (arith, a, b));
 }
 
@@ -43,3 +48,17 @@ returns-in-Err-clause-begun g c =
 
 pub returns-in-Err-clause-core : goal.returns-in-Err-clause-core
 returns-in-Err-clause-core g c = λ t0 adopted core. c.in-Err.ensures.core t0 adopted (c.turns.invariant.core t0 adopted core)
+
+pub returns-in-Ok-true-clause-stamps : goal.returns-in-Ok-true-clause-stamps
+returns-in-Ok-true-clause-stamps g c = λ s is.
+    drawn_both c.args.volume.now.space.view.history c.turns.volume.space.view.history c.turn-ended.new.volume.space.view.history s (c.turns.invariant.stamps s is) (c.in-Ok-true.ensures.stamps s (c.turns.invariant.clock ∙ is))
+
+pub returns-in-Ok-true-clause-clock : goal.returns-in-Ok-true-clause-clock
+returns-in-Ok-true-clause-clock g c = c.in-Ok-true.ensures.clock ∙ c.turns.invariant.clock
+
+pub returns-in-Err-clause-stamps : goal.returns-in-Err-clause-stamps
+returns-in-Err-clause-stamps g c = λ s is.
+    drawn_both c.args.volume.now.space.view.history c.turns.volume.space.view.history c.turn-ended.new.volume.space.view.history s (c.turns.invariant.stamps s is) (c.in-Err.ensures.stamps s (c.turns.invariant.clock ∙ is))
+
+pub returns-in-Err-clause-clock : goal.returns-in-Err-clause-clock
+returns-in-Err-clause-clock g c = c.in-Err.ensures.clock ∙ c.turns.invariant.clock

@@ -1,9 +1,10 @@
-use Rattle.std.proofs.Common.{◌+◌, ◌≤◌}
+use Rattle.std.proofs.Common.{◌≡◌, ◌+◌, ◌≤◌, ℕ, Some}
 use Rattle.bfs_tree.specs.Histories.{Mounted}
 use Rattle.bfs_device_blocks.specs.Lent.{HasCore}
 use Rattle.bfs_core.specs.Moments.{Adoption}
 use Rattle.bfs_command.specs.Forms.{InForm}
 use Rattle.bfs_command.specs.Left.{most_left}
+use Rattle.bfs_volume.specs.Stamps.{HasDrawn}
 use Rattle.bfs_run.specs.Scripts.{HasGone}
 use Rattle.bfs_run.proofs.line.run_line.Given as goal
 
@@ -13,6 +14,8 @@ invariant-turns g l = record {
   gone : HasGone l.line l.initial.calls l.calls l.fn.volume.space.view.history l.volume.space.view.history;
   core : (t0 : Mounted) (adopted : Adoption) → HasCore t0 adopted l.fn.volume.space.view l.fn.volume.device.books (g.D.Disk.state l.fn.volume.device.disk) (g.D.Disk.clock l.fn.volume.device.disk) (g.D.Disk.since l.fn.volume.device.disk)
       → HasCore t0 adopted l.volume.space.view l.volume.device.books (g.D.Disk.state l.volume.device.disk) (g.D.Disk.clock l.volume.device.disk) (g.D.Disk.since l.volume.device.disk);
+  clock : g.C.Clock.stands l.volume.clock ≡ g.C.Clock.stands l.fn.volume.clock;
+  stamps : (s : ℕ) → g.C.Clock.stands l.fn.volume.clock ≡ Some s → HasDrawn l.fn.volume.space.view.history l.volume.space.view.history s;
   later : g.D.Disk.faults l.fn.volume.device.disk ≤ g.D.Disk.faults l.volume.device.disk;
 }
 

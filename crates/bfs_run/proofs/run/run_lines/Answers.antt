@@ -1,6 +1,7 @@
 use Rattle.std.proofs.Common.{sym, subst, List, ℕ, refl}
 use Rattle.bfs_tree.specs.declared.reply.Entry.{Entry}
 use Rattle.bfs_command.specs.Spelled.{Spelled, SpelledSoFar}
+use Rattle.bfs_volume.specs.Stamps.{HasDrawn}
 use Rattle.bfs_run.proofs.Ends.{broken_run, closed_run}
 use Rattle.bfs_run.proofs.run.run_lines.Goals as goal
 
@@ -13,7 +14,8 @@ returns-in-Ok-clause-run g c t0 adopted core =
     let items = c.close-disk.ensures.history in
     let spelled = subst (λ (r : ℕ). Spelled r c.close-disk.result.2.items lines) root (subst (λ (h : List Entry). Spelled c.root-root.result h lines) (sym items) c.in-Ok.ensures.spelled) in
     closed_run t0 v.space.view v.device.books after_it.0.2.0 (g.D.Disk.state c.close-disk.result.0) after_it.0.0 after_it.0.2.1 c.close-disk.result.2.items items (λ image left. c.close-disk.ensures.held t0 adopted after_it image left) adopted.begun (g.D.Disk.since c.close-disk.result.0) (λ image left. c.close-disk.ensures.since t0 adopted after_it image left)
-    (record { history = c.close-disk.result.2; ended = c.close-disk.result.3 }) lines refl spelled (c.close-disk.ensures.all t0 adopted after_it)
+    (g.C.Clock.stands c.args.volume.clock) (λ s is. subst (λ (h : List Entry). HasDrawn h v.space.view.history s) c.requires.fresh (c.run_script-ran.ensures.stamps s is))
+    (record { history = c.close-disk.result.2; ended = c.close-disk.result.3; nodes = c.nodes-nodes.result }) lines refl spelled (c.close-disk.ensures.all t0 adopted after_it) (c.close-disk.ensures.left t0 adopted after_it) (c.nodes-nodes.ensures.counted t0 adopted after_it)
 
 pub returns-clause-run : goal.returns-clause-run
 returns-clause-run g c t0 adopted core =
@@ -23,4 +25,6 @@ returns-clause-run g c t0 adopted core =
     let root = c.root-root.ensures.tree t0 adopted core in
     let items = c.close-disk.ensures.history in
     let spelled = subst (λ (r : ℕ). SpelledSoFar r c.close-disk.result.2.items lines) root (subst (λ (h : List Entry). SpelledSoFar c.root-root.result h lines) (sym items) c.in-Err.ensures.so_far) in
-    broken_run t0 v.space.view v.device.books after_it.0.2.0 (g.D.Disk.state c.close-disk.result.0) after_it.0.0 after_it.0.2.1 c.close-disk.result.2.items items (λ image left. c.close-disk.ensures.held t0 adopted after_it image left) adopted.begun (g.D.Disk.since c.close-disk.result.0) (λ image left. c.close-disk.ensures.since t0 adopted after_it image left) lines spelled
+    broken_run t0 v.space.view v.device.books after_it.0.2.0 (g.D.Disk.state c.close-disk.result.0) after_it.0.0 after_it.0.2.1 c.close-disk.result.2.items items (λ image left. c.close-disk.ensures.held t0 adopted after_it image left) adopted.begun (g.D.Disk.since c.close-disk.result.0) (λ image left. c.close-disk.ensures.since t0 adopted after_it image left)
+    (g.C.Clock.stands c.args.volume.clock) (λ s is. subst (λ (h : List Entry). HasDrawn h v.space.view.history s) c.requires.fresh (c.run_script-ran.ensures.stamps s is))
+    lines spelled

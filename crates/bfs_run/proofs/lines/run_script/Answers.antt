@@ -1,0 +1,19 @@
+use Rattle.std.proofs.Common.{◌∙◌, arith}
+use Rattle.bfs_volume.proofs.Drawn.{drawn_both}
+use Rattle.bfs_run.proofs.lines.run_script.Goals as goal
+
+pub lines-preserved : goal.lines-preserved
+lines-preserved g c = record {
+  spelled = c.in-Ok.ensures.spelled;
+  core = λ t0 adopted core. c.in-Ok.ensures.core t0 adopted (c.lines.invariant.core t0 adopted core);
+  clock = c.in-Ok.ensures.clock ∙ c.lines.invariant.clock;
+  stamps = λ s is. drawn_both c.args.volume.now.space.view.history c.lines.volume.space.view.history c.run_next.new.volume.space.view.history s (c.lines.invariant.stamps s is) (c.in-Ok.ensures.stamps s (c.lines.invariant.clock ∙ is));
+  later = (let a = c.lines.invariant.later in let b = c.in-Ok.ensures.later in omega (arith, a, b));
+}
+
+pub returns-in-Err-clause-stamps : goal.returns-in-Err-clause-stamps
+returns-in-Err-clause-stamps g c = λ s is.
+    drawn_both c.args.volume.now.space.view.history c.lines.volume.space.view.history c.run_next.new.volume.space.view.history s (c.lines.invariant.stamps s is) (c.in-Err.ensures.stamps s (c.lines.invariant.clock ∙ is))
+
+pub returns-in-Err-clause-core : goal.returns-in-Err-clause-core
+returns-in-Err-clause-core g c = λ t0 adopted core. c.in-Err.ensures.core t0 adopted (c.lines.invariant.core t0 adopted core)

@@ -11,14 +11,14 @@ use Rattle.bfs_disk.specs.Disk.{MayLeave, HasSectors}
 use Rattle.bfs_super.specs.declared.sup.Super.{Super}
 use Rattle.bfs_super.specs.Conditions.{IsValid}
 use Rattle.bfs_log.specs.Replay.{Replayed, super_of}
-use Rattle.bfs_check.specs.Summary.{Summary}
+use Rattle.bfs_run.specs.Summary.{Summary}
 use Rattle.bfs_replay.specs.Recover.{IsShort}
 use Rattle.bfs_replay.specs.Steps.{sectors_of}
 use Rattle.bfs_replay.proofs.Sizes.{has_two}
-use Rattle.bfs_check.specs.Checked.{IsWholeWith, IsCheckFault}
-use Rattle.bfs_check.specs.declared.checking.Verdict.{Verdict}
-use Rattle.bfs_check.specs.declared.checking.CheckFault.{CheckFault}
-use Rattle.bfs_check.specs.declared.checking.CheckFault.TheVariants.{Short, Disk, NoMemory}
+use Rattle.bfs_run.specs.Checked.{IsWholeWith, IsCheckFault}
+use Rattle.bfs_run.specs.Verdict.{Verdict}
+use Rattle.bfs_run.specs.CheckFault.{CheckFault}
+use Rattle.bfs_run.specs.CheckFaultVariants.{Short, Disk, NoMemory}
 use Rattle.bfs_tool.specs.Check.{RecoversWith, IsNotShort, IsReplayedOn, LeavesBy, IsWhole, HasText, checking_status}
 use Rattle.bfs_tool.specs.declared.checking.Checking.{Checking}
 use Rattle.bfs_tool.specs.declared.checking.Checking.TheVariants as checkings

@@ -13,9 +13,9 @@ use Rattle.bfs_finding_text.specs.Texts.{words_of, short_words, entry_words, lin
 use Rattle.bfs_replay.specs.Homing.{Reads}
 use Rattle.bfs_replay.specs.Recover.{IsMountFault, IsMountFaultBy}
 use Rattle.bfs_replay.specs.declared.recovery.MountFault.TheVariants as mounts
-use Rattle.bfs_check.specs.Checked.{IsFound, HasRefused, HasVolume}
-use Rattle.bfs_check.specs.declared.checking.CheckFault.{CheckFault}
-use Rattle.bfs_check.specs.declared.checking.CheckFault.TheVariants as faults
+use Rattle.bfs_run.specs.Checked.{IsFound, HasRefused, HasVolume}
+use Rattle.bfs_run.specs.CheckFault.{CheckFault}
+use Rattle.bfs_run.specs.CheckFaultVariants as faults
 use Rattle.bfs_tool.specs.declared.checking.Checking.{Checking}
 use Rattle.bfs_tool.specs.declared.checking.Checking.TheVariants as checkings
 

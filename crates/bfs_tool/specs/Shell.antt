@@ -1,4 +1,4 @@
--- How `sh` ends, and what it prints.
+-- How `sh` and `soak` end, and what they print.
 use Rattle.std.specs.Prelude.{◌≡◌, ◌⊎◌, ◌++◌, ◌||◌, ℕ, List, [], Bool, true, false, not, codes, is_err, if◌then◌else◌}
 use Rattle.std.specs.Fmt.{decimal}
 use Rattle.std.specs.List.{list_any}
@@ -9,6 +9,7 @@ use Rattle.bfs_tree.specs.declared.reply.Reply.TheVariants as replies
 use Rattle.bfs_tree.specs.declared.reply.Entry.{Entry}
 use Rattle.bfs_tree.specs.Steps.{is_by_disk}
 use Rattle.bfs_script.specs.Texts.{text_of}
+use Rattle.bfs_soak.specs.Summary.{summary_of}
 use Rattle.bfs_finding.specs.declared.finding.Finding.TheVariants as finds
 use Rattle.bfs_finding_text.specs.Texts.{words_of, short_words, entry_words, line_of}
 use Rattle.bfs_replay.specs.Recover.{GoesOn}
@@ -65,7 +66,7 @@ abbrev pub unmounted_text : Unmounted → List ℕ
 unmounted_text (Unread fault) = fault_text fault
 unmounted_text (Wrong finding) = line_of (words_of finding)
 
--- the status in which `sh` ends
+-- the status in which `sh` ends, and `soak`
 abbrev pub run_status : Run → ℕ
 run_status (runs.Unmounted why) = unmounted_status why
 run_status runs.Unread = 5
@@ -73,13 +74,19 @@ run_status (runs.BadLine number) = 9
 run_status runs.NoMemory = 7
 run_status (runs.Closed closed) = closed_status closed
 
--- and what it prints: the text of the history, where the lines were run
+-- what `sh` prints: the text of the history, where the lines were run
 abbrev pub run_text : Run → List ℕ
 run_text (runs.Unmounted why) = unmounted_text why
 run_text runs.Unread = []
 run_text (runs.BadLine number) = codes "line " ++ decimal number ++ codes "\n"
 run_text runs.NoMemory = []
 run_text (runs.Closed closed) = text_of closed.history.items
+
+-- what `soak` prints: the summary of so many lines, where they were run
+abbrev pub soak_text : ℕ → Run → List ℕ
+soak_text lines (runs.Unmounted why) = unmounted_text why
+soak_text lines (runs.Closed closed) = summary_of lines closed.history.items closed.nodes
+soak_text lines _ = []
 
 -- it ends so, or for want of memory, or where all was well, by the output
 abbrev pub EndsAs : Run → ℕ → Type 0

@@ -6,15 +6,15 @@ ghost use Rattle.bfs_disk.specs.State.{State, ReadsAs, Tells, Holds};
 ghost use Rattle.bfs_log.specs.Replay.{Replayed};
 ghost use Rattle.bfs_replay.specs.Homing.{Reads};
 ghost use Rattle.bfs_replay.specs.Recover.{GoesOn, HasCauseIn as HasMountCause, IsMountFault, IsMountFaultBy, LeavesDisk};
-ghost use Rattle.bfs_check.specs.Checked.{HasCauseIn, IsCheckFault, IsFaultBy, IsVerdict, IsVerdictBy};
+ghost use Rattle.bfs_run.specs.Checked.{HasCauseIn, IsCheckFault, IsFaultBy, IsVerdict, IsVerdictBy};
 ghost use Rattle.bfs_tool.specs.Check.{ChecksBy, HasText, IsCheckedBy, IsNotShort, IsRefusing, IsReplayedOn, LeavesBy, checking_status, checking_text};
 
-use bfs_check::{CheckFault, Verdict, check};
 use bfs_disk::Disk;
 use bfs_finding::Finding;
 use bfs_finding_text::{put_entry_line, put_line, put_short_line};
 use bfs_log::EntryFault;
 use bfs_replay::{MountFault, recover};
+use bfs_run::check::{CheckFault, Verdict, check};
 use bfs_super::SuperFault;
 use bfs_text::put::{put, put_number};
 use std::alloc::{AllocError, Global};

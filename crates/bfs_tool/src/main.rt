@@ -14,6 +14,7 @@ mod output;
 mod shell;
 #[cfg(test)]
 mod shell_tests;
+mod soaking;
 #[cfg(test)]
 mod tests;
 mod tool;

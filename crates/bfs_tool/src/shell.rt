@@ -25,6 +25,9 @@ use bfs_text::put::{put, put_number};
 use bfs_tree::{Call, Entry, Reply};
 use std::alloc::{AllocError, Global};
 
+/// For how many read blocks there is room beside a mounted volume.
+pub const CACHE: u32 = 1024;
+
 /// Whether a failed disk has answered the entry, or has spoiled the piece that it lets go.
 fn is_failed(entry: &Entry) -> bool
     ensures { result ≡ (is_by_disk entry.now.reply || is_broken entry.now.call) }
@@ -96,7 +99,7 @@ fn unmounted_status(why: &Unmounted) -> u8
     }
 }
 
-fn status_of(run: &Run) -> u8
+pub fn status_of(run: &Run) -> u8
     ensures { result ≡ run_status run.now }
 {
     match run {
@@ -119,7 +122,7 @@ fn put_fault(out: &mut Vec<u8>, fault: &MountFault) -> Result<(), AllocError>
     }
 }
 
-fn put_unmounted(out: &mut Vec<u8>, why: &Unmounted) -> Result<(), AllocError>
+pub fn put_unmounted(out: &mut Vec<u8>, why: &Unmounted) -> Result<(), AllocError>
     ensures { OnOk result (out.new.items ≡ out.old.items ++ unmounted_text why.now) }
 {
     match why {
@@ -151,21 +154,27 @@ fn text_of(alloc: Global, run: &Run) -> Result<Vec<u8>, AllocError>
 }
 
 /// Whether a count of faults rose. At its end it stands still.
-fn has_risen(before: u64, after: u64) -> bool
+pub fn has_risen(before: u64, after: u64) -> bool
     ensures { IsTrue result → Rose before after }
 {
     before < after || (before == u64::MAX && after == u64::MAX)
 }
 
-/// Prints how a run ended, and tells the status.
-fn print_run<W: Sink>(alloc: Global, run: &Run, status: u8, out: &mut W) -> u8
+/// Prints what is to be printed of a run, and tells the status.
+pub fn print_text<W: Sink>(
+    text: Result<Vec<u8>, AllocError>,
+    run: &Run,
+    status: u8,
+    out: &mut W,
+) -> u8
     requires status { status ≡ run_status run.now }
     ensures ends { EndsAs run.now result }
-    ensures printed { result ≢ 7 → Prints (W.written out.old) (W.written out.new) (W.faults out.old) (W.faults out.new) (run_text run.now) }
-    ensures whole { result ≡ 0 → W.written out.new ≡ appended (W.written out.old) (run_text run.now) }
+    ensures printed { (expected : List ℕ) → IfOk text (λ v. v.items ≡ expected) → result ≢ 7 → Prints (W.written out.old) (W.written out.new) (W.faults out.old) (W.faults out.new) expected }
+    ensures whole { (expected : List ℕ) → IfOk text (λ v. v.items ≡ expected) → result ≡ 0 → W.written out.new ≡ appended (W.written out.old) expected }
     ensures silent { result ≡ 7 → W.written out.new ≡ appended (W.written out.old) [] }
     ensures failed { result ≡ 4 → status ≡ 4 }
     ensures unread { result ≡ 5 → status ≡ 5 }
+    ensures bad_line { result ≡ 9 → status ≡ 9 }
     ensures output_failed { result ≡ 6 → Rose (W.faults out.old) (W.faults out.new) }
     ensures others { (result ≡ 2) ⊎ ((result ≡ 8) ⊎ ((result ≡ 10) ⊎ (result ≡ 11))) → ⊥ }
     ensures output_later { W.faults out.old ≤ W.faults out.new }
@@ -173,7 +182,7 @@ fn print_run<W: Sink>(alloc: Global, run: &Run, status: u8, out: &mut W) -> u8
     if status == 7 {
         return 7;
     }
-    match text_of(alloc, run) {
+    match text {
         Ok(text) => report(out, &text, status),
         Err(_) => 7,
     }
@@ -193,7 +202,7 @@ pub fn shell<D: Disk, R: Source, C: Clock + Drop, W: Sink>(
         × ((image : List ℕ) → Tells (D.state disk) (Holds image) → RunsBy image run × LeavesUnmounted image run (D.clock disk) (D.since result.1))
         × SaysScript (R.left script.old) run
         × ((t0 : Mounted) (image : List ℕ) → Tells (D.state disk) (Holds image) → IsMountedFrom image t0
-        → IsUnmountedRun run ⊎ ((lines : List line.Line) × HasRun t0 run lines (D.state result.1) (D.clock disk) (D.since result.1) × AreLinesOf (R.left script.old) run lines)) }
+        → IsUnmountedRun run ⊎ ((lines : List line.Line) × HasRun t0 run lines (D.state result.1) (D.clock disk) (D.since result.1) (C.stands clock) × AreLinesOf (R.left script.old) run lines)) }
     ensures silent { result.0 ≡ 7 → W.written out.new ≡ appended (W.written out.old) [] }
     ensures disk_failed { result.0 ≡ 4 → Rose (D.faults disk) (D.faults result.1) }
     ensures script_failed { result.0 ≡ 5 → Rose (R.faults script.old) (R.faults script.new) }
@@ -203,11 +212,12 @@ pub fn shell<D: Disk, R: Source, C: Clock + Drop, W: Sink>(
     ensures output_later { W.faults out.old ≤ W.faults out.new }
 {
     let before = disk.faults();
-    let (run, disk) = run_shell(alloc, disk, script, clock);
+    let (run, disk) = run_shell(alloc, disk, script, clock, CACHE);
     let status = status_of(&run);
     if status == 4 && !has_risen(before, disk.faults()) {
         return (7, disk);
     }
-    let shown = print_run(alloc, &run, status, out);
+    let text = text_of(alloc, &run);
+    let shown = print_text(text, &run, status, out);
     (shown, disk)
 }

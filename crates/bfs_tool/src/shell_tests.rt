@@ -1,9 +1,10 @@
-// `sh` over disks in memory: scripts on the volume that `mk --blocks 4096` makes, which printed what stands beside them.
-use crate::make_tests::volume;
+// `sh` and `soak` over disks in memory: scripts and workloads on the volume that `mk --blocks 4096` makes, which printed what stands beside them.
+use crate::make_tests::{has, volume};
 use crate::tests::{run, zeros};
 use crate::tool::bfs;
 use bfs_disk::{Disk, MemDisk};
 use bfs_ports::{Fixed, Mem, MemSink, NoGate};
+use bfs_run::run_workload;
 use bfs_words::Argument;
 use std::alloc::AllocError;
 use std::test::Fail;
@@ -136,5 +137,68 @@ fn an_output_that_fails_is_told(rt: HostRuntime) -> Result<(), Fail> {
     )?;
     assert_eq!(rt; status, 6);
     assert!(rt; out.bytes() == b"1 1".as_slice());
+    Ok(())
+}
+
+// Runs `soak 7` with so many commands on these bytes. What it leaves is nothing where it doesn't end well.
+fn soak(
+    rt: &HostRuntime,
+    bytes: Vec<u8>,
+    count: &str,
+    out: &mut MemSink,
+) -> Result<Vec<u8>, AllocError> {
+    let alloc = rt.alloc();
+    if bytes.len() % 512 != 0 {
+        return Ok(Vec::new(alloc));
+    }
+    let (status, disk) = run(rt, &["soak", "7", count], MemDisk::new(alloc, bytes), out)?;
+    if status != 0 {
+        return Ok(Vec::new(alloc));
+    }
+    Ok(disk.bytes())
+}
+
+// Does a workload of so many commands end well so many times, one run behind the other, and print a text that begins so?
+fn soaks(rt: &HostRuntime, count: &str, times: usize, text: &[u8]) -> Result<bool, AllocError> {
+    let mut out = Mem::sink(rt.alloc());
+    let mut bytes = volume(rt, 0, 4_194_304)?;
+    for _ in 0..times {
+        bytes = soak(rt, bytes, count, &mut out)?;
+    }
+    Ok(bytes.len() == 4_194_304 && has(out.bytes(), 0, text))
+}
+
+#[test]
+fn the_folders_of_a_workload_are_made_once(rt: HostRuntime) -> Result<(), Fail> {
+    let text = b"lines 4 ok 4 refused 0 nodes 5\nlines 4 ok 0 refused 4 nodes 5\n".as_slice();
+    assert!(rt; soaks(&rt, "0", 2, text)?);
+    Ok(())
+}
+
+#[test]
+fn a_workload_is_run_and_summed_up(rt: HostRuntime) -> Result<(), Fail> {
+    assert!(rt; soaks(&rt, "40", 1, b"lines 44 ok ")?);
+    Ok(())
+}
+
+// What a workload leaves, where there is room for so many read blocks meanwhile.
+fn leaves(rt: &HostRuntime, cache: u32) -> Result<Vec<u8>, AllocError> {
+    let alloc = rt.alloc();
+    let bytes = volume(rt, 0, 4_194_304)?;
+    if bytes.len() % 512 != 0 {
+        return Ok(Vec::new(alloc));
+    }
+    let disk = MemDisk::new(alloc, bytes);
+    let (_run, disk) = run_workload(alloc, disk, Fixed::clock(1000), 7, 2000, cache);
+    Ok(disk.bytes())
+}
+
+#[test]
+fn room_for_eight_read_blocks_leaves_what_room_for_1024_leaves(
+    rt: HostRuntime,
+) -> Result<(), Fail> {
+    let few = leaves(&rt, 8)?;
+    let many = leaves(&rt, 1024)?;
+    assert!(rt; few.len() == 4_194_304 && few.as_slice() == many.as_slice());
     Ok(())
 }

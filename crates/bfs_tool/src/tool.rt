@@ -1,5 +1,5 @@
 // The top call.
-ghost use Rattle.std.specs.Prelude.{◌≡◌, ◌≢◌, ◌⊎◌, ◌↔◌, ◌≤◌, ℕ, List, [], Bool, Ok, IfOk};
+ghost use Rattle.std.specs.Prelude.{◌≡◌, ◌≢◌, ◌⊎◌, ◌↔◌, ◌≤◌, ◌+◌, ℕ, List, [], Bool, Ok, IfOk, MatchOption};
 ghost use Rattle.bfs_base.specs.Counts.{Rose};
 ghost use Rattle.bfs_disk.specs.State.{State, IsQuiet, ReadsAs, Tells, Holds};
 ghost use Rattle.bfs_mkfs.specs.Format.{IsRefused};
@@ -14,24 +14,27 @@ ghost use Rattle.bfs_tool.specs.declared.label.Ending.{Ending};
 ghost use Rattle.bfs_tool.specs.Label.{EndsBy, LabelsBy, OldOrNew, labelled, label_status, label_text};
 ghost use Rattle.bfs_tool.specs.declared.make.Making.{Making};
 ghost use Rattle.bfs_tool.specs.Make.{IsNewVolume, IsMade, MakesBy, making_status, making_text};
-ghost use Rattle.bfs_tool.specs.Tool.{Prints, usage_text};
+ghost use Rattle.bfs_tool.specs.Tool.{Prints, Runs, usage_text};
 ghost use Rattle.bfs_words.specs.declared.command.Command.TheVariants as commands;
-ghost use Rattle.bfs_words.specs.Words.{Asks, IsLabelCommand, IsMakeCommand, IsCheckCommand, IsFaulty, IsShellCommand};
+ghost use Rattle.bfs_words.specs.declared.command.Workload.{Workload};
+ghost use Rattle.bfs_words.specs.Words.{Asks, IsLabelCommand, IsMakeCommand, IsCheckCommand, IsFaulty, IsShellCommand, IsSoakCommand};
 ghost use Rattle.bfs_tree.specs.Histories.{Mounted};
 ghost use Rattle.bfs_command.specs.declared.line.Line as line;
 ghost use Rattle.bfs_run.specs.Mounts.{IsMountedFrom};
 ghost use Rattle.bfs_run.specs.Runs.{AreLinesOf, HasRun, IsUnmountedRun, SaysScript};
 ghost use Rattle.bfs_run.specs.declared.run.Run as runs;
-ghost use Rattle.bfs_tool.specs.Shell.{EndsAs, LeavesUnmounted, RunsBy, run_text};
+ghost use Rattle.bfs_soak.specs.Workload.{workload};
+ghost use Rattle.bfs_tool.specs.Shell.{EndsAs, LeavesUnmounted, RunsBy, run_text, soak_text};
 
 use crate::checking::check_volume;
 use crate::label::relabel;
 use crate::make::make_volume;
 use crate::output::report;
 use crate::shell::shell;
+use crate::soaking::soak;
 use bfs_disk::Disk;
 use bfs_ports::{Clock, Gate, Sink, Source};
-use bfs_words::{Argument, Command, read_words};
+use bfs_words::{Argument, Command, Workload, read_words};
 use std::alloc::{AllocError, Global};
 
 const USAGE: &str =
@@ -119,7 +122,7 @@ fn check<D: Disk, W: Sink>(alloc: Global, disk: &mut D, out: &mut W) -> u8
     report(out, &text, checking.status())
 }
 
-// Runs the command that the words ask for, but for `sh`. The words are read by now, unless memory is wanting.
+// Runs the command that the words ask for, but for `sh` and `soak`. The words are read by now, unless memory is wanting.
 fn run<X: AllocGlobal + Eprint, D: Disk, C: Clock, W: Sink>(
     rt: &X,
     words: &[Argument],
@@ -129,7 +132,8 @@ fn run<X: AllocGlobal + Eprint, D: Disk, C: Clock, W: Sink>(
     out: &mut W,
 ) -> u8
     requires asks { IfOk command (Asks words.now) }
-    requires other { command ≡ Ok commands.Shell → ⊥ }
+    requires no_shell { command ≡ Ok commands.Shell → ⊥ }
+    requires no_soak { (w : Workload) → command ≡ Ok (commands.Soak w) → ⊥ }
     ensures usage { words.now ≡ [] → (result ≡ 0) ⊎ (result ≡ 6) }
     ensures faulty { result ≡ 2 → IsFaulty words.now }
     ensures refused_words { IsFaulty words.now → (result ≡ 2) ⊎ (result ≡ 7) }
@@ -149,7 +153,7 @@ fn run<X: AllocGlobal + Eprint, D: Disk, C: Clock, W: Sink>(
         × Prints (W.written out.old) (W.written out.new) (W.faults out.old) (W.faults out.new) (checking_text checking)
         × IsCheckedBy (D.size disk.new) checking × (result ≡ 0 → W.written out.new ≡ appended (W.written out.old) (checking_text checking))
         × ((image : List ℕ) → Tells (D.state disk.old) (λ s. ReadsAs s image) → ChecksBy image checking)) }
-    ensures shell { IsShellCommand words.now → (result ≡ 7) × (disk.new ≡ disk.old) }
+    ensures runs { Runs words.now → (result ≡ 7) × (disk.new ≡ disk.old) }
     ensures refused { (result ≡ 3) ⊎ (result ≡ 11) ⊎ ((result ≡ 7) × ¬ IsCheckCommand words.now) ⊎ (result ≡ 10) → D.state disk.new ≡ D.state disk.old }
     ensures replayed { (quiet : Bool) (image : List ℕ) → IsCheckCommand words.now → Tells (D.state disk.old) (Reads quiet image) → (result ≡ 0) ⊎ (result ≡ 6) ⊎ (result ≡ 8) → IsReplayedOn quiet image (D.state disk.new) }
     ensures unfinished { (quiet : Bool) (image : List ℕ) → IsCheckCommand words.now → Tells (D.state disk.old) (Reads quiet image) → result ≡ 7 → (D.state disk.new ≡ D.state disk.old) ⊎ IsReplayedOn quiet image (D.state disk.new) }
@@ -175,7 +179,7 @@ fn run<X: AllocGlobal + Eprint, D: Disk, C: Clock, W: Sink>(
     };
     match command {
         Command::Usage => report(out, USAGE.as_bytes(), 0),
-        Command::Shell => unreachable!(),
+        Command::Shell | Command::Soak(_) => unreachable!(),
         Command::Faulty(complaint) => {
             let _ = rt.eprint(complaint);
             report(out, USAGE.as_bytes(), 2)
@@ -191,6 +195,16 @@ fn run<X: AllocGlobal + Eprint, D: Disk, C: Clock, W: Sink>(
             volume.label,
             out,
         ),
+    }
+}
+
+// The workload that is asked for, where it is one.
+fn workload_of(command: &Result<Command, AllocError>) -> Option<Workload>
+    ensures { MatchOption result ((w : Workload) → command.now ≡ Ok (commands.Soak w) → ⊥) (λ w. command.now ≡ Ok (commands.Soak w)) }
+{
+    match command {
+        Ok(Command::Soak(workload)) => Some(*workload),
+        _ => None,
     }
 }
 
@@ -260,11 +274,22 @@ pub fn bfs<
         × ((image : List ℕ) → Tells (D.state disk) (Holds image) → RunsBy image run × LeavesUnmounted image run (D.clock disk) (D.since result.1))
         × SaysScript (R.left script.old) run
         × ((t0 : Mounted) (image : List ℕ) → Tells (D.state disk) (Holds image) → IsMountedFrom image t0
-        → IsUnmountedRun run ⊎ ((lines : List line.Line) × HasRun t0 run lines (D.state result.1) (D.clock disk) (D.since result.1) × AreLinesOf (R.left script.old) run lines))) }
+        → IsUnmountedRun run ⊎ ((lines : List line.Line) × HasRun t0 run lines (D.state result.1) (D.clock disk) (D.since result.1) (C.stands clock) × AreLinesOf (R.left script.old) run lines))) }
 
-    // But for `sh`, the disk is as before at the statuses 3, 10 and 11, and so it is at 7, but for `check`. At 0 the label is on the disk, or the
+    // `soak SEED COUNT` makes a run of that workload as `sh` makes one of a script, on a volume that recovers one of its 4 + COUNT lines, and prints the
+    // line of it: how many lines there were, how many of its entries are done and how many refused, and how many nodes the tree has after it. No
+    // script is read.
+    ensures soak { (seed count : ℕ) → IsSoakCommand words.now seed count → ((result.0 ≡ 7) × (result.1 ≡ disk)) ⊎ ((run : runs.Run) × EndsAs run result.0
+        × (result.0 ≢ 7 → Prints (W.written out.old) (W.written out.new) (W.faults out.old) (W.faults out.new) (soak_text (4 + count) run))
+        × (result.0 ≡ 0 → W.written out.new ≡ appended (W.written out.old) (soak_text (4 + count) run))
+        × ((image : List ℕ) → Tells (D.state disk) (Holds image) → RunsBy image run × LeavesUnmounted image run (D.clock disk) (D.since result.1))
+        × ((t0 : Mounted) (image : List ℕ) → Tells (D.state disk) (Holds image) → IsMountedFrom image t0
+        → IsUnmountedRun run ⊎ HasRun t0 run (workload seed count) (D.state result.1) (D.clock disk) (D.since result.1) (C.stands clock))) }
+    ensures no_script { (seed count : ℕ) → IsSoakCommand words.now seed count → (result.0 ≡ 5) ⊎ (result.0 ≡ 9) → ⊥ }
+
+    // But for `sh` and `soak`, the disk is as before at the statuses 3, 10 and 11, and so it is at 7, but for `check`. At 0 the label is on the disk, or the
     // new volume.
-    ensures refused { (IsShellCommand words.now → ⊥) → (result.0 ≡ 3) ⊎ (result.0 ≡ 11) ⊎ ((result.0 ≡ 7) × ¬ IsCheckCommand words.now) ⊎ (result.0 ≡ 10) → D.state result.1 ≡ D.state disk }
+    ensures refused { (Runs words.now → ⊥) → (result.0 ≡ 3) ⊎ (result.0 ≡ 11) ⊎ ((result.0 ≡ 7) × ¬ IsCheckCommand words.now) ⊎ (result.0 ≡ 10) → D.state result.1 ≡ D.state disk }
     ensures labelled { (name image : List ℕ) → IsLabelCommand words.now name → Tells (D.state disk) (Holds image) → result.0 ≡ 0 → Tells (D.state result.1) (Holds (labelled name image)) }
     ensures made { (blocks size : ℕ) (label image : List ℕ) → IsMakeCommand words.now blocks size label → Tells (D.state disk) (Holds image) → (result.0 ≡ 0) ⊎ (result.0 ≡ 6)
         → Tells (D.state result.1) (λ s. IsQuiet s × ((c : List ℕ) → ReadsAs s c → IsNewVolume blocks size label (C.stands clock) c)) }
@@ -273,9 +298,9 @@ pub fn bfs<
     ensures replayed { (quiet : Bool) (image : List ℕ) → IsCheckCommand words.now → Tells (D.state disk) (Reads quiet image) → (result.0 ≡ 0) ⊎ (result.0 ≡ 6) ⊎ (result.0 ≡ 8) → IsReplayedOn quiet image (D.state result.1) }
     ensures unfinished { (quiet : Bool) (image : List ℕ) → IsCheckCommand words.now → Tells (D.state disk) (Reads quiet image) → result.0 ≡ 7 → (D.state result.1 ≡ D.state disk) ⊎ IsReplayedOn quiet image (D.state result.1) }
 
-    // But for `sh`, a crash at any moment leaves the old image or the one with the new label; of `mk` the old image, one whose
+    // But for `sh` and `soak`, a crash at any moment leaves the old image or the one with the new label; of `mk` the old image, one whose
     // superblock is refused, or the new volume; of `check` the old image, or one that is replayed to the same.
-    ensures moments { (IsShellCommand words.now → ⊥) → (image : List ℕ) → Tells (D.state disk) (Holds image) → (c : List ℕ) → D.since result.1 (D.clock disk) c
+    ensures moments { (Runs words.now → ⊥) → (image : List ℕ) → Tells (D.state disk) (Holds image) → (c : List ℕ) → D.since result.1 (D.clock disk) c
         → (c ≡ image) ⊎ ((name : List ℕ) × IsLabelCommand words.now name × (c ≡ labelled name image))
         ⊎ ((blocks : ℕ) × (size : ℕ) × (label : List ℕ) × IsMakeCommand words.now blocks size label × (IsRefused c ⊎ IsNewVolume blocks size label (C.stands clock) c))
         ⊎ (IsCheckCommand words.now × ∥ GoesOn image c ∥₁) }
@@ -285,12 +310,16 @@ pub fn bfs<
     ensures script_failed { result.0 ≡ 5 → Rose (R.faults script.old) (R.faults script.new) }
     ensures output_failed { result.0 ≡ 6 → Rose (W.faults out.old) (W.faults out.new) }
     ensures disk_later { D.faults disk ≤ D.faults result.1 }
-    ensures clock_later { (IsShellCommand words.now → ⊥) → D.clock disk ≤ D.clock result.1 }
+    ensures clock_later { (Runs words.now → ⊥) → D.clock disk ≤ D.clock result.1 }
     ensures output_later { W.faults out.old ≤ W.faults out.new }
 {
     let command = read_words(rt.alloc(), words);
     if let Ok(Command::Shell) = command {
         return shell(rt.alloc(), disk, script, clock, out);
+    }
+    let asked = workload_of(&command);
+    if let Some(workload) = asked {
+        return soak(rt.alloc(), disk, clock, workload.seed, workload.count, out);
     }
     let status = run(rt, words, command, &mut disk, &mut clock, out);
     (status, disk)

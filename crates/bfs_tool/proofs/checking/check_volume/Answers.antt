@@ -2,7 +2,7 @@ use Rattle.std.proofs.Common.{◌∙◌, false}
 use Rattle.bfs_disk.specs.State.{ReadsAs, Tells}
 use Rattle.bfs_replay.specs.Recover.{GoesOn}
 use Rattle.bfs_replay.proofs.Homes.{reads_of}
-use Rattle.bfs_check.proofs.Reading.{cause_before}
+use Rattle.bfs_run.proofs.Reading.{cause_before}
 use Rattle.bfs_tool.proofs.Checks.{same_state, no_short, not_short, read_since}
 use Rattle.bfs_tool.proofs.checking.check_volume.Goals as goal
 

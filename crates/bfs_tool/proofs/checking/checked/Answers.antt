@@ -1,5 +1,5 @@
 use Rattle.std.proofs.Common.{subst, IfOk}
-use Rattle.bfs_check.specs.Checked.{IsVerdict}
+use Rattle.bfs_run.specs.Checked.{IsVerdict}
 use Rattle.bfs_tool.proofs.Checks.{recovers_with}
 use Rattle.bfs_tool.proofs.checking.checked.Goals as goal
 

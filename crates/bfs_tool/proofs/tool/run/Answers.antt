@@ -109,17 +109,17 @@ returns-in-Make-clause-make g c = λ blocks size label asked.
 pub returns-in-Check-clause-unfinished : goal.returns-in-Check-clause-unfinished
 returns-in-Check-clause-unfinished g c = λ quiet image asked reads seven. c.check.ensures.unfinished quiet image reads seven
 
-pub returns-in-Usage-clause-shell : goal.returns-in-Usage-clause-shell
-returns-in-Usage-clause-shell g c = λ shell. absurd (read_otherwise c.args.words.now c.args.command c.in-Ok.command c.in-Ok.is c.requires.asks c.requires.other shell)
+pub returns-in-Usage-clause-runs : goal.returns-in-Usage-clause-runs
+returns-in-Usage-clause-runs g c = λ asked. absurd (read_otherwise c.args.words.now c.args.command c.in-Ok.command c.in-Ok.is c.requires.asks c.requires.no_shell c.requires.no_soak asked)
 
-pub returns-in-Faulty-clause-shell : goal.returns-in-Faulty-clause-shell
-returns-in-Faulty-clause-shell g c = λ shell. absurd (read_otherwise c.args.words.now c.args.command c.in-Ok.command c.in-Ok.is c.requires.asks c.requires.other shell)
+pub returns-in-Faulty-clause-runs : goal.returns-in-Faulty-clause-runs
+returns-in-Faulty-clause-runs g c = λ asked. absurd (read_otherwise c.args.words.now c.args.command c.in-Ok.command c.in-Ok.is c.requires.asks c.requires.no_shell c.requires.no_soak asked)
 
-pub returns-in-Label-clause-shell : goal.returns-in-Label-clause-shell
-returns-in-Label-clause-shell g c = λ shell. absurd (read_otherwise c.args.words.now c.args.command c.in-Ok.command c.in-Ok.is c.requires.asks c.requires.other shell)
+pub returns-in-Label-clause-runs : goal.returns-in-Label-clause-runs
+returns-in-Label-clause-runs g c = λ asked. absurd (read_otherwise c.args.words.now c.args.command c.in-Ok.command c.in-Ok.is c.requires.asks c.requires.no_shell c.requires.no_soak asked)
 
-pub returns-in-Make-clause-shell : goal.returns-in-Make-clause-shell
-returns-in-Make-clause-shell g c = λ shell. absurd (read_otherwise c.args.words.now c.args.command c.in-Ok.command c.in-Ok.is c.requires.asks c.requires.other shell)
+pub returns-in-Make-clause-runs : goal.returns-in-Make-clause-runs
+returns-in-Make-clause-runs g c = λ asked. absurd (read_otherwise c.args.words.now c.args.command c.in-Ok.command c.in-Ok.is c.requires.asks c.requires.no_shell c.requires.no_soak asked)
 
-pub returns-in-Check-clause-shell : goal.returns-in-Check-clause-shell
-returns-in-Check-clause-shell g c = λ shell. absurd (read_otherwise c.args.words.now c.args.command c.in-Ok.command c.in-Ok.is c.requires.asks c.requires.other shell)
+pub returns-in-Check-clause-runs : goal.returns-in-Check-clause-runs
+returns-in-Check-clause-runs g c = λ asked. absurd (read_otherwise c.args.words.now c.args.command c.in-Ok.command c.in-Ok.is c.requires.asks c.requires.no_shell c.requires.no_soak asked)

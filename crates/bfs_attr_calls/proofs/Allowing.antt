@@ -18,8 +18,8 @@ use Rattle.bfs_shift.specs.Lists.{Lists}
 use Rattle.bfs_shift.specs.Shifts.{volume_in}
 use Rattle.bfs_look.specs.Ready.{IsReady}
 use Rattle.bfs_query.proofs.Bearing.{bears}
-use Rattle.bfs_calls.specs.Allowances.{inodes_left, left_alone, allowance}
-use Rattle.bfs_calls.proofs.Allowed.{AllLeast, rows_least, least_index, some_levels, min_less}
+use Rattle.bfs_unmake.specs.Allowances.{inodes_left, left_alone, allowance}
+use Rattle.bfs_unmake.proofs.Allowed.{AllLeast, rows_least, least_index, some_levels, min_less}
 use Rattle.bfs_unmake.proofs.Streams.{alone_few}
 
 module _ (v : Volume) (tree : Tree) (id : ℕ) (name : List ℕ) where

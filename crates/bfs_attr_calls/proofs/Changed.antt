@@ -42,8 +42,8 @@ use Rattle.bfs_shift.proofs.Renewed.{same_test, other_test, node_renewed}
 use Rattle.bfs_shift.proofs.Replaced.{put_swapped}
 use Rattle.bfs_shift.proofs.Widens.{widened}
 use Rattle.bfs_attr.specs.Changed.{attribute_blocks, AttributesNow}
-use Rattle.bfs_attr_write.proofs.Beside.{each_of}
-use Rattle.bfs_attr_write.proofs.Follows.{exchange_of}
+use Rattle.bfs_attrs.proofs.Beside.{each_of}
+use Rattle.bfs_attrs.proofs.Follows.{exchange_of}
 use Rattle.bfs_unmake.specs.Leaving.{IsClear, IsGivenSince, GivesBack, IsLeft}
 use Rattle.bfs_attr_calls.specs.Attributed.{with_attributes, KeepsName}
 use Rattle.bfs_attr_calls.proofs.Exchange.{used_means, exchange_shifts}

@@ -12,7 +12,7 @@ use Rattle.bfs_sound.specs.Volumes.{sizes, bitmap_blocks, IsMarked}
 use Rattle.bfs_shift.specs.Stocked.{Shifts}
 use Rattle.bfs_shift.specs.Shifts.{volume_in}
 use Rattle.bfs_shift.proofs.Bridge.{outside_bitmap}
-use Rattle.bfs_attr_write.specs.Exchanged.{Exchanged}
+use Rattle.bfs_attrs.specs.Exchanged.{Exchanged}
 
 -- a free block has no bit, and isn't reserved
 pub free_means : (low : Bool) (n : ℕ) (r : Bool) → (low && ((n == 0) && not r)) ≡ true → (n ≡ 0) × (r ≡ false)

@@ -29,7 +29,7 @@ use Rattle.bfs_shift.specs.Work.{IsAtWork}
 use Rattle.bfs_attr.specs.Bearers.{origin}
 use Rattle.bfs_attr.specs.declared.directory.InodeRow.{InodeRow}
 use Rattle.bfs_query.proofs.Bearing.{can_read}
-use Rattle.bfs_calls.specs.Allowances.{inodes_left}
+use Rattle.bfs_unmake.specs.Allowances.{inodes_left}
 use Rattle.bfs_unmake.specs.Counted.{HaveStreams}
 use Rattle.bfs_unmake.proofs.Streams.{all_from}
 use Rattle.bfs_attr_calls.specs.Left.{inode_named, left_by}

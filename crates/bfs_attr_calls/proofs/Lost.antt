@@ -21,15 +21,15 @@ use Rattle.bfs_shift.specs.Lists.{Lists}
 use Rattle.bfs_shift.specs.Shifts.{volume_in}
 use Rattle.bfs_shift.specs.Work.{IsAtWork}
 use Rattle.bfs_shift.proofs.Basics.{some_bytes}
-use Rattle.bfs_moves.specs.Written.{HasBlockWords}
+use Rattle.bfs_query.specs.Written.{HasBlockWords}
 use Rattle.bfs_attr.specs.Bearers.{bearer_of, attributes_at}
 use Rattle.bfs_attr.specs.Changed.{HasTaken}
-use Rattle.bfs_attr_write.specs.Removal.{KeepsClear}
+use Rattle.bfs_attrs.specs.Removal.{KeepsClear}
 use Rattle.bfs_attrs.specs.Removed.{IsNotRemoved, LosesItem}
 use Rattle.bfs_query.proofs.Bearing.{attributes_are}
 use Rattle.bfs_unmake.specs.Leaving.{IsClear, IsLeft}
 use Rattle.bfs_attr_calls.specs.Attributed.{with_attributes}
-use Rattle.bfs_calls.specs.Faults.{take_fault}
+use Rattle.bfs_unmake.specs.Faults.{take_fault}
 use Rattle.bfs_attr_calls.proofs.Changed.{attributes_left}
 use Rattle.bfs_attr_calls.proofs.Names.{keeps_name}
 

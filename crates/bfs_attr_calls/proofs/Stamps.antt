@@ -18,7 +18,7 @@ use Rattle.bfs_shift.specs.Shifts.{volume_in}
 use Rattle.bfs_shift.specs.Work.{IsAtWork, IsStepped}
 use Rattle.bfs_shift.proofs.Renewed.{same_test}
 use Rattle.bfs_shift.proofs.Rewritten.{words_same}
-use Rattle.bfs_moves.proofs.Restated.{restated_step}
+use Rattle.bfs_query.proofs.Restated.{restated_step}
 use Rattle.bfs_attr_calls.specs.Stamped.{with_changed, IsChangedSet}
 
 module _ (s : Super) (v : Room) (m : ℕ → Option (List ℕ)) (tree : Tree) (lists : Lists) (loose : List ℕ) (d : ℕ) (n : Node) (stamp : ℤ) (told : Option (ℕ → Option (List ℕ))) (old new : ℕ → Bool)

@@ -10,19 +10,19 @@ ghost use Rattle.bfs_sound.specs.Need.{attribute_index_row, logged_need};
 ghost use Rattle.bfs_shift.specs.Lists.{Lists};
 ghost use Rattle.bfs_shift.specs.Shifts.{volume_in};
 ghost use Rattle.bfs_look.specs.Ready.{IsReady, HasReady, HasNodeAt};
-ghost use Rattle.bfs_calls.specs.Allowances.{allowance, left_alone, left_owners};
-ghost use Rattle.bfs_calls.specs.Done.{HasAnswerCause};
+ghost use Rattle.bfs_unmake.specs.Allowances.{allowance, left_alone, left_owners};
+ghost use Rattle.bfs_unmake.specs.Done.{HasAnswerCause};
 ghost use Rattle.bfs_attr_calls.specs.Removed.{HasAttributeAt};
 
 use crate::leaving::inodes_left;
 use bfs_bitmap::Bitmap;
-use bfs_calls::bitmap_blocks;
 use bfs_make::Site;
 use bfs_query::index_at;
 use bfs_stream_pages::MapFault;
 use bfs_super::Super;
 use bfs_tree::is_built_in;
 use bfs_txn::Edits;
+use bfs_unmake::calls::bitmap_blocks;
 use bfs_unmake::streams_length;
 use std::alloc::Global;
 

@@ -12,7 +12,7 @@ ghost use Rattle.bfs_sound.specs.Need.{left_with};
 ghost use Rattle.bfs_make.specs.Sites.{stream_in};
 ghost use Rattle.bfs_attr.specs.Bearers.{volume_at, bearer_of, HasAttributes, CanRead};
 ghost use Rattle.bfs_attr.specs.Refused.{HasRows};
-ghost use Rattle.bfs_calls.specs.Allowances.{inodes_left};
+ghost use Rattle.bfs_unmake.specs.Allowances.{inodes_left};
 ghost use Rattle.bfs_attr_calls.specs.Left.{inode_named, left_by};
 
 use bfs_attr::{InodeRow, directory_at, named_inodes};

@@ -12,6 +12,10 @@ mod taking;
 mod unlisting;
 
 pub use allowance::{blocks_left, index_count, remove_attr_allowance};
+pub use bfs_attrs as attrs;
+pub use bfs_query as query;
+pub use bfs_query::moves as moves;
+pub use bfs_unmake::calls as calls;
 pub use laws::{attribute_unlists, attributes_leave, node_holds, pairs_less};
 pub use refusal::attr_remove_refusal;
 pub use removing::remove_attr;

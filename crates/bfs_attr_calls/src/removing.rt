@@ -12,17 +12,17 @@ ghost use Rattle.bfs_tree.specs.Trees.{Tree};
 ghost use Rattle.bfs_maps.specs.Refused.{IsUndone};
 ghost use Rattle.bfs_shift.specs.Lists.{Lists};
 ghost use Rattle.bfs_look.specs.Ready.{IsReady, HasReady};
-ghost use Rattle.bfs_calls.specs.Done.{HasAnswerCause};
+ghost use Rattle.bfs_unmake.specs.Done.{HasAnswerCause};
 ghost use Rattle.bfs_attr_calls.specs.Removed.{HasAttributeAt, IsAttributeRemoved};
 
 use crate::stamping::put_changed;
 use crate::taking::take_attribute;
 use crate::unlisting::unlist_attribute;
 use bfs_bitmap::Bitmap;
-use bfs_calls::blocked;
 use bfs_stream_pages::MapFault;
 use bfs_super::Super;
 use bfs_txn::Edits;
+use bfs_unmake::calls::blocked;
 use std::alloc::Global;
 
 /// Removes an attribute that a node has, where the call has no refusal of its own: the index of its name lists the node under it no more, the

@@ -14,7 +14,7 @@ ghost use Rattle.bfs_attr_calls.specs.Stamped.{with_changed, IsChangedSet};
 
 use bfs_bytes::u32_at;
 use bfs_inode::InodeMut;
-use bfs_moves::{buffer, load_inode};
+use bfs_query::moves::{buffer, load_inode};
 use bfs_super::Super;
 use bfs_txn::{BlockFault, Edits};
 use std::alloc::Global;

@@ -14,18 +14,18 @@ ghost use Rattle.bfs_maps.specs.Refused.{IsUndone};
 ghost use Rattle.bfs_shift.specs.Lists.{Lists};
 ghost use Rattle.bfs_shift.specs.Work.{IsAtWork};
 ghost use Rattle.bfs_unmake.specs.Leaving.{IsClear, IsLeft};
-ghost use Rattle.bfs_calls.specs.Done.{HasAnswerCause};
+ghost use Rattle.bfs_unmake.specs.Done.{HasAnswerCause};
 ghost use Rattle.bfs_attr_calls.specs.Attributed.{with_attributes};
 ghost use Rattle.bfs_attr_calls.specs.Removed.{HasBearerAt};
 
 use bfs_attrs::take;
 use bfs_bitmap::Bitmap;
-use bfs_calls::not_taken;
 use bfs_make::Site;
-use bfs_moves::check_inode;
+use bfs_query::moves::check_inode;
 use bfs_stream_pages::MapFault;
 use bfs_super::Super;
 use bfs_txn::Edits;
+use bfs_unmake::calls::not_taken;
 use std::alloc::Global;
 
 /// Takes an attribute that a node has, from its small data or with the attribute's inode; the last one that isn't in small data goes with

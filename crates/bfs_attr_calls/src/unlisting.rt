@@ -14,9 +14,9 @@ ghost use Rattle.bfs_attr_calls.specs.Removed.{HasAttributeAt, HasUnlistedUnder}
 
 use bfs_bitmap::Bitmap;
 use bfs_make::Site;
-use bfs_moves::unlist_pair;
 use bfs_node_key::attribute_key;
 use bfs_query::index_at;
+use bfs_query::moves::unlist_pair;
 use bfs_stream_pages::MapFault;
 use bfs_super::Super;
 use bfs_tree::is_built_in;

@@ -14,9 +14,9 @@ use Rattle.bfs_sound.specs.Volumes.{Volume}
 use Rattle.bfs_shift.specs.Lists.{Lists}
 use Rattle.bfs_shift.specs.Shifts.{volume_in}
 use Rattle.bfs_look.specs.Ready.{IsReady}
-use Rattle.bfs_query.proofs.Bearing.{bears}
-use Rattle.bfs_calls.specs.Allowances.{inodes_left, left_alone, allowance}
-use Rattle.bfs_calls.proofs.Allowed.{AllLeast, rows_least, least_joined, least_index, min_less}
+use Rattle.bfs_attr_calls.proofs.Bearing.{bears}
+use Rattle.bfs_attr_calls.specs.Allowances.{inodes_left, left_alone, allowance}
+use Rattle.bfs_attr_calls.proofs.Allowed.{AllLeast, rows_least, least_joined, least_index, min_less}
 use Rattle.bfs_attr_calls.proofs.Streams.{alone_few}
 use Rattle.bfs_attr_calls.proofs.Allowing.{least_row, least_listed}
 

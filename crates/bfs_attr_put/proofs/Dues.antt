@@ -7,8 +7,8 @@ use Rattle.bfs_tree.specs.Listings.{key_of_attribute}
 use Rattle.bfs_tree.specs.Refusals.{is_built_in}
 use Rattle.bfs_tree.specs.Trees.{Attribute}
 use Rattle.bfs_shift.specs.Lists.{Lists}
-use Rattle.bfs_query.specs.Indices.{IsIndexFound}
-use Rattle.bfs_query.specs.declared.kind.IndexAt.{IndexAt}
+use Rattle.bfs_attr_calls.specs.Indices.{IsIndexFound}
+use Rattle.bfs_attr_calls.specs.IndexAt.{IndexAt}
 use Rattle.bfs_attr_put.specs.Listed.{IsDue}
 
 module _ (lists : Lists) (name : List ℕ) (attribute : Attribute) (o : Option IndexAt) where

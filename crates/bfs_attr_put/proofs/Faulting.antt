@@ -15,11 +15,11 @@ use Rattle.bfs_sound.specs.Volumes.{sizes}
 use Rattle.bfs_tree.specs.Trees.{Attribute}
 use Rattle.bfs_make.specs.Made.{IsNotStored}
 use Rattle.bfs_attr.specs.Bearers.{Bearer}
-use Rattle.bfs_attrs.specs.Put.{IsNotPutNew}
-use Rattle.bfs_attrs.specs.Replaced.{IsNotPut}
-use Rattle.bfs_attrs.specs.Stored.{HasAddCause, IsNotAdded, IsNotBegun}
-use Rattle.bfs_calls.specs.Done.{HasAnswerCause, IsUnanswered}
-use Rattle.bfs_calls.specs.Faults.{put_fault}
+use Rattle.bfs_attr_calls.specs.Put.{IsNotPutNew}
+use Rattle.bfs_attr_calls.specs.Replaced.{IsNotPut}
+use Rattle.bfs_attr_calls.specs.Stored.{HasAddCause, IsNotAdded, IsNotBegun}
+use Rattle.bfs_attr_calls.specs.Done.{HasAnswerCause, IsUnanswered}
+use Rattle.bfs_attr_calls.specs.Faults.{put_fault}
 use Rattle.bfs_attr_put.specs.Written.{HasWriteCause}
 
 -- where a block could not be had, none is damaged

@@ -20,13 +20,13 @@ use Rattle.bfs_shift.specs.Lists.{Lists}
 use Rattle.bfs_shift.specs.Shifts.{volume_in}
 use Rattle.bfs_shift.specs.Work.{IsAtWork}
 use Rattle.bfs_shift.proofs.Basics.{some_bytes}
-use Rattle.bfs_moves.specs.Written.{HasBlockWords}
+use Rattle.bfs_attr_calls.specs.Written.{HasBlockWords}
 use Rattle.bfs_attr.specs.Bearers.{bearer_of, attributes_at}
 use Rattle.bfs_attr.specs.Changed.{HasPut}
-use Rattle.bfs_attr_write.specs.Removal.{KeepsClear}
-use Rattle.bfs_attrs.specs.Replaced.{ExchangesItem}
-use Rattle.bfs_query.proofs.Bearing.{attributes_are}
-use Rattle.bfs_leave.specs.Leaving.{IsClear, IsLeft}
+use Rattle.bfs_attr_calls.specs.Removal.{KeepsClear}
+use Rattle.bfs_attr_calls.specs.Replaced.{ExchangesItem}
+use Rattle.bfs_attr_calls.proofs.Bearing.{attributes_are}
+use Rattle.bfs_attr_calls.specs.LeaveLeaving.{IsClear, IsLeft}
 use Rattle.bfs_attr_calls.specs.Attributed.{with_attributes}
 use Rattle.bfs_attr_calls.proofs.Changed.{attributes_left}
 use Rattle.bfs_attr_put.proofs.Naming.{put_keeps_name}

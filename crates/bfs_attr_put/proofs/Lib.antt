@@ -17,4 +17,6 @@ pub use Rattle.bfs_attr_calls.proofs.Inode
 pub use Rattle.bfs_attr_calls.proofs.Names
 pub use Rattle.bfs_attr_calls.proofs.Alike
 pub use Rattle.bfs_attr_calls.proofs.Whole as AttrCallsWhole
-pub use Rattle.bfs_query.proofs.Bearing
+pub use Rattle.bfs_attr_calls.proofs.Bearing
+pub use Rattle.bfs_attr_calls.proofs.Faulting as CallsFaulting
+pub use Rattle.bfs_attr_calls.proofs.Brings

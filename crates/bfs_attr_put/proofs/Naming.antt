@@ -12,9 +12,9 @@ use Rattle.bfs_sound.specs.Volumes.{Volume}
 use Rattle.bfs_sound.specs.Nodes.{HasNode}
 use Rattle.bfs_sound.specs.Attributes.{own_name, is_name_item}
 use Rattle.bfs_attr.specs.SmallData.{HasAttribute}
-use Rattle.bfs_attrs.specs.Put.{GainsItem}
-use Rattle.bfs_attrs.specs.Removed.{LosesItem}
-use Rattle.bfs_attrs.specs.Replaced.{ExchangesItem}
+use Rattle.bfs_attr_calls.specs.Put.{GainsItem}
+use Rattle.bfs_attr_calls.specs.AttrsRemoved.{LosesItem}
+use Rattle.bfs_attr_calls.specs.Replaced.{ExchangesItem}
 use Rattle.bfs_attr_calls.specs.Attributed.{KeepsName}
 use Rattle.bfs_attr_calls.proofs.Names.{all_left, own_left}
 

@@ -16,9 +16,9 @@ use Rattle.bfs_shift.proofs.Following.{same_or_not}
 use Rattle.bfs_shift.proofs.Leaves.{taken_none}
 use Rattle.bfs_shift.proofs.Made.{taken_other}
 use Rattle.bfs_shift.proofs.Parts.{lists_at}
-use Rattle.bfs_moves.proofs.Keys.{listed_now, listed_more}
-use Rattle.bfs_leave.specs.Leaving.{tree_without}
-use Rattle.bfs_calls.specs.Made.{with_new}
+use Rattle.bfs_attr_calls.proofs.MovesKeys.{listed_now, listed_more}
+use Rattle.bfs_attr_calls.specs.LeaveLeaving.{tree_without}
+use Rattle.bfs_attr_calls.specs.Made.{with_new}
 use Rattle.bfs_attr_calls.specs.Removed.{UnlistsUnder}
 use Rattle.bfs_attr_put.specs.Written.{node_with, ListsUnder}
 use Rattle.bfs_attr_put.proofs.Keyed.{own_key}

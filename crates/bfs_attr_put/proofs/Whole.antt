@@ -6,13 +6,13 @@ use Rattle.bfs_super.specs.declared.geometry.Geometry.{Geometry}
 use Rattle.bfs_bitmap.specs.Runs.{Room}
 use Rattle.bfs_tree.specs.Trees.{Attribute, Attributes, Node, Nodes, Tree, IsNode}
 use Rattle.bfs_make.proofs.Telling.{one_map}
-use Rattle.bfs_attr_write.proofs.Brings.{rest_given}
+use Rattle.bfs_attr_calls.proofs.Brings.{rest_given}
 use Rattle.bfs_shift.specs.Lists.{Lists}
 use Rattle.bfs_shift.specs.Work.{IsStepped}
 use Rattle.bfs_shift.proofs.Made.{put_here}
 use Rattle.bfs_look.specs.Ready.{IsReady}
-use Rattle.bfs_leave.specs.Leaving.{IsClear, GivesBack, IsLeft}
-use Rattle.bfs_leave.proofs.Steps.{goes_on_gives, gives_back_twice}
+use Rattle.bfs_attr_calls.specs.LeaveLeaving.{IsClear, GivesBack, IsLeft}
+use Rattle.bfs_attr_calls.proofs.Steps.{goes_on_gives, gives_back_twice}
 use Rattle.bfs_attr_calls.specs.Attributed.{with_attributes}
 use Rattle.bfs_attr_calls.specs.Removed.{tree_with, HasBearerAt, HasUnlistedUnder}
 use Rattle.bfs_attr_calls.specs.Stamped.{with_changed}

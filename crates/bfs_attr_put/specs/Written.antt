@@ -19,7 +19,7 @@ use Rattle.bfs_node.specs.declared.fault.TreeFault.TheVariants as tree
 use Rattle.bfs_stream.specs.declared.fault.GrowFault.{GrowFault}
 use Rattle.bfs_stream.specs.Faults.{IsGrowCause}
 use Rattle.bfs_shift.specs.Lists.{Lists, Agrees}
-use Rattle.bfs_leave.specs.Leaving.{IsLeft}
+use Rattle.bfs_attr_calls.specs.LeaveLeaving.{IsLeft}
 use Rattle.bfs_attr_calls.specs.Removed.{tree_with}
 
 -- what holds of a call that writes an attribute, whatever the volume: its node is a block of the volume, and neither the name is bad nor

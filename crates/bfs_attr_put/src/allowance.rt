@@ -10,12 +10,12 @@ ghost use Rattle.bfs_sound.specs.Need.{logged_need};
 ghost use Rattle.bfs_shift.specs.Lists.{Lists};
 ghost use Rattle.bfs_shift.specs.Shifts.{volume_in};
 ghost use Rattle.bfs_look.specs.Ready.{IsReady, HasReady, HasNodeAt};
-ghost use Rattle.bfs_calls.specs.Allowances.{allowance};
-ghost use Rattle.bfs_calls.specs.Done.{HasAnswerCause};
+ghost use Rattle.bfs_attr_calls.specs.Allowances.{allowance};
+ghost use Rattle.bfs_attr_calls.specs.Done.{HasAnswerCause};
 
+use bfs_attr_calls::calls::bitmap_blocks;
 use bfs_attr_calls::{blocks_left, index_count};
 use bfs_bitmap::Bitmap;
-use bfs_calls::bitmap_blocks;
 use bfs_make::{Site, blocks_for, has_long_blocks, has_short_blocks};
 use bfs_stream_pages::MapFault;
 use bfs_super::Super;

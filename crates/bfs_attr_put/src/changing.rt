@@ -12,15 +12,15 @@ ghost use Rattle.bfs_tree.specs.Names.{is_bad_attribute_name};
 ghost use Rattle.bfs_tree.specs.Trees.{Node, Tree, IsNode};
 ghost use Rattle.bfs_shift.specs.Lists.{Lists};
 ghost use Rattle.bfs_shift.specs.Work.{IsAtWork};
-ghost use Rattle.bfs_leave.specs.Leaving.{IsClear, IsLeft};
-ghost use Rattle.bfs_calls.specs.Done.{IsUnanswered};
+ghost use Rattle.bfs_attr_calls.specs.LeaveLeaving.{IsClear, IsLeft};
+ghost use Rattle.bfs_attr_calls.specs.Done.{IsUnanswered};
 ghost use Rattle.bfs_attr_calls.specs.Removed.{tree_with, HasBearerAt};
 ghost use Rattle.bfs_attr_put.specs.Written.{node_with, HasWriteCause};
 
 use crate::putting::put_attribute;
+use bfs_attr_calls::calls::blocked;
 use bfs_attr_calls::put_changed;
 use bfs_bitmap::Bitmap;
-use bfs_calls::blocked;
 use bfs_stream_pages::MapFault;
 use bfs_super::Super;
 use bfs_txn::Edits;

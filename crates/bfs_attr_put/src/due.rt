@@ -11,9 +11,9 @@ ghost use Rattle.bfs_shift.specs.Lists.{Lists};
 ghost use Rattle.bfs_look.specs.Ready.{IsReady, HasReady};
 ghost use Rattle.bfs_attr_put.specs.Listed.{IsDue};
 
+use bfs_attr_calls::query::index_at;
 use bfs_bitmap::Bitmap;
 use bfs_node::{KeyKind, TreeFault};
-use bfs_query::index_at;
 use bfs_stream_pages::MapFault;
 use bfs_super::Super;
 use bfs_tree::{Bytes, code_of, is_built_in, key_of_bytes};

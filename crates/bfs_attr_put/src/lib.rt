@@ -14,6 +14,8 @@ mod refusal;
 mod writing;
 
 pub use allowance::write_attr_allowance;
+pub use bfs_attr_calls as attr_calls;
+pub use bfs_attr_calls::calls as calls;
 pub use laws::attribute_lists;
 pub use refusal::attr_write_refusal;
 pub use writing::write_attr;

@@ -9,12 +9,12 @@ ghost use Rattle.bfs_stream.specs.Grown.{IsOfVolume};
 ghost use Rattle.bfs_stream.specs.Sizes.{sizes_of};
 ghost use Rattle.bfs_tree.specs.Trees.{Attribute, Node, Tree};
 ghost use Rattle.bfs_shift.specs.Lists.{Lists};
-ghost use Rattle.bfs_calls.specs.Done.{IsUnanswered, HasAnswerCause};
+ghost use Rattle.bfs_attr_calls.specs.Done.{IsUnanswered, HasAnswerCause};
 ghost use Rattle.bfs_attr_put.specs.Listed.{IsDue, IsPutOnly, HasPutOnly, HasListedUnder};
 
 use crate::due::Due;
+use bfs_attr_calls::moves::list_pair;
 use bfs_bitmap::Bitmap;
-use bfs_moves::list_pair;
 use bfs_stream_pages::MapFault;
 use bfs_super::Super;
 use bfs_txn::Edits;

@@ -10,7 +10,7 @@ ghost use Rattle.bfs_tree.specs.Trees.{Tree};
 ghost use Rattle.bfs_maps.specs.Refused.{IsUndone, HasReadCause};
 ghost use Rattle.bfs_shift.specs.Lists.{Lists};
 ghost use Rattle.bfs_look.specs.Ready.{IsReady, HasReady};
-ghost use Rattle.bfs_calls.specs.Refusals.{is_own};
+ghost use Rattle.bfs_attr_calls.specs.Refusals.{is_own};
 ghost use Rattle.bfs_attr_put.specs.Written.{MayBear};
 
 use bfs_bitmap::Bitmap;

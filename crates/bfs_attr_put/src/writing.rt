@@ -12,7 +12,7 @@ ghost use Rattle.bfs_stream.specs.Standing.{standing};
 ghost use Rattle.bfs_tree.specs.Trees.{Tree};
 ghost use Rattle.bfs_shift.specs.Lists.{Lists};
 ghost use Rattle.bfs_look.specs.Ready.{IsReady, HasReady, HasNodeAt};
-ghost use Rattle.bfs_calls.specs.Done.{IsUnanswered};
+ghost use Rattle.bfs_attr_calls.specs.Done.{IsUnanswered};
 ghost use Rattle.bfs_attr_put.specs.Listed.{IsDue};
 ghost use Rattle.bfs_attr_put.specs.Written.{MayBear, IsAttributeWritten, HasWriteCause};
 

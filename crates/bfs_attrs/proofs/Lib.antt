@@ -14,3 +14,7 @@ pub mod Moves
 pub mod Longest
 pub mod Loses
 pub mod Gains
+pub use Rattle.bfs_attr_write.proofs.Follows
+pub use Rattle.bfs_attr_write.proofs.Beside
+pub use Rattle.bfs_attr_write.proofs.Brings
+pub use Rattle.bfs_attr_write.proofs.Addressed

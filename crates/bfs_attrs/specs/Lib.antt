@@ -5,3 +5,5 @@ pub mod Put
 pub mod Replaced
 pub mod Moved
 pub mod Laws
+pub use Rattle.bfs_attr_write.specs.Exchanged
+pub use Rattle.bfs_attr_write.specs.Removal

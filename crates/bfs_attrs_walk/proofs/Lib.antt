@@ -10,3 +10,5 @@ pub mod Sharing
 pub mod Searched
 pub mod Telling
 pub use Rattle.bfs_nodes_walk.proofs.Leading
+pub use Rattle.bfs_attr_walk.proofs.Attributing
+pub use Rattle.bfs_attr_walk.proofs.Storing

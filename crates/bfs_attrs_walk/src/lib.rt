@@ -9,6 +9,7 @@ mod owners;
 mod pass;
 mod told;
 
+pub use bfs_attr_walk as attr_walk;
 pub use names::check_names;
 pub use node::visit_attributes;
 pub use owners::{find_attribute, find_before, find_node, find_owner_in};

@@ -1,6 +1,6 @@
 -- Free space: which blocks a bitmap marks as used, which are reserved, and free runs.
 use Rattle.std.specs.Prelude.{◌≡◌, ◌≤◌, ◌<◌, ◌⊎◌, ℕ, zero, suc, ◌+◌, ◌-◌, ◌*◌, ◌/◌, ◌%◌, pos, ◌≤ℤ◌, List, [], ◌∷◌, length, Bool, true, false, not, ◌==◌, ◌&&◌, ◌||◌, nat_lt, if◌then◌else◌, Option, Some, None, unwrap_or, filter, slice_index_or}
-use Rattle.bfs_bytes.specs.declared.Run.{Run}
+use Rattle.bfs_super.specs.Run.{Run}
 use Rattle.bfs_super.specs.Conditions.{natural}
 use Rattle.bfs_bitmap.specs.Bits.{bit_of, in_run, is_clear}
 use Rattle.bfs_bitmap.specs.declared.given.Given.{Given}

@@ -11,7 +11,7 @@ use crate::given::{drop_left, drop_unsettled, number_all, settle_all};
 use crate::tally::lower_all;
 use crate::window::Window;
 use crate::{Bitmap, Given};
-use bfs_bytes::Run;
+use bfs_super::bytes::Run;
 use bfs_txn::{BlockFault, Edits};
 
 impl Bitmap {

@@ -20,6 +20,3 @@ pub use fault::RunFault;
 pub use given::Given;
 pub use laws::few_runs_are_lost;
 pub use tally::Tally;
-
-#[cfg(test)]
-mod tests;

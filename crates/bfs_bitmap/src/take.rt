@@ -10,7 +10,7 @@ use crate::search::Search;
 use crate::tally::raise;
 use crate::window::Window;
 use crate::{Bitmap, RunFault};
-use bfs_bytes::Run;
+use bfs_super::bytes::Run;
 use bfs_txn::{BlockFault, Edits};
 
 impl Bitmap {

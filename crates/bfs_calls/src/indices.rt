@@ -15,7 +15,7 @@ ghost use Rattle.bfs_calls.specs.Made.{AreBuiltIn, LieBelow};
 
 use crate::fault::damaged;
 use bfs_bitmap::Bitmap;
-use bfs_make::blocks_in;
+use bfs_look::make::blocks_in;
 use bfs_moves::find_index;
 use bfs_stream_pages::MapFault;
 use bfs_super::Super;

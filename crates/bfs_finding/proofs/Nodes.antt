@@ -16,9 +16,9 @@ use Rattle.bfs_smalldata.specs.Items.{Item}
 use Rattle.bfs_smalldata.specs.Edits.{named}
 use Rattle.bfs_smalldata.proofs.Listing.{none_from}
 use Rattle.bfs_super.specs.Conditions.{natural}
-use Rattle.bfs_stream.specs.Sizes.{first_block}
-use Rattle.bfs_stream.specs.Places.{HasStream}
-use Rattle.bfs_stream.proofs.Frames.{has_first}
+use Rattle.bfs_sound.specs.Sizes.{first_block}
+use Rattle.bfs_sound.specs.Places.{HasStream}
+use Rattle.bfs_sound.proofs.Frames.{has_first}
 use Rattle.bfs_tree.specs.declared.call.Kind.{Kind}
 use Rattle.bfs_tree.specs.declared.call.Kind.TheVariants.{File, Dir, Link}
 use Rattle.bfs_tree.specs.Names.{is_bad_name}

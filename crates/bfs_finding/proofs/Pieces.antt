@@ -7,7 +7,7 @@ use Rattle.bfs_base.specs.Lists.{times}
 use Rattle.bfs_base.specs.declared.kind.KeyKind.TheVariants.{Text}
 use Rattle.bfs_node.specs.Page.{Row}
 use Rattle.bfs_pages.specs.Maps.{assoc}
-use Rattle.bfs_stream.proofs.Doubles.{times-append}
+use Rattle.bfs_sound.proofs.Doubles.{times-append}
 use Rattle.bfs_tree.specs.declared.call.Kind.{Kind}
 use Rattle.bfs_tree.specs.declared.call.Kind.TheVariants.{File, Dir, Link}
 use Rattle.bfs_tree.specs.Trees.{Node, Tree, IsNode, is_link}

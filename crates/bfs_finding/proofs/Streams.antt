@@ -7,8 +7,8 @@ use Rattle.bfs_bytes.specs.declared.Run.{Run}
 use Rattle.bfs_bytes.specs.Fields.{run_in}
 use Rattle.bfs_inode.specs.Refusals.{Names}
 use Rattle.bfs_super.specs.Conditions.{natural}
-use Rattle.bfs_stream.specs.Sizes.{Sizes, first_block, IsInVolume, IsWhole}
-use Rattle.bfs_stream.specs.Places.{Levels, HasLevels, used_runs, places_of, levels_at}
+use Rattle.bfs_sound.specs.Sizes.{Sizes, first_block, IsInVolume, IsWhole}
+use Rattle.bfs_sound.specs.Places.{Levels, HasLevels, used_runs, places_of, levels_at}
 use Rattle.bfs_sound.specs.Volumes.{Volume, sizes}
 use Rattle.bfs_sound.specs.Owners.{In}
 use Rattle.bfs_tree.specs.Trees.{Tree}

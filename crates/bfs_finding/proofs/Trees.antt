@@ -8,8 +8,8 @@ use Rattle.bfs_node.specs.declared.fault.PageFault.{PageFault}
 use Rattle.bfs_node.specs.declared.fault.PageFault.TheVariants.{Bounds as bounds_fault, Ends as ends_fault}
 use Rattle.bfs_node.specs.Faults.{IsPageRefusal}
 use Rattle.bfs_node.specs.Page.{Row, rows_of, left_of, right_of, overflow_of}
-use Rattle.bfs_stream.proofs.Doubles.{times-append}
-use Rattle.bfs_stream.proofs.Frames.{has_first, has_left, has_right}
+use Rattle.bfs_sound.proofs.Doubles.{times-append}
+use Rattle.bfs_sound.proofs.Frames.{has_first, has_left, has_right}
 use Rattle.bfs_pages.specs.Answers.{IsChild, IsLink}
 use Rattle.bfs_pages.specs.Order.{Key}
 use Rattle.bfs_pages.specs.Shapes.{Body, leaf_body, inner_body, Precedes, AscendAll, Shape, leaf_shape, node_shape, place, met_by, leaves_of, tree_rows}

@@ -4,8 +4,8 @@ use Rattle.std.specs.Prelude.{◌==◌, ◌%◌}
 use Rattle.std.specs.List.{flat_map}
 use Rattle.bfs_base.specs.Lists.{times, Has}
 use Rattle.bfs_node.specs.Page.{Row}
-use Rattle.bfs_stream.proofs.Doubles.{times-append}
-use Rattle.bfs_stream.proofs.Frames.{has_first}
+use Rattle.bfs_sound.proofs.Doubles.{times-append}
+use Rattle.bfs_sound.proofs.Frames.{has_first}
 use Rattle.bfs_pages.specs.Order.{Key}
 use Rattle.bfs_pages.specs.Answers.{IsChild}
 use Rattle.bfs_pages.specs.Shapes.{Body, leaf_body, inner_body, Shape, Shapes, leaf_shape, node_shape, last_shape, more_shapes, place, tree_rows, trees_rows, met_by, met_by_all, leaves_of, leaves_all, children_of, last_child, IsDeep, AreDeep, Stands, StandAll, Entry, a_row, a_bound, entries_in, entries_of, entries_all}

@@ -2,7 +2,7 @@
 use Rattle.std.proofs.Common.{◌≢◌, inl, inr, ℕ, pos, refl, ap, arith}
 use Rattle.std.proofs.lemmas.Int.{ints}
 use Rattle.bfs_super.specs.Conditions.{natural}
-use Rattle.bfs_stream.specs.Places.{level_blocks}
+use Rattle.bfs_sound.specs.Places.{level_blocks}
 use Rattle.bfs_finding.specs.StreamFaults.{leaves, direct_range, wrong_size, early_indirect, by_group, by_blocks, not_one, past_end}
 use Rattle.bfs_finding.specs.Worked.{StreamsAreWorked}
 

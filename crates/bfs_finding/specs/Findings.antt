@@ -9,7 +9,7 @@ use Rattle.bfs_super.specs.Conditions.{natural, IsRefusal}
 use Rattle.bfs_super.specs.declared.sup.Super.{Super}
 use Rattle.bfs_super.specs.declared.fault.SuperFault.{SuperFault}
 use Rattle.bfs_log.specs.Replay.{super_of, blocks_of, Valid}
-use Rattle.bfs_stream.specs.Places.{HasStream}
+use Rattle.bfs_sound.specs.Places.{HasStream}
 use Rattle.bfs_tree.specs.Listings.{listed, kind_of_key, bytes_of_key}
 use Rattle.bfs_tree.specs.Trees.{Tree}
 use Rattle.bfs_values.specs.Reached.{pairs_of}

@@ -2,8 +2,8 @@
 use Rattle.std.specs.Prelude.{◌≡◌, ◌≢◌, ◌≤◌, ◌<◌, ◌<ℤ◌, ◌⊎◌, ℕ, ℤ, pos, ◌+◌, ◌*◌, length, false}
 use Rattle.bfs_bytes.specs.declared.Run.{Run}
 use Rattle.bfs_bytes.specs.Fields.{run_in}
-use Rattle.bfs_stream.specs.Sizes.{Sizes, first_block, array_length}
-use Rattle.bfs_stream.specs.Places.{Levels, used_runs, level_blocks, level_end, places_of, levels_at}
+use Rattle.bfs_sound.specs.Sizes.{Sizes, first_block, array_length}
+use Rattle.bfs_sound.specs.Places.{Levels, used_runs, level_blocks, level_end, places_of, levels_at}
 use Rattle.bfs_sound.specs.Volumes.{Volume, sizes}
 use Rattle.bfs_sound.specs.Attributes.{is_zero}
 use Rattle.bfs_sound.specs.Owners.{In}

@@ -2,8 +2,8 @@
 use Rattle.std.specs.Prelude.{◌≡◌, ℕ, ℤ, pos, negsuc, List, [], ◌∷◌, Option, Some, None, ◌==◌, if◌then◌else◌}
 use Rattle.bfs_bytes.specs.declared.Run.{Run}
 use Rattle.bfs_pages.specs.Shapes.{Body, leaf_body, inner_body, a_row, a_bound}
-use Rattle.bfs_stream.specs.Sizes.{Sizes}
-use Rattle.bfs_stream.specs.Places.{Levels}
+use Rattle.bfs_sound.specs.Sizes.{Sizes}
+use Rattle.bfs_sound.specs.Places.{Levels}
 use Rattle.bfs_finding.specs.NodeFaults.{own_bytes, or_zero}
 use Rattle.bfs_finding.specs.StreamFaults.{IsLevelFault, IsAddressFault}
 use Rattle.bfs_finding.specs.TreeFaults.{last_link, first_link, wanted_link}

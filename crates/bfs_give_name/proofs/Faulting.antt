@@ -13,10 +13,10 @@ use Rattle.bfs_sound.specs.Volumes.{sizes}
 use Rattle.bfs_tree.specs.Trees.{Attribute}
 use Rattle.bfs_make.specs.Made.{IsNotStored}
 use Rattle.bfs_attr.specs.Bearers.{Bearer}
-use Rattle.bfs_attrs.specs.Put.{IsNotPutNew}
-use Rattle.bfs_attrs.specs.Stored.{IsNotAdded, IsNotBegun}
-use Rattle.bfs_calls.specs.Done.{IsUnanswered}
-use Rattle.bfs_calls.specs.Faults.{put_fault}
+use Rattle.bfs_set_name.specs.Put.{IsNotPutNew}
+use Rattle.bfs_set_name.specs.Stored.{IsNotAdded, IsNotBegun}
+use Rattle.bfs_attr_put.specs.Done.{IsUnanswered}
+use Rattle.bfs_attr_put.specs.Faults.{put_fault}
 use Rattle.bfs_set_name.specs.Renamed.{IsNotNamed, HasStopped}
 
 -- where a block could not be had, none is damaged

@@ -13,8 +13,8 @@ use Rattle.bfs_sound.specs.Attributes.{attribute_directory, attribute_inodes}
 use Rattle.bfs_sound.specs.Need.{moves}
 use Rattle.bfs_attr.specs.Bearers.{Bearer, volume_at}
 use Rattle.bfs_attr.specs.Changed.{attribute_blocks, HasNameSet}
-use Rattle.bfs_attrs.specs.Replaced.{HasAllBlocks}
-use Rattle.bfs_attrs.proofs.Replaces.{all_same}
+use Rattle.bfs_set_name.specs.Replaced.{HasAllBlocks}
+use Rattle.bfs_set_name.proofs.Replaces.{all_same}
 use Rattle.bfs_set_name.specs.Renamed.{HasNewName}
 use Rattle.bfs_give_name.specs.Named.{IsNamed}
 

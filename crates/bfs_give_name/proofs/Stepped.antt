@@ -41,8 +41,8 @@ use Rattle.bfs_shift.proofs.Replaced.{put_swapped}
 use Rattle.bfs_shift.proofs.Widens.{widened}
 use Rattle.bfs_attr.specs.Bearers.{attributes_at}
 use Rattle.bfs_attr.specs.Changed.{attribute_blocks}
-use Rattle.bfs_attr_write.proofs.Beside.{each_of}
-use Rattle.bfs_attr_write.proofs.Follows.{exchange_of}
+use Rattle.bfs_set_name.proofs.Beside.{each_of}
+use Rattle.bfs_set_name.proofs.Follows.{exchange_of}
 use Rattle.bfs_attr_put.proofs.Changed.{node_parts}
 use Rattle.bfs_attr_put.proofs.Exchange.{exchange_shifts}
 use Rattle.bfs_attr_put.proofs.Inode.{own_rest, own_same, data_same, directory_content, short_same}

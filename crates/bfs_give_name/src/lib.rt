@@ -6,6 +6,3 @@ mod naming;
 mod proper;
 
 pub use naming::give_name;
-
-#[cfg(test)]
-mod tests;

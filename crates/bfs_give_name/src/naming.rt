@@ -10,14 +10,14 @@ ghost use Rattle.bfs_tree.specs.Trees.{Node, Tree, IsNode};
 ghost use Rattle.bfs_shift.specs.Lists.{Lists};
 ghost use Rattle.bfs_shift.specs.Work.{IsAtWork, IsStepped};
 ghost use Rattle.bfs_attr.specs.Bearers.{bearer_of};
-ghost use Rattle.bfs_calls.specs.Done.{IsUnanswered};
+ghost use Rattle.bfs_attr_put.specs.Done.{IsUnanswered};
 ghost use Rattle.bfs_attr_put.specs.Written.{HasWriteCause};
 ghost use Rattle.bfs_give_name.specs.Named.{with_name, HoldsProper, IsNamed};
 
 use crate::proper::moves_improper;
 use bfs_attr::put_own_name;
+use bfs_attr_put::calls::not_put;
 use bfs_bitmap::Bitmap;
-use bfs_calls::not_put;
 use bfs_make::Site;
 use bfs_moves::check_inode;
 use bfs_node::TreeFault;

@@ -6,10 +6,10 @@ ghost use Rattle.bfs_txn.specs.Faults.{AreLater};
 ghost use Rattle.bfs_smalldata.specs.Items.{items_of};
 ghost use Rattle.bfs_smalldata.specs.Edits.{named};
 ghost use Rattle.bfs_stream.specs.Told.{contents};
-ghost use Rattle.bfs_calls.specs.Done.{HasAnswerCause, IsUnanswered};
+ghost use Rattle.bfs_attr_put.specs.Done.{HasAnswerCause, IsUnanswered};
 ghost use Rattle.bfs_give_name.specs.Named.{has_improper};
 
-use bfs_calls::{blocked, damaged};
+use bfs_attr_put::calls::{blocked, damaged};
 use bfs_inode::SMALL_DATA;
 use bfs_make::{Site, read_block};
 use bfs_smalldata::{find, list_end};

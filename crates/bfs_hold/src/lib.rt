@@ -9,9 +9,7 @@ mod stamps;
 mod writing;
 
 pub use allowance::hold_allowance;
+pub use bfs_set_size as set_size;
 pub use piece::find_places;
 pub use refusal::hold_refusal;
 pub use writing::hold_to_write;
-
-#[cfg(test)]
-mod tests;

@@ -18,8 +18,8 @@ use Rattle.bfs_tree.specs.Answers.{rows_of_indices}
 use Rattle.bfs_tree.specs.Trees.{Tree}
 use Rattle.bfs_shift.specs.Lists.{Lists}
 use Rattle.bfs_look.specs.Ready.{IsReady}
-use Rattle.bfs_query.specs.Indices.{index_row}
-use Rattle.bfs_query.proofs.Indexed.{no_indices, told_rows}
+use Rattle.bfs_remove_index.specs.Indices.{index_row}
+use Rattle.bfs_remove_index.proofs.Indexed.{no_indices, told_rows}
 
 pub mapped : {X Y : Type 0} (f : X → Y) (xs : List X) → length (map f xs) ≡ length xs
 mapped f [] = refl

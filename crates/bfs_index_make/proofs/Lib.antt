@@ -8,3 +8,5 @@ pub mod Stored
 pub mod Joined
 pub mod NextPairs
 pub mod Whole
+pub use Rattle.bfs_remove_index.proofs.Refusing as RemoveIndexRefusing
+pub use Rattle.bfs_remove_index.proofs.Whole as RemoveIndexWhole

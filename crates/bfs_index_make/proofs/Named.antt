@@ -21,9 +21,9 @@ use Rattle.bfs_values.specs.Values.{values_in}
 use Rattle.bfs_attr.proofs.Listed.{all_between}
 use Rattle.bfs_shift.specs.Lists.{Lists}
 use Rattle.bfs_look.specs.Ready.{IsReady}
-use Rattle.bfs_query.specs.Indices.{IsIndexFound}
-use Rattle.bfs_query.specs.declared.kind.IndexAt.{IndexAt}
-use Rattle.bfs_query.proofs.Indexed.{index_tree}
+use Rattle.bfs_remove_index.specs.Indices.{IsIndexFound}
+use Rattle.bfs_remove_index.specs.IndexAt.{IndexAt}
+use Rattle.bfs_remove_index.proofs.Indexed.{index_tree}
 use Rattle.bfs_index_make.specs.Gathered.{ids_of, numbers_of}
 
 joined : (xs ys : List (List ℕ × ℕ)) → ids_of (xs ++ ys) ≡ ids_of xs ++ ids_of ys

@@ -34,8 +34,8 @@ use Rattle.bfs_shift.proofs.Basics.{bitmap_has, or_told, some_bytes}
 use Rattle.bfs_shift.proofs.Moving.{all_parts}
 use Rattle.bfs_moves.proofs.Loosened.{loose_work, loose_goes}
 use Rattle.bfs_attr.proofs.Owned.{owner_is, bits_are}
-use Rattle.bfs_attr_write.specs.Exchanged.{Exchanged}
-use Rattle.bfs_attr_write.proofs.Brings.{new_exchange}
+use Rattle.bfs_attr_put.specs.Exchanged.{Exchanged}
+use Rattle.bfs_attr_put.proofs.Brings.{new_exchange}
 use Rattle.bfs_attr_put.proofs.Changed.{marked_used}
 use Rattle.bfs_attr_put.proofs.Exchange.{exchange_shifts}
 use Rattle.bfs_index_make.specs.Made.{index_mode, index_form, HasLooseIndex}

@@ -12,5 +12,9 @@ mod making;
 mod refusal;
 
 pub use allowance::index_make_allowance;
+pub use bfs_attr_put as attr_put;
+pub use bfs_attr_put::attr_calls as attr_calls;
+pub use bfs_remove_index as remove_index;
+pub use bfs_remove_index::query as query;
 pub use making::make_index;
 pub use refusal::index_make_refusal;

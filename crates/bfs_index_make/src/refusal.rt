@@ -19,7 +19,7 @@ use bfs_attr::named_inodes;
 use bfs_bitmap::Bitmap;
 use bfs_make::Site;
 use bfs_node::KeyKind;
-use bfs_query::index_at;
+use bfs_remove_index::query::index_at;
 use bfs_stream_pages::MapFault;
 use bfs_super::Super;
 use bfs_tree::{Reply, is_bad_name, is_float};

@@ -21,7 +21,7 @@ use Rattle.bfs_owner.specs.declared.place.Place.{Place}
 use Rattle.bfs_names_walk.specs.Rows.{as_rows}
 use Rattle.bfs_names_walk.specs.declared.row.NameRow.{NameRow}
 use Rattle.bfs_node_walk.specs.Listed.{proper, NamesBlock}
-use Rattle.bfs_attr_walk.specs.Attributed.{IsTakenIn, IsTakenBy}
+use Rattle.bfs_attrs_walk.specs.Attributed.{IsTakenIn, IsTakenBy}
 use Rattle.bfs_attrs_walk.proofs.Leading.{of_all, in_behind, in_front}
 use Rattle.bfs_attrs_walk.proofs.Sharing.{proper_parts, before_differ, value_is}
 use Rattle.bfs_index_walk.specs.Indices.{IsIndexWay, AreRowsOf, places_by_rows}

@@ -14,8 +14,8 @@ use Rattle.bfs_claims.specs.Claims.{Claimed, AreClaimed}
 use Rattle.bfs_names_walk.specs.Rows.{as_rows, AreNames}
 use Rattle.bfs_names_walk.specs.declared.row.NameRow.{NameRow}
 use Rattle.bfs_node_walk.specs.Listed.{proper}
-use Rattle.bfs_attr_walk.specs.Attributed.{row_blocks}
-use Rattle.bfs_attr_walk.proofs.Storing.{claimed_stored}
+use Rattle.bfs_attrs_walk.specs.Attributed.{row_blocks}
+use Rattle.bfs_attrs_walk.proofs.Storing.{claimed_stored}
 use Rattle.bfs_index_walk.specs.Indices.{AreFound, AreWalked}
 use Rattle.bfs_index_walk.specs.declared.found.FoundIndex.{FoundIndex}
 use Rattle.bfs_index_walk.proofs.Rowing.{kinds_found}

@@ -11,7 +11,7 @@ use Rattle.bfs_owner.specs.declared.place.Place.{Place}
 use Rattle.bfs_names_walk.specs.Rows.{as_rows}
 use Rattle.bfs_names_walk.specs.declared.row.NameRow.{NameRow}
 use Rattle.bfs_node_walk.specs.Listed.{proper}
-use Rattle.bfs_attr_walk.specs.Attributed.{row_blocks}
+use Rattle.bfs_attrs_walk.specs.Attributed.{row_blocks}
 use Rattle.bfs_index_walk.specs.declared.found.FoundIndex.{FoundIndex}
 use Rattle.bfs_index_walk.specs.Indices.{AreInside, place_at, places_by_rows, places_of_found}
 

@@ -15,7 +15,7 @@ use Rattle.bfs_owner.specs.declared.place.Place.{Place}
 use Rattle.bfs_names_walk.specs.Rows.{as_rows, AreNames}
 use Rattle.bfs_names_walk.specs.declared.row.NameRow.{NameRow}
 use Rattle.bfs_node_walk.specs.Listed.{proper, NamesBlock}
-use Rattle.bfs_attr_walk.specs.Attributed.{places_of_rows}
+use Rattle.bfs_attrs_walk.specs.Attributed.{places_of_rows}
 use Rattle.bfs_tour.specs.Tours.{Found, AreIndices}
 use Rattle.bfs_index_walk.specs.declared.found.FoundIndex.{FoundIndex}
 

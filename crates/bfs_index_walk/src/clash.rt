@@ -12,7 +12,7 @@ ghost use Rattle.bfs_owner.specs.Owned.{ArePlaced, IsFound, blocks_of_places};
 ghost use Rattle.bfs_names_walk.specs.Rows.{as_rows};
 ghost use Rattle.bfs_names_walk.specs.declared.row.NameRow as names;
 ghost use Rattle.bfs_node_walk.specs.Listed.{proper, NamesBlock};
-ghost use Rattle.bfs_attr_walk.specs.Attributed.{IsTakenIn};
+ghost use Rattle.bfs_attrs_walk.specs.Attributed.{IsTakenIn};
 ghost use Rattle.bfs_index_walk.specs.Indices.{AreRowsOf, places_by_rows};
 
 use crate::places::row_places;

@@ -16,7 +16,7 @@ ghost use Rattle.bfs_inode_walk.specs.Visited.{IsTrueOf, IsTaken, IsVisitCause};
 ghost use Rattle.bfs_names_walk.specs.Rows.{AreNames, as_rows};
 ghost use Rattle.bfs_node_walk.specs.Listed.{proper, NamesBlock};
 
-use bfs_attr_walk::rows_in;
+use bfs_attrs_walk::attr_walk::rows_in;
 use bfs_claims::Claims;
 use bfs_inode_walk::{VisitFault, visit_inode};
 use bfs_names_walk::NameRow;

@@ -14,6 +14,7 @@ mod row;
 mod values;
 mod walk;
 
+pub use bfs_attrs_walk as attrs_walk;
 pub use found::FoundIndex;
 pub use header::find_kind;
 pub use index::visit_index;

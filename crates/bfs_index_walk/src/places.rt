@@ -7,7 +7,7 @@ ghost use Rattle.bfs_node_walk.specs.Listed.{proper, NamesBlock};
 ghost use Rattle.bfs_index_walk.specs.Indices.{AreInside, place_at, places_by_rows, places_of_found};
 
 use crate::FoundIndex;
-use bfs_attr_walk::push_places;
+use bfs_attrs_walk::attr_walk::push_places;
 use bfs_inode_walk::VisitFault;
 use bfs_names_walk::NameRow;
 use bfs_node_check::Role;

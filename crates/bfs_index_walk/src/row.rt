@@ -18,13 +18,13 @@ ghost use Rattle.bfs_inode_walk.specs.Visited.{IsTrueOf, IsUntaken, IsVisitCause
 ghost use Rattle.bfs_names_walk.specs.Rows.{as_rows, AreNames};
 ghost use Rattle.bfs_names_walk.specs.declared.row.NameRow as names;
 ghost use Rattle.bfs_node_walk.specs.Listed.{proper, NamesBlock};
-ghost use Rattle.bfs_attr_walk.specs.Attributed.{row_blocks, IsTakenIn, IsTakenBy};
+ghost use Rattle.bfs_attrs_walk.specs.Attributed.{row_blocks, IsTakenIn, IsTakenBy};
 ghost use Rattle.bfs_index_walk.specs.Indices.{AreFound, AreInside};
 
 use crate::FoundIndex;
 use crate::clash::refusal;
 use crate::index::visit_index;
-use bfs_attr_walk::{is_proper_name, number_of};
+use bfs_attrs_walk::attr_walk::{is_proper_name, number_of};
 use bfs_claims::Claims;
 use bfs_inode_walk::VisitFault;
 use bfs_names_walk::NameRow;

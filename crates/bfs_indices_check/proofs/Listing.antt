@@ -26,7 +26,7 @@ use Rattle.bfs_sound.specs.Whole.{HasIndices}
 use Rattle.bfs_finding.specs.TreeFaults.{HasTree}
 use Rattle.bfs_finding.proofs.Rows.{all_in, text_same}
 use Rattle.bfs_tour.specs.Tours.{Visit, toured_tree}
-use Rattle.bfs_nodes_walk.specs.declared.lead.NodeLead.{NodeLead}
+use Rattle.bfs_key_walk.specs.NodeLead.{NodeLead}
 use Rattle.bfs_inode_walk.specs.Visited.{IsTrueOf, IsUntaken}
 use Rattle.bfs_inode_walk.specs.declared.fault.VisitFault.{VisitFault}
 use Rattle.bfs_inode_walk.specs.declared.fault.VisitFault.TheVariants.{Wrong, Taken, Block}

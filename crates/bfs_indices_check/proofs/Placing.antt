@@ -15,7 +15,7 @@ use Rattle.bfs_sound.specs.Owners.{In}
 use Rattle.bfs_finding.specs.Findings.{IsIndexAt}
 use Rattle.bfs_finding.proofs.Rows.{all_in, in_assoc, tree_ascends, ascend_kept}
 use Rattle.bfs_tour.specs.Tours.{Visit, toured_tree}
-use Rattle.bfs_nodes_walk.specs.declared.lead.NodeLead.{NodeLead}
+use Rattle.bfs_key_walk.specs.NodeLead.{NodeLead}
 use Rattle.bfs_index_walk.specs.declared.found.FoundIndex.{FoundIndex}
 use Rattle.bfs_index_walk.specs.Indices.{as_row, kinds_of}
 use Rattle.bfs_indices_check.specs.Listed.{IsWalkedWhole}

@@ -1,1 +1,5 @@
 pub mod Listed
+pub use Rattle.bfs_index_walk.specs.declared.found.FoundIndex
+pub use Rattle.bfs_index_walk.specs.Indices
+pub use Rattle.bfs_index_walk.specs.Laws
+pub use Rattle.bfs_index_walk.specs.Passes

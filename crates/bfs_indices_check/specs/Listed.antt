@@ -18,7 +18,7 @@ use Rattle.bfs_node_check.specs.declared.fault.NodeFault.TheVariants.{Wrong as U
 use Rattle.bfs_inode_walk.specs.declared.fault.VisitFault.{VisitFault}
 use Rattle.bfs_inode_walk.specs.declared.fault.VisitFault.TheVariants.{Wrong, Taken, Block}
 use Rattle.bfs_tour.specs.Tours.{Visit, toured_tree}
-use Rattle.bfs_nodes_walk.specs.declared.lead.NodeLead.{NodeLead}
+use Rattle.bfs_key_walk.specs.NodeLead.{NodeLead}
 use Rattle.bfs_index_check.specs.Compared.{Pair, IsDifference}
 use Rattle.bfs_key_walk.specs.Gathered.{IsGoneOver}
 use Rattle.bfs_index_walk.specs.declared.found.FoundIndex.{FoundIndex}

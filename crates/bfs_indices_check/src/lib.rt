@@ -6,4 +6,6 @@ mod built_in;
 mod index;
 mod pass;
 
+pub use bfs_index_walk as index_walk;
+pub use bfs_index_walk::attrs_walk as attrs_walk;
 pub use pass::check_indices;

@@ -19,7 +19,7 @@ use Rattle.bfs_sound.specs.Attributes.{IsAttributeRow, attribute_directory, attr
 use Rattle.bfs_sound.specs.Whole.{volume_of}
 use Rattle.bfs_smalldata.specs.Items.{Item}
 use Rattle.bfs_attr.specs.Bearers.{CanRead, HasAttributes, attributes_at, entries_with, bearer_of}
-use Rattle.bfs_node_walk.proofs.Readable.{readable, size_natural}
+use Rattle.bfs_nodes_walk.proofs.Readable.{readable, size_natural}
 use Rattle.bfs_key_walk.specs.Gathered.{IsKnown}
 
 rows_stream : (v : Volume) (rows : List Row) (k : ℕ) → AllByRecursion (IsAttributeRow v) rows → In k (map id_of rows) → HasStream (sizes v.geometry) v.blocks k

@@ -1,1 +1,3 @@
 pub mod Gathered
+pub use Rattle.bfs_nodes_walk.specs.declared.lead.NodeLead
+pub use Rattle.bfs_nodes_walk.specs.Leads

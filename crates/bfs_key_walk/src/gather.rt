@@ -10,7 +10,7 @@ ghost use Rattle.bfs_tree.specs.Trees.{Node};
 ghost use Rattle.bfs_sound.specs.Whole.{volume_of};
 ghost use Rattle.bfs_tour.specs.Tours.{Visit};
 ghost use Rattle.bfs_nodes_walk.specs.Leads.{AreInside};
-ghost use Rattle.bfs_node_walk.specs.Listed.{NamesBlock};
+ghost use Rattle.bfs_nodes_walk.specs.Listed.{NamesBlock};
 ghost use Rattle.bfs_inode_walk.specs.Visited.{IsVisitCause};
 ghost use Rattle.bfs_index_check.specs.Compared.{pairs_of};
 ghost use Rattle.bfs_key_walk.specs.Gathered.{IsKnown, IsUnread, IsFor, AreFor, pair_with};

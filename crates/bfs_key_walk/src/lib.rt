@@ -7,4 +7,5 @@ mod gather;
 mod key;
 mod wanted;
 
+pub use bfs_nodes_walk as nodes_walk;
 pub use wanted::wanted_pairs;

@@ -14,14 +14,14 @@ ghost use Rattle.bfs_tree.specs.Trees.{Node, Tree, IsNode};
 ghost use Rattle.bfs_maps.specs.Mapped.{HasHeld};
 ghost use Rattle.bfs_maps.specs.NumberTrees.{AreNumbers};
 ghost use Rattle.bfs_maps.specs.Refused.{IsTakeFault, HasTakeCause};
-ghost use Rattle.bfs_dir.specs.Directories.{IsDirectory, names_of};
+ghost use Rattle.bfs_moves.specs.Directories.{IsDirectory, names_of};
 ghost use Rattle.bfs_shift.specs.Lists.{Lists, with_rows};
 ghost use Rattle.bfs_shift.specs.Work.{IsAtWork, IsStepped, HasDirectoryAt};
 ghost use Rattle.bfs_moves.specs.Written.{HasRowsSince};
 
 use bfs_bitmap::Bitmap;
-use bfs_dir::Dir;
 use bfs_moves::check_inode;
+use bfs_moves::dir::Dir;
 use bfs_stream_pages::MapFault;
 use bfs_super::Super;
 use bfs_txn::Edits;

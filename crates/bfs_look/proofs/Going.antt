@@ -8,7 +8,7 @@ use Rattle.bfs_bitmap.specs.Runs.{Room}
 use Rattle.bfs_pages.specs.Maps.{assoc}
 use Rattle.bfs_tree.specs.declared.call.Kind.TheVariants.{Dir}
 use Rattle.bfs_tree.specs.Trees.{Node, Tree, IsNode, is_dir}
-use Rattle.bfs_maps.specs.NumberTrees.{IsNumberAt}
+use Rattle.bfs_make.specs.NumberTrees.{IsNumberAt}
 use Rattle.bfs_shift.specs.Lists.{Lists}
 use Rattle.bfs_look.specs.Climbs.{Climbs}
 use Rattle.bfs_look.specs.Ready.{IsReady, HasNodeAt}

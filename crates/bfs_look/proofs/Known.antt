@@ -18,8 +18,8 @@ use Rattle.bfs_stream_pages.specs.Held.{stream_of}
 use Rattle.bfs_tree.specs.declared.call.Kind.{Kind}
 use Rattle.bfs_tree.specs.declared.call.Kind.TheVariants.{File, Dir, Link}
 use Rattle.bfs_tree.specs.Trees.{Node, Tree, IsNode, is_dir, is_link}
-use Rattle.bfs_maps.specs.Mapped.{HasHeld, HasReadable}
-use Rattle.bfs_maps.specs.NumberTrees.{AreNumbers, IsNumberTree}
+use Rattle.bfs_make.specs.Mapped.{HasHeld, HasReadable}
+use Rattle.bfs_make.specs.NumberTrees.{AreNumbers, IsNumberTree}
 use Rattle.bfs_sound.specs.Volumes.{Volume}
 use Rattle.bfs_sound.specs.Listings.{IsRow}
 use Rattle.bfs_sound.specs.Nodes.{HasNode}

@@ -10,3 +10,4 @@ pub mod Listed
 pub mod Claiming
 pub mod Linked
 pub mod Looked
+pub use Rattle.bfs_make.proofs.Telling

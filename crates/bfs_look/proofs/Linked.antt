@@ -21,7 +21,7 @@ use Rattle.bfs_tree.specs.Answers.{info_of}
 use Rattle.bfs_tree.specs.declared.call.Kind.{Kind}
 use Rattle.bfs_tree.specs.declared.call.Kind.TheVariants.{File, Dir, Link}
 use Rattle.bfs_tree.specs.Trees.{Node, Tree, IsNode, is_link}
-use Rattle.bfs_maps.specs.Mapped.{HasHeld}
+use Rattle.bfs_make.specs.Mapped.{HasHeld}
 use Rattle.bfs_sound.specs.Volumes.{Volume}
 use Rattle.bfs_sound.specs.Inodes.{is_short, inode_blocks}
 use Rattle.bfs_sound.specs.Nodes.{HasContent, HasTarget}

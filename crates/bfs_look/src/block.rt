@@ -3,7 +3,7 @@ ghost use Rattle.std.specs.Prelude.{◌≡◌, ◌≤◌, ℕ, List, length, Opt
 ghost use Rattle.bfs_super.specs.Conditions.{IsValid, natural};
 ghost use Rattle.bfs_txn.specs.Faults.{AreLater};
 ghost use Rattle.bfs_stream.specs.Told.{contents};
-ghost use Rattle.bfs_maps.specs.Refused.{IsUndone, HasReadCause};
+ghost use Rattle.bfs_make.specs.Refused.{IsUndone, HasReadCause};
 
 use bfs_node::TreeFault;
 use bfs_stream::GrowFault;

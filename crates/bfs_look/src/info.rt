@@ -13,7 +13,7 @@ ghost use Rattle.bfs_tree.specs.declared.call.Call.TheVariants as calls;
 ghost use Rattle.bfs_tree.specs.States.{State};
 ghost use Rattle.bfs_tree.specs.Steps.{Reads};
 ghost use Rattle.bfs_tree.specs.Trees.{Tree, Node, IsNode};
-ghost use Rattle.bfs_maps.specs.Refused.{IsUndone, HasReadCause};
+ghost use Rattle.bfs_make.specs.Refused.{IsUndone, HasReadCause};
 ghost use Rattle.bfs_shift.specs.Lists.{Lists};
 ghost use Rattle.bfs_look.specs.Infos.{is_short_in, short_target, content_size, info_in};
 ghost use Rattle.bfs_look.specs.Ready.{IsReady, HasReady};

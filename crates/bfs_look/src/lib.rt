@@ -12,6 +12,7 @@ mod rows;
 mod target;
 mod way;
 
+pub use bfs_make as make;
 pub use block::Site;
 pub use info::{info_at, stat};
 pub use listing::list;

@@ -7,7 +7,7 @@ ghost use Rattle.bfs_tree.specs.declared.call.Call.TheVariants.{Lookup};
 ghost use Rattle.bfs_tree.specs.States.{State};
 ghost use Rattle.bfs_tree.specs.Steps.{Reads};
 ghost use Rattle.bfs_tree.specs.Trees.{Tree, Node, IsNode, is_dir};
-ghost use Rattle.bfs_maps.specs.Refused.{IsUndone, HasReadCause};
+ghost use Rattle.bfs_make.specs.Refused.{IsUndone, HasReadCause};
 ghost use Rattle.bfs_shift.specs.Lists.{Lists};
 ghost use Rattle.bfs_shift.specs.Work.{HasDirectoryAt};
 ghost use Rattle.bfs_look.specs.Ready.{IsReady, HasReady};

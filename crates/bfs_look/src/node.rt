@@ -4,7 +4,7 @@ ghost use Rattle.bfs_super.specs.Conditions.{IsValid, natural};
 ghost use Rattle.bfs_super.specs.Geometry.{geometry_of};
 ghost use Rattle.bfs_txn.specs.Faults.{AreLater};
 ghost use Rattle.bfs_tree.specs.Trees.{Tree};
-ghost use Rattle.bfs_maps.specs.Refused.{IsUndone, HasReadCause};
+ghost use Rattle.bfs_make.specs.Refused.{IsUndone, HasReadCause};
 ghost use Rattle.bfs_shift.specs.Lists.{Lists};
 ghost use Rattle.bfs_look.specs.Ready.{IsReady, HasReady, HasNodeAt, IsKindOf};
 

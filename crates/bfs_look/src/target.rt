@@ -11,7 +11,7 @@ ghost use Rattle.bfs_tree.specs.declared.call.Kind.TheVariants.{Link};
 ghost use Rattle.bfs_tree.specs.States.{State};
 ghost use Rattle.bfs_tree.specs.Steps.{Reads};
 ghost use Rattle.bfs_tree.specs.Trees.{Tree, Node, IsNode};
-ghost use Rattle.bfs_maps.specs.Refused.{IsUndone, HasReadCause};
+ghost use Rattle.bfs_make.specs.Refused.{IsUndone, HasReadCause};
 ghost use Rattle.bfs_shift.specs.Lists.{Lists};
 ghost use Rattle.bfs_look.specs.Infos.{is_short_in, short_target};
 ghost use Rattle.bfs_look.specs.Ready.{IsReady, HasReady};

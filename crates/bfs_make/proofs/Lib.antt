@@ -11,3 +11,5 @@ pub mod Stripping
 pub mod Gone
 pub mod Pieces
 pub mod Telling
+pub use Rattle.bfs_maps.proofs.Sized
+pub use Rattle.bfs_maps.proofs.Looked

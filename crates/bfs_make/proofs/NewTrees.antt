@@ -12,13 +12,13 @@ use Rattle.bfs_node.specs.declared.header.Header.{Header}
 use Rattle.bfs_node.specs.declared.links.Links.{Links}
 use Rattle.bfs_node.specs.Page.{Row, HasKeys, rows_of, links_of}
 use Rattle.bfs_txn.specs.Pages.{page_at}
-use Rattle.bfs_pages.specs.Shapes.{leaf_body, leaf_shape}
-use Rattle.bfs_pages.specs.Trees.{is_place, page_in, place_of, is_page, body_of, body_in, neighbours_in, held, IsTree}
-use Rattle.bfs_pages.proofs.Good.{true-page}
-use Rattle.bfs_pages.proofs.Placed.{held_more}
-use Rattle.bfs_values.specs.Rows.{rows_in}
-use Rattle.bfs_values.specs.Reached.{AreReached, IsWholeTree, AllMean}
-use Rattle.bfs_values.proofs.Rows.{rows_those}
+use Rattle.bfs_maps.specs.Shapes.{leaf_body, leaf_shape}
+use Rattle.bfs_maps.specs.Trees.{is_place, page_in, place_of, is_page, body_of, body_in, neighbours_in, held, IsTree}
+use Rattle.bfs_maps.proofs.Good.{true-page}
+use Rattle.bfs_maps.proofs.Placed.{held_more}
+use Rattle.bfs_maps.specs.Rows.{rows_in}
+use Rattle.bfs_maps.specs.Reached.{AreReached, IsWholeTree, AllMean}
+use Rattle.bfs_maps.proofs.Rows.{rows_those}
 use Rattle.bfs_make.specs.Trees.{IsEmptyLeaf, first_header}
 
 few_codes : (kind : KeyKind) → IsTreeKind kind → code_of kind ≤ 4

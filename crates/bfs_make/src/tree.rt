@@ -2,8 +2,8 @@
 ghost use Rattle.std.specs.Prelude.{◌≡◌, [], length, IfOk};
 ghost use Rattle.bfs_base.specs.Keys.{IsTreeKind};
 ghost use Rattle.bfs_node.specs.Header.{header_at};
-ghost use Rattle.bfs_values.specs.Reached.{IsWholeTree};
-ghost use Rattle.bfs_values.specs.Rows.{rows_in};
+ghost use Rattle.bfs_maps.specs.Reached.{IsWholeTree};
+ghost use Rattle.bfs_maps.specs.Rows.{rows_in};
 ghost use Rattle.bfs_make.specs.Trees.{IsEmptyLeaf, first_header};
 
 use bfs_node::{Header, KeyKind, PAGE, blank, data_type};

@@ -6,3 +6,6 @@ pub mod Between
 pub mod MapLaws
 pub mod Looked
 pub mod Putting
+pub use Rattle.bfs_values.proofs.Rows
+pub use Rattle.bfs_pages.proofs.Placed
+pub use Rattle.bfs_pages.proofs.Good

@@ -4,3 +4,7 @@ pub mod Refused
 pub mod Laws
 pub use Rattle.bfs_stream_pages.specs.MovesLaws
 pub use Rattle.bfs_stream_pages.specs.Moves
+pub use Rattle.bfs_values.specs.Reached
+pub use Rattle.bfs_values.specs.Rows
+pub use Rattle.bfs_pages.specs.Shapes
+pub use Rattle.bfs_pages.specs.Trees

@@ -18,7 +18,7 @@ use Rattle.bfs_stream.proofs.Doubles.{times-append}
 use Rattle.bfs_stream_pages.specs.Moves.{KeepsInode, Moved}
 use Rattle.bfs_stream_pages.specs.MovesLaws.{whole_moves}
 use Rattle.bfs_tree.specs.Trees.{Tree}
-use Rattle.bfs_maps.specs.Mapped.{StreamNow}
+use Rattle.bfs_make.specs.Mapped.{StreamNow}
 use Rattle.bfs_sound.specs.Volumes.{Volume, sizes, IsMarked}
 use Rattle.bfs_sound.specs.Inodes.{inode_blocks}
 use Rattle.bfs_sound.specs.Owners.{reach}

@@ -18,8 +18,8 @@ use Rattle.bfs_stream_pages.specs.GoesLaws.{readable}
 use Rattle.bfs_stream_pages.specs.Held.{stream_of}
 use Rattle.bfs_tree.specs.Trees.{Tree}
 use Rattle.bfs_values.specs.Rows.{rows_in}
-use Rattle.bfs_maps.specs.Mapped.{HasHeld, HasReadable}
-use Rattle.bfs_maps.specs.NumberTrees.{IsNumber, HoldsNumber, IsNumberAt}
+use Rattle.bfs_make.specs.Mapped.{HasHeld, HasReadable}
+use Rattle.bfs_make.specs.NumberTrees.{IsNumber, HoldsNumber, IsNumberAt}
 use Rattle.bfs_sound.specs.Volumes.{Volume}
 use Rattle.bfs_sound.specs.Inodes.{content, inode_blocks, inodes_of, index_directory, rows_of, is_proper}
 use Rattle.bfs_sound.specs.Listings.{IsIndex, HasIndexDirectory}

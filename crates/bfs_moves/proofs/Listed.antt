@@ -26,8 +26,8 @@ use Rattle.bfs_tree.specs.Listings.{pair_cmp}
 use Rattle.bfs_tree.specs.Trees.{Node, Tree, is_file}
 use Rattle.bfs_values.specs.Rows.{rows_in}
 use Rattle.bfs_values.specs.Reached.{IsWholeTree, AreWritten}
-use Rattle.bfs_maps.specs.Mapped.{HasHeld}
-use Rattle.bfs_maps.specs.Refused.{IsUndone}
+use Rattle.bfs_make.specs.Mapped.{HasHeld}
+use Rattle.bfs_make.specs.Refused.{IsUndone}
 use Rattle.bfs_index.specs.Indices.{IsIndex, HasWith, HasWithout}
 use Rattle.bfs_index.specs.Refused.{IsPairFault}
 use Rattle.bfs_index.proofs.Rising.{added_written, taken_written}

@@ -25,9 +25,9 @@ use Rattle.bfs_stream_pages.specs.Steps.{IsUndamaged}
 use Rattle.bfs_tree.specs.declared.call.Kind.{Kind}
 use Rattle.bfs_tree.specs.declared.call.Kind.TheVariants.{Dir}
 use Rattle.bfs_tree.specs.Trees.{Node, Tree, IsNode}
-use Rattle.bfs_maps.specs.Mapped.{HasHeld, IsMap}
-use Rattle.bfs_maps.specs.NumberTrees.{AreNumbers}
-use Rattle.bfs_maps.specs.Refused.{IsUndone, IsPutFault}
+use Rattle.bfs_make.specs.Mapped.{HasHeld, IsMap}
+use Rattle.bfs_make.specs.NumberTrees.{AreNumbers}
+use Rattle.bfs_make.specs.Refused.{IsUndone, IsPutFault}
 use Rattle.bfs_sound.specs.Volumes.{Volume, IsMarked}
 use Rattle.bfs_sound.specs.Inodes.{is_short, inode_blocks}
 use Rattle.bfs_sound.specs.Owners.{node_blocks, file_data, reach}

@@ -17,7 +17,7 @@ use Rattle.bfs_stream.proofs.Doubles.{times-append}
 use Rattle.bfs_stream_pages.specs.Moves.{Moved}
 use Rattle.bfs_stream_pages.specs.MovesLaws.{whole_moves}
 use Rattle.bfs_tree.specs.Trees.{Node, Tree, is_file}
-use Rattle.bfs_maps.specs.Mapped.{HasHeld}
+use Rattle.bfs_make.specs.Mapped.{HasHeld}
 use Rattle.bfs_sound.specs.Volumes.{Volume, sizes, bitmap_blocks, IsMarked}
 use Rattle.bfs_sound.specs.Inodes.{inode_blocks}
 use Rattle.bfs_sound.specs.Owners.{node_blocks, file_data, reach}

@@ -4,3 +4,4 @@ pub mod Grown
 pub mod Laws
 pub mod Statuses
 pub use Rattle.bfs_index.specs.Refused
+pub use Rattle.bfs_dir.specs.Directories

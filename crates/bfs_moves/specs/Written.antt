@@ -20,8 +20,8 @@ use Rattle.bfs_index.specs.Refused.{IsPairFault}
 use Rattle.bfs_stream.specs.Told.{contents}
 use Rattle.bfs_tree.specs.Listings.{pair_cmp}
 use Rattle.bfs_tree.specs.Trees.{Tree}
-use Rattle.bfs_maps.specs.Mapped.{StreamNow}
-use Rattle.bfs_maps.specs.NumberTrees.{IsTreeOf}
+use Rattle.bfs_make.specs.Mapped.{StreamNow}
+use Rattle.bfs_make.specs.NumberTrees.{IsTreeOf}
 use Rattle.bfs_shift.specs.Lists.{Lists}
 use Rattle.bfs_shift.specs.Stocked.{HasWords}
 use Rattle.bfs_shift.specs.Work.{IsAtWork}

@@ -7,7 +7,7 @@ ghost use Rattle.bfs_txn.specs.Faults.{AreLater, IsCaused};
 ghost use Rattle.bfs_txn.specs.Told.{StaysChanged};
 ghost use Rattle.bfs_stream.specs.Told.{contents};
 ghost use Rattle.bfs_stream.specs.declared.fault.GrowFault.TheVariants as grow;
-ghost use Rattle.bfs_maps.specs.Refused.{IsUndone, HasPutCause, HasReadCause};
+ghost use Rattle.bfs_make.specs.Refused.{IsUndone, HasPutCause, HasReadCause};
 ghost use Rattle.bfs_index.specs.Refused.{HasPairCause};
 ghost use Rattle.bfs_shift.specs.Stocked.{HasWords};
 ghost use Rattle.bfs_moves.specs.Written.{IsRestamped, HasBlockWords};

@@ -16,6 +16,7 @@ mod stamp;
 mod status;
 mod take;
 
+pub use bfs_dir as dir;
 pub use find::find_index;
 pub use grown::{make_directory, make_long_link};
 pub use inode::{buffer, check_inode, load_inode};

@@ -11,7 +11,7 @@ ghost use Rattle.bfs_pages.specs.Maps.{assoc};
 ghost use Rattle.bfs_stream.specs.Grown.{IsOfVolume};
 ghost use Rattle.bfs_stream.specs.Sizes.{sizes_of};
 ghost use Rattle.bfs_tree.specs.Trees.{Tree};
-ghost use Rattle.bfs_maps.specs.NumberTrees.{IsNumberAt};
+ghost use Rattle.bfs_make.specs.NumberTrees.{IsNumberAt};
 ghost use Rattle.bfs_index.specs.Refused.{HasPairCause};
 ghost use Rattle.bfs_shift.specs.Lists.{Lists, with_pairs};
 ghost use Rattle.bfs_shift.specs.Work.{IsAtWork, IsStepped};

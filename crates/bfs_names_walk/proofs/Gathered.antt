@@ -17,7 +17,7 @@ use Rattle.bfs_walk.specs.Wrong.{IsWrongTree}
 use Rattle.bfs_tree_check.specs.Amiss.{IsAmissIn}
 use Rattle.bfs_tree_check.proofs.Ascending.{leaf_is}
 use Rattle.bfs_tree_check.proofs.Joined.{all_join}
-use Rattle.bfs_tree_walk.specs.Plain.{IsNumber, ArePlain}
+use Rattle.bfs_value_walk.specs.Plain.{IsNumber, ArePlain}
 use Rattle.bfs_names_walk.specs.declared.row.NameRow.{NameRow}
 use Rattle.bfs_names_walk.specs.Rows.{as_rows}
 

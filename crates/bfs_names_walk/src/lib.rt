@@ -10,6 +10,3 @@ mod walk;
 
 pub use row::NameRow;
 pub use walk::walk_rows;
-
-#[cfg(test)]
-mod tests;

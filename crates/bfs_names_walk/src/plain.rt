@@ -1,6 +1,6 @@
 // Rows whose values are plain numbers.
 ghost use Rattle.std.specs.Prelude.{◌≡◌, true};
-ghost use Rattle.bfs_tree_walk.specs.Plain.{IsNumber, ArePlain};
+ghost use Rattle.bfs_value_walk.specs.Plain.{IsNumber, ArePlain};
 ghost use Rattle.bfs_values.specs.Links.{link_in};
 ghost use Rattle.bfs_names_walk.specs.Rows.{as_rows};
 

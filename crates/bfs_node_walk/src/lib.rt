@@ -8,11 +8,9 @@ mod names;
 mod node;
 mod row;
 
+pub use bfs_names_walk as names_walk;
 pub use fault::{page_fault, tree_fault};
 pub use listing::check_listing;
 pub use names::{read_names, size_in};
 pub use node::{VisitedNode, name_fault, visit_child, visit_root};
 pub use row::check_rows;
-
-#[cfg(test)]
-mod tests;

@@ -9,8 +9,8 @@ use Rattle.bfs_pages.specs.Ways.{KeysAscend}
 use Rattle.bfs_pages.proofs.KeyOrder.{same_itself, greater_not_same}
 use Rattle.bfs_sound.specs.Inodes.{is_proper}
 use Rattle.bfs_sound.specs.Owners.{In}
-use Rattle.bfs_names_walk.specs.Rows.{as_rows}
-use Rattle.bfs_names_walk.specs.declared.row.NameRow.{NameRow}
+use Rattle.bfs_node_walk.specs.Rows.{as_rows}
+use Rattle.bfs_node_walk.specs.NameRow.{NameRow}
 use Rattle.bfs_node_walk.specs.Listed.{proper, NamesBlock}
 use Rattle.bfs_tour.specs.Tours.{Visit}
 use Rattle.bfs_tour.specs.Touring.{Lead, lead_by}

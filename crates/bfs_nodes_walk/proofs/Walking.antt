@@ -32,8 +32,8 @@ use Rattle.bfs_inode_walk.specs.Records.{record_in, HasParts}
 use Rattle.bfs_inode_walk.proofs.Recorded.{record_is}
 use Rattle.bfs_owner.specs.Owned.{blocks_of_places}
 use Rattle.bfs_owner.specs.declared.place.Place.{Place}
-use Rattle.bfs_names_walk.specs.Rows.{as_rows}
-use Rattle.bfs_names_walk.specs.declared.row.NameRow.{NameRow}
+use Rattle.bfs_node_walk.specs.Rows.{as_rows}
+use Rattle.bfs_node_walk.specs.NameRow.{NameRow}
 use Rattle.bfs_node_walk.specs.Listed.{proper, NamesBlock}
 use Rattle.bfs_node_walk.specs.Nodes.{AreRowsOf, IsNamedBy}
 use Rattle.bfs_tour.specs.Tours.{Visit}

@@ -13,7 +13,7 @@ use Rattle.bfs_inode_walk.specs.Visited.{role_blocks}
 use Rattle.bfs_inode_walk.specs.declared.fault.VisitFault.{VisitFault}
 use Rattle.bfs_inode_walk.specs.declared.fault.VisitFault.TheVariants.{Wrong, Taken, Block}
 use Rattle.bfs_owner.specs.declared.place.Place.{Place}
-use Rattle.bfs_names_walk.specs.declared.row.NameRow.{NameRow}
+use Rattle.bfs_node_walk.specs.NameRow.{NameRow}
 use Rattle.bfs_node_walk.specs.Listed.{NamesBlock}
 use Rattle.bfs_tour.specs.Tours.{Visit}
 use Rattle.bfs_tour.specs.Touring.{Lead, lead_by}

@@ -1,3 +1,4 @@
 pub mod Clashes
 pub mod Leads
 pub mod Walks
+pub use Rattle.bfs_node_walk.specs.Listed

@@ -9,7 +9,7 @@ ghost use Rattle.bfs_nodes_walk.specs.Leads.{leads_in, IsRowOf};
 
 use bfs_finding::Finding;
 use bfs_inode_walk::VisitFault;
-use bfs_names_walk::NameRow;
+use bfs_node_walk::names_walk::NameRow;
 use bfs_tree::Bytes;
 use bfs_txn::BlockFault;
 use std::alloc::Global;

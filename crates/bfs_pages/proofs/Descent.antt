@@ -1,6 +1,6 @@
 -- The page on the way of a key, and the next one.
 use Rattle.std.proofs.Common.{◌≡◌, ◌≤◌, ◌+◌, ℕ, zero, suc, List, Some, Bool, true, false, cond, refl, ap, sym, ◌∙◌, subst, arith}
-use Rattle.bfs_base.specs.declared.kind.KeyKind.{KeyKind}
+use Rattle.bfs_node.specs.BaseKeyKind.{KeyKind}
 use Rattle.bfs_node.specs.Page.{Row}
 use Rattle.bfs_pages.specs.Order.{Key, at_most}
 use Rattle.bfs_pages.specs.Shapes.{Shape, Shapes, leaf_shape, node_shape, last_shape, more_shapes, place, children_of, last_child, IsDeep, Stands}

@@ -1,6 +1,6 @@
 -- The test of a page, and what it says.
 use Rattle.std.proofs.Common.{◌≡◌, ◌≤◌, ◌<◌, ◌+◌, ℕ, zero, suc, List, length, Bool, true, false, ◌==◌, ◌&&◌, nat_le, refl, sym, subst, arith}
-use Rattle.bfs_base.specs.declared.kind.KeyKind.{KeyKind}
+use Rattle.bfs_node.specs.BaseKeyKind.{KeyKind}
 use Rattle.bfs_node.specs.Faults.{IsPageRefusal}
 use Rattle.bfs_node.specs.Page.{rows_of, HasLayout, HasKeys, IsPage, HasEnd, HasBounds, HasLastEnd, taken_by, count_at, key_bytes_at, start_at, end_at, least_key, most_key}
 use Rattle.bfs_node.specs.declared.fault.PageFault.{PageFault}

@@ -3,8 +3,8 @@ use Rattle.std.proofs.Common.{◌≡◌, ℤ, Bool, true, false, cond, refl, ap,
 use Rattle.std.specs.Ordering.{is_lt, is_eq, ordering_reverse}
 use Rattle.std.specs.declared.cmp.Ordering.{Ordering}
 use Rattle.std.specs.declared.cmp.Ordering.TheVariants.{Less, Equal, Greater}
-use Rattle.bfs_base.specs.declared.kind.KeyKind.{KeyKind}
-use Rattle.bfs_base.specs.Keys.{key_cmp}
+use Rattle.bfs_node.specs.BaseKeyKind.{KeyKind}
+use Rattle.bfs_node.specs.Keys.{key_cmp}
 use Rattle.bfs_node.proofs.Order.{key_cmp_total}
 use Rattle.bfs_pages.specs.Order.{Key, comes_before, at_most, same_keys}
 use Rattle.bfs_pages.specs.Shapes.{Entry, a_row, a_bound, key_in, IsAbove, Precedes}

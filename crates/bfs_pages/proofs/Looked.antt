@@ -1,7 +1,7 @@
 -- The value at a key of a tree.
 use Rattle.std.proofs.Common.{◌≡◌, ℕ, List, [], ◌∷◌, ◌++◌, Some, None, cond, refl, ap, ◌∙◌}
 use Rattle.std.specs.List.{AllByRecursion}
-use Rattle.bfs_base.specs.declared.kind.KeyKind.{KeyKind}
+use Rattle.bfs_node.specs.BaseKeyKind.{KeyKind}
 use Rattle.bfs_node.specs.Page.{Row}
 use Rattle.bfs_pages.specs.Order.{Key, same_keys}
 use Rattle.bfs_pages.specs.Maps.{assoc}

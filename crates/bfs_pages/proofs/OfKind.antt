@@ -1,8 +1,8 @@
 -- Pages of a tree are of their kinds.
 use Rattle.std.proofs.Common.{◌≡◌, ◌≤◌, ◌<◌, ◌+◌, ℕ, ℤ, pos, negsuc, zero, suc, List, [], ◌∷◌, ◌++◌, length, Option, Some, None, IfSome, Bool, true, false, cond, ◌==◌, refl, ap, ap₂, sym, ◌∙◌, subst, arith, inl, inr, nat_le, ◌≢◌}
 use Rattle.std.specs.List.{AllByRecursion}
-use Rattle.bfs_base.specs.Lists.{times}
-use Rattle.bfs_base.specs.declared.kind.KeyKind.{KeyKind}
+use Rattle.bfs_node.specs.Lists.{times}
+use Rattle.bfs_node.specs.BaseKeyKind.{KeyKind}
 use Rattle.bfs_node.specs.Page.{Row, row_in, value_of, rows_of, links_of}
 use Rattle.bfs_pages.specs.Order.{Key, comes_before, at_most}
 use Rattle.bfs_pages.specs.Maps.{assoc}

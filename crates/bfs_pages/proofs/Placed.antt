@@ -1,6 +1,6 @@
 -- Where pages of a stream begin.
 use Rattle.std.proofs.Common.{◌≡◌, ◌≤◌, ◌+◌, ◌%◌, ℕ, [], ◌∷◌, Bool, true, false, cond, refl, ap, arith}
-use Rattle.bfs_base.specs.Lists.{times}
+use Rattle.bfs_node.specs.Lists.{times}
 use Rattle.bfs_pages.specs.Trees.{held, is_place}
 
 pub same_held : (x m n : ℕ) → m ≡ n → held m x ≡ held n x

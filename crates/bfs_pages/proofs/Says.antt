@@ -1,6 +1,6 @@
 -- What a page says, by its fields.
 use Rattle.std.proofs.Common.{◌≡◌, ◌≤◌, ℕ, ℤ, pos, negsuc, zero, suc, List, Some, None, cond, refl, ap, ◌∙◌, arith}
-use Rattle.bfs_base.specs.declared.kind.KeyKind.{KeyKind}
+use Rattle.bfs_node.specs.BaseKeyKind.{KeyKind}
 use Rattle.bfs_node.specs.Page.{Row, IsPage, rows_of, links_of}
 use Rattle.bfs_pages.specs.Shapes.{leaf_body, inner_body}
 use Rattle.bfs_pages.specs.Trees.{place_of, body_of, body_in, children_in}

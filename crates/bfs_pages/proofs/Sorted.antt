@@ -3,8 +3,8 @@ use Rattle.std.proofs.Common.{◌≡◌, ◌≤◌, ◌<◌, ◌+◌, ℕ, ℤ, 
 use Rattle.std.specs.List.{AllByRecursion}
 use Rattle.std.specs.Ordering.{is_lt}
 use Rattle.std.specs.declared.cmp.Ordering.TheVariants.{Less}
-use Rattle.bfs_base.specs.Keys.{key_cmp}
-use Rattle.bfs_base.specs.declared.kind.KeyKind.{KeyKind}
+use Rattle.bfs_node.specs.Keys.{key_cmp}
+use Rattle.bfs_node.specs.BaseKeyKind.{KeyKind}
 use Rattle.bfs_node.specs.Page.{Row, row_in, value_of}
 use Rattle.bfs_node.specs.Search.{key_at, IsPlace, Ascends as IndexAscends}
 use Rattle.bfs_pages.specs.Order.{Key, comes_before, at_most, same_keys}

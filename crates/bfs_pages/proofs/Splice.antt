@@ -1,8 +1,8 @@
 -- Children in the place of one: entries, depth, pages, leaves.
 use Rattle.std.proofs.Common.{◌≡◌, ◌≤◌, ◌+◌, ℕ, List, [], ◌∷◌, ◌++◌, Option, Bool, true, false, cond, refl, ap, sym, ◌∙◌, arith, append_assoc, append-nil}
 use Rattle.std.specs.List.{AllByRecursion}
-use Rattle.bfs_base.specs.Lists.{times}
-use Rattle.bfs_base.specs.declared.kind.KeyKind.{KeyKind}
+use Rattle.bfs_node.specs.Lists.{times}
+use Rattle.bfs_node.specs.BaseKeyKind.{KeyKind}
 use Rattle.bfs_pages.specs.Order.{Key, comes_before, at_most}
 use Rattle.bfs_pages.specs.Shapes.{Body, Shape, Shapes, leaf_shape, node_shape, last_shape, more_shapes, met_by, met_by_all, leaves_of, leaves_all, AreDeep, Stands, StandAll, Entry, a_bound, entries_of, entries_all, IsAbove, Precedes, AscendAll}
 use Rattle.bfs_pages.specs.Ways.{child_for, joined, spliced, before, behind, leaves_before, leaves_behind}

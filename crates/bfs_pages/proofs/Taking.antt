@@ -1,6 +1,6 @@
 -- A page is taken.
 use Rattle.std.proofs.Common.{◌≡◌, ◌≢◌, ◌≤◌, ◌-◌, ◌%◌, ℕ, List, length, Some, false, cond, ◌==◌, refl, ap, sym, ◌∙◌, subst, arith, inl, inr, ◌⊎◌}
-use Rattle.bfs_base.specs.declared.kind.KeyKind.{KeyKind}
+use Rattle.bfs_node.specs.BaseKeyKind.{KeyKind}
 use Rattle.bfs_node.specs.declared.header.Header.{Header}
 use Rattle.bfs_pages.specs.Answers.{IsChild, IsLink, IsHeaderPage}
 use Rattle.bfs_pages.specs.Changes.{Same}

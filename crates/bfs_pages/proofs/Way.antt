@@ -1,8 +1,8 @@
 -- Another tree so many levels down the way of a key.
 use Rattle.std.proofs.Common.{◌≡◌, ◌≤◌, ◌+◌, ℕ, zero, suc, List, [], ◌∷◌, ◌++◌, Option, Some, Bool, true, false, cond, refl, ap, ap₂, sym, ◌∙◌, subst, arith, append_assoc, append-nil}
 use Rattle.std.specs.List.{AllByRecursion}
-use Rattle.bfs_base.specs.Lists.{times}
-use Rattle.bfs_base.specs.declared.kind.KeyKind.{KeyKind}
+use Rattle.bfs_node.specs.Lists.{times}
+use Rattle.bfs_node.specs.BaseKeyKind.{KeyKind}
 use Rattle.bfs_pages.specs.Order.{Key, at_most}
 use Rattle.bfs_pages.specs.Shapes.{Body, inner_body, Shape, Shapes, leaf_shape, node_shape, last_shape, more_shapes, place, met_by, met_by_all, leaves_of, children_of, last_child, IsDeep, AreDeep, Stands, StandAll, entries_in, entries_of, entries_all, IsAbove, AscendAll}
 use Rattle.bfs_pages.specs.Ways.{child_for, joined, spliced, before, behind, leaves_before, leaves_behind, under, instead, before_way, behind_way, leaves_before_way, leaves_behind_way}

@@ -1,7 +1,7 @@
 -- What the calls on pages do to what the pages say.
 use Rattle.std.specs.Prelude.{◌≡◌, List, ◌≢◌, ◌≤◌, ◌+◌, ◌%◌, ℕ, Option, Some, None, ◌⊎◌}
-use Rattle.bfs_base.specs.Lists.{times}
-use Rattle.bfs_base.specs.declared.kind.KeyKind.{KeyKind}
+use Rattle.bfs_node.specs.Lists.{times}
+use Rattle.bfs_node.specs.BaseKeyKind.{KeyKind}
 use Rattle.bfs_pages.specs.Order.{Key}
 use Rattle.bfs_pages.specs.Shapes.{Body, leaf_body, inner_body}
 use Rattle.bfs_pages.specs.Ways.{pick_of}

@@ -6,3 +6,5 @@ pub mod Shapes
 pub mod Trees
 pub mod Ways
 pub mod Writes
+pub use Rattle.bfs_txn.specs.Faults
+pub use Rattle.bfs_txn.specs.Pages

@@ -1,6 +1,6 @@
 -- A list of rows as a sorted map from keys to values.
 use Rattle.std.specs.Prelude.{ℤ, List, [], ◌∷◌, Option, Some, None, if◌then◌else◌}
-use Rattle.bfs_base.specs.declared.kind.KeyKind.{KeyKind}
+use Rattle.bfs_node.specs.BaseKeyKind.{KeyKind}
 use Rattle.bfs_node.specs.Page.{Row}
 use Rattle.bfs_pages.specs.Order.{Key, at_most, same_keys}
 

@@ -1,8 +1,8 @@
 -- Tests on the order of keys.
 use Rattle.std.specs.Prelude.{ℕ, List, Bool, true, false, if◌then◌else◌}
 use Rattle.std.specs.Ordering.{is_lt, is_eq}
-use Rattle.bfs_base.specs.declared.kind.KeyKind.{KeyKind}
-use Rattle.bfs_base.specs.Keys.{key_cmp}
+use Rattle.bfs_node.specs.BaseKeyKind.{KeyKind}
+use Rattle.bfs_node.specs.Keys.{key_cmp}
 
 -- the bytes of a key
 abbrev pub Key : Type 0

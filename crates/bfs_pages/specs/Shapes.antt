@@ -1,7 +1,7 @@
 -- A tree of pages as data: its rows, its pages, and what is met from left to right.
 use Rattle.std.specs.Prelude.{◌≡◌, ℕ, ℤ, zero, suc, List, [], ◌∷◌, ◌++◌, Option, Some, true}
 use Rattle.std.specs.List.{AllByRecursion}
-use Rattle.bfs_base.specs.declared.kind.KeyKind.{KeyKind}
+use Rattle.bfs_node.specs.BaseKeyKind.{KeyKind}
 use Rattle.bfs_node.specs.Page.{Row}
 use Rattle.bfs_pages.specs.Order.{Key, comes_before, at_most}
 

@@ -1,8 +1,8 @@
 -- What the pages of a stream say, and that a tree stands there. A place is a byte offset in the stream; page 0 is the
 -- header, so the place 0 stands for none.
 use Rattle.std.specs.Prelude.{◌≡◌, ◌≤◌, ◌+◌, ◌-◌, ◌%◌, ℕ, ℤ, pos, negsuc, zero, suc, List, [], ◌∷◌, Option, Some, None, Bool, true, ◌&&◌, ◌==◌, nat_le, if◌then◌else◌, length}
-use Rattle.bfs_base.specs.Lists.{times}
-use Rattle.bfs_base.specs.declared.kind.KeyKind.{KeyKind}
+use Rattle.bfs_node.specs.Lists.{times}
+use Rattle.bfs_node.specs.BaseKeyKind.{KeyKind}
 use Rattle.bfs_node.specs.Header.{header_at, code_of, IsHeader}
 use Rattle.bfs_node.specs.declared.header.Header.{Header}
 use Rattle.bfs_node.specs.Page.{Row, rows_of, links_of, taken_by, count_at, key_bytes_at, start_at, end_at, least_key, most_key}

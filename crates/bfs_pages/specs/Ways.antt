@@ -1,7 +1,7 @@
 -- A tree of pages that grows: the way of a key, and other children in the place of one.
 use Rattle.std.specs.Prelude.{◌≡◌, ℕ, ℤ, zero, suc, List, [], ◌∷◌, ◌++◌, true, false, if◌then◌else◌}
 use Rattle.std.specs.List.{AllByRecursion}
-use Rattle.bfs_base.specs.declared.kind.KeyKind.{KeyKind}
+use Rattle.bfs_node.specs.BaseKeyKind.{KeyKind}
 use Rattle.bfs_node.specs.Page.{Row}
 use Rattle.bfs_pages.specs.Order.{Key, comes_before, at_most}
 use Rattle.bfs_pages.specs.Shapes.{Shape, Shapes, leaf_shape, node_shape, last_shape, more_shapes, Entry, a_row, a_bound, entries_of, entries_all, leaves_of, leaves_all}

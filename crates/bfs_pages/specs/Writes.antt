@@ -4,8 +4,8 @@ use Rattle.bfs_node.specs.declared.header.Header.{Header}
 use Rattle.bfs_node.specs.declared.fault.TreeFault.{TreeFault}
 use Rattle.bfs_node.specs.declared.fault.TreeFault.TheVariants.{Exists, Absent, Damaged, Pages, NoMemory}
 use Rattle.bfs_txn.specs.Faults.{Counts, AreLater}
-use Rattle.bfs_base.specs.Lists.{times}
-use Rattle.bfs_base.specs.declared.kind.KeyKind.{KeyKind}
+use Rattle.bfs_node.specs.Lists.{times}
+use Rattle.bfs_node.specs.BaseKeyKind.{KeyKind}
 use Rattle.bfs_pages.specs.Changes.{Taken}
 use Rattle.bfs_pages.specs.Trees.{page_in, header_in, state_of}
 

@@ -1,6 +1,6 @@
 // Reads and writes the leaf beside another, where there is one.
 ghost use Rattle.std.specs.Prelude.{◌≡◌, ◌≢◌, ◌≤◌, ◌+◌, length, OnOk, IfErr, IfSome};
-ghost use Rattle.bfs_base.specs.Keys.{IsTreeKind};
+ghost use Rattle.bfs_node.specs.Keys.{IsTreeKind};
 ghost use Rattle.bfs_node.specs.Page.{IsPage};
 ghost use Rattle.bfs_node.specs.declared.fault.PageKind.TheVariants.{Leaf};
 ghost use Rattle.bfs_pages.specs.Answers.{IsLink, IsLeafPage, IsUnread, IsJustRead, IsAt};

@@ -1,6 +1,6 @@
 // Looks a key up in a tree.
 ghost use Rattle.std.specs.Prelude.{◌≡◌, ◌≤◌, ◌<◌, ◌+◌, ℕ, List, Some, length, OnOk, IfOk, IfErr, IfSome, MatchResult};
-ghost use Rattle.bfs_base.specs.Keys.{IsTreeKind};
+ghost use Rattle.bfs_node.specs.Keys.{IsTreeKind};
 ghost use Rattle.bfs_node.specs.Page.{IsPage};
 ghost use Rattle.bfs_node.specs.Search.{IsSought};
 ghost use Rattle.bfs_txn.specs.Faults.{AreLater};

@@ -12,6 +12,7 @@ mod take;
 mod write;
 
 pub use beside::{read_beside, write_beside};
+pub use bfs_txn as txn;
 pub use finding::{Found, find, leaf_for};
 pub use look::{child_for, child_link, look_up, place_for};
 pub use memory::MemPages;

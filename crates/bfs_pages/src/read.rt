@@ -1,6 +1,6 @@
 // Reads the pages of a tree.
 ghost use Rattle.std.specs.Prelude.{◌≡◌, ◌≤◌, ◌<◌, ◌+◌, ◌↔◌, ℕ, pos, negsuc, length, OnOk, IfOk, IfErr, IfSome, IsTrue};
-ghost use Rattle.bfs_base.specs.Keys.{IsTreeKind};
+ghost use Rattle.bfs_node.specs.Keys.{IsTreeKind};
 ghost use Rattle.bfs_node.specs.Header.{IsHeader};
 ghost use Rattle.bfs_node.specs.Page.{IsPage, rows_of, row_in, value_of, links_of};
 ghost use Rattle.bfs_txn.specs.Faults.{AreLater};

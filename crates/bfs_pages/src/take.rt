@@ -1,6 +1,6 @@
 // Takes pages for a tree: the first free one, or where there is none, a new one at the end.
 ghost use Rattle.std.specs.Prelude.{◌≡◌, ◌≢◌, ◌≤◌, ◌<◌, ◌+◌, ℕ, List, Some, length, OnOk, IfOk, IfErr, IfSome, MatchOption};
-ghost use Rattle.bfs_base.specs.Keys.{IsTreeKind};
+ghost use Rattle.bfs_node.specs.Keys.{IsTreeKind};
 ghost use Rattle.bfs_pages.specs.Answers.{IsChild, IsLink, IsHeaderFor, IsRefused, IsBlamed, IsTurned, IsSpared};
 ghost use Rattle.bfs_pages.specs.Shapes.{Shape};
 ghost use Rattle.bfs_pages.specs.Trees.{IsTree, IsTreeHeader, header_in, page_in, place_of, free_in};

@@ -8,8 +8,8 @@ use Rattle.bfs_sound.specs.Owners.{node_blocks, index_blocks, fixed_blocks}
 use Rattle.bfs_finding.specs.Ways.{Way, to_system, to_indices, to_index, IsOwned, Arrives, blocks_by}
 use Rattle.bfs_tour.specs.Tours.{Visit, claimed}
 use Rattle.bfs_nodes_walk.specs.Walks.{IsNodeWay}
-use Rattle.bfs_attrs_walk.specs.Passes.{IsAttributeWay, IsOwnerFound}
-use Rattle.bfs_index_walk.specs.Indices.{IsIndexOwner}
+use Rattle.bfs_indices_check.specs.Passes.{IsAttributeWay, IsOwnerFound}
+use Rattle.bfs_indices_check.specs.Indices.{IsIndexOwner}
 
 -- a way to the system, the index directory or an index
 abbrev pub is_apart : Way → Bool

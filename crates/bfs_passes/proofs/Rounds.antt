@@ -14,10 +14,10 @@ use Rattle.bfs_finding.specs.declared.finding.Finding.TheVariants.{IndexMissing}
 use Rattle.bfs_tour.specs.Touring.{RoundEnds}
 use Rattle.bfs_tour.specs.Tours.{Visit, claimed, IsRound, RoundIsUnbroken, TourReaches, Toured}
 use Rattle.bfs_nodes_walk.specs.declared.lead.NodeLead.{NodeLead}
-use Rattle.bfs_index_walk.specs.declared.found.FoundIndex.{FoundIndex}
-use Rattle.bfs_index_walk.specs.Indices.{kinds_of}
-use Rattle.bfs_index_walk.specs.Laws.{system_blocks, WalkIsTour, WalkStands}
-use Rattle.bfs_index_walk.proofs.Standing.{once, is_there, same_claims, rowless}
+use Rattle.bfs_indices_check.specs.FoundIndex.{FoundIndex}
+use Rattle.bfs_indices_check.specs.Indices.{kinds_of}
+use Rattle.bfs_indices_check.specs.Laws.{system_blocks, WalkIsTour, WalkStands}
+use Rattle.bfs_indices_check.proofs.Standing.{once, is_there, same_claims, rowless}
 use Rattle.bfs_indices_check.specs.Listed.{IsWalkedWhole}
 use Rattle.bfs_passes.specs.Passed.{IsGoneRound, IsListedRound, IsSoundRound, IsPassed, tree_of}
 use Rattle.bfs_passes.specs.declared.passes.Summary.{Summary}

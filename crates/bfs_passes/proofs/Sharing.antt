@@ -10,9 +10,9 @@ use Rattle.bfs_inode_walk.specs.Visited.{IsUntaken, IsClaimedFirst, IsTakenFirst
 use Rattle.bfs_inode_walk.specs.declared.fault.VisitFault.{VisitFault}
 use Rattle.bfs_inode_walk.specs.declared.fault.VisitFault.TheVariants.{Wrong, Taken, Block}
 use Rattle.bfs_nodes_walk.specs.Walks.{IsNodeWay}
-use Rattle.bfs_attrs_walk.specs.Passes.{IsAttributeWay}
-use Rattle.bfs_index_walk.specs.Indices.{IsIndexWay}
-use Rattle.bfs_index_walk.specs.Laws.{system_blocks}
+use Rattle.bfs_indices_check.specs.Passes.{IsAttributeWay}
+use Rattle.bfs_indices_check.specs.Indices.{IsIndexWay}
+use Rattle.bfs_indices_check.specs.Laws.{system_blocks}
 use Rattle.bfs_passes.specs.Passed.{IsSharedIn}
 use Rattle.bfs_passes.proofs.Owning.{is_apart}
 

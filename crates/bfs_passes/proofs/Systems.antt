@@ -7,7 +7,7 @@ use Rattle.bfs_super.specs.declared.sup.Super.{Super}
 use Rattle.bfs_claims.specs.Claims.{Claimed, AreClaimed}
 use Rattle.bfs_claims.proofs.Claiming.{times_append, length_run}
 use Rattle.bfs_sound.specs.Whole.{volume_of}
-use Rattle.bfs_index_walk.specs.Laws.{system_blocks}
+use Rattle.bfs_indices_check.specs.Laws.{system_blocks}
 
 same_claims : (c : Claimed) (xs ys : List ℕ) → ((k : ℕ) → times k xs ≡ times k ys) → length xs ≡ length ys → AreClaimed c xs → AreClaimed c ys
 same_claims c xs ys same long a = record { each = λ k. sym (same k) ∙ a.each k; number = a.number ∙ long }

@@ -15,10 +15,10 @@ use Rattle.bfs_inode_walk.specs.declared.fault.VisitFault.{VisitFault}
 use Rattle.bfs_inode_walk.specs.declared.fault.VisitFault.TheVariants as visit
 use Rattle.bfs_tour.specs.Tours.{toured_tree}
 use Rattle.bfs_nodes_walk.specs.declared.lead.NodeLead.{NodeLead}
-use Rattle.bfs_attrs_walk.specs.Passes.{IsWhole}
-use Rattle.bfs_index_walk.specs.declared.found.FoundIndex.{FoundIndex}
-use Rattle.bfs_index_walk.specs.Indices.{kinds_of, AreWalked}
-use Rattle.bfs_index_walk.specs.Laws.{system_blocks}
+use Rattle.bfs_indices_check.specs.Passes.{IsWhole}
+use Rattle.bfs_indices_check.specs.FoundIndex.{FoundIndex}
+use Rattle.bfs_indices_check.specs.Indices.{kinds_of, AreWalked}
+use Rattle.bfs_indices_check.specs.Laws.{system_blocks}
 use Rattle.bfs_passes.specs.declared.fault.PassFault.{PassFault}
 use Rattle.bfs_passes.specs.declared.fault.PassFault.TheVariants.{Wrong, Block}
 use Rattle.bfs_passes.specs.declared.passes.Summary.{Summary}

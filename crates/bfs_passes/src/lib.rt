@@ -12,6 +12,3 @@ mod walk;
 
 pub use fault::PassFault;
 pub use passes::{Summary, check_passes};
-
-#[cfg(test)]
-mod tests;

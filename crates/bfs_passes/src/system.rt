@@ -4,7 +4,7 @@ ghost use Rattle.bfs_super.specs.Conditions.{IsValid, natural};
 ghost use Rattle.bfs_super.specs.Geometry.{bitmap_length};
 ghost use Rattle.bfs_sound.specs.Whole.{volume_of};
 ghost use Rattle.bfs_claims.specs.Claims.{AreClaimed};
-ghost use Rattle.bfs_index_walk.specs.Laws.{system_blocks};
+ghost use Rattle.bfs_indices_check.specs.Laws.{system_blocks};
 
 use crate::PassFault;
 use bfs_claims::Claims;

@@ -4,3 +4,6 @@ pub mod Heads
 pub mod Indexed
 pub mod Told
 pub mod Between
+pub use Rattle.bfs_moves.proofs.Restated
+pub use Rattle.bfs_moves.proofs.Ends
+pub use Rattle.bfs_moves.proofs.Keys

@@ -1,1 +1,2 @@
 pub mod Indices
+pub use Rattle.bfs_moves.specs.Written

@@ -10,6 +10,7 @@ mod listing;
 mod order;
 
 pub use attributes::{attr_list, attr_read};
+pub use bfs_moves as moves;
 pub use finding::index_find;
 pub use kind::{IndexAt, damaged, index_at, index_of};
 pub use listing::index_list;

@@ -10,8 +10,8 @@ ghost use Rattle.bfs_remove.specs.Removed.{IsLow};
 
 use crate::give::give_back;
 use bfs_node::{Header, KeyKind, PAGE, TreeFault, overflow_link, row_count};
+use bfs_pages::txn::{Pages, Steps};
 use bfs_pages::{place, read_interior};
-use bfs_txn::{Pages, Steps};
 use std::sync::ledger::Ledger;
 
 /// Makes the root's only child the root, while it is an interior page without keys, and gives the old root back.

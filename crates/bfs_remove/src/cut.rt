@@ -7,8 +7,8 @@ ghost use Rattle.bfs_pages.specs.Writes.{Makes, Kept, PageSet, IsFailed};
 ghost use Rattle.bfs_remove.specs.Removed.{rows_less, last_less};
 
 use bfs_node::{TreeFault, remove_row, row_count, row_value, set_overflow_link};
+use bfs_pages::txn::Pages;
 use bfs_pages::write_page;
-use bfs_txn::Pages;
 
 /// Takes a row out of a leaf, and writes the leaf.
 pub fn cut_row<P: Pages>(

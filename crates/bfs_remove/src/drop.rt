@@ -16,8 +16,8 @@ use crate::give::release;
 use crate::mend::{mend_left, mend_right};
 use crate::way::Branch;
 use bfs_node::{Header, KeyKind, PAGE, TreeFault, left_link, right_link};
+use bfs_pages::txn::{Pages, Steps};
 use bfs_pages::{place, place_for, read_interior, write_page};
-use bfs_txn::{Pages, Steps};
 use std::sync::ledger::Ledger;
 
 /// Takes the child that a key leads to out of the interior page at this byte of the stream.

@@ -11,8 +11,8 @@ ghost use Rattle.bfs_remove.specs.Removed.{IsGiven, IsReleased};
 use bfs_node::{
     Header, KeyKind, PAGE, TreeFault, blank, overflow_link, set_left_link, set_overflow_link,
 };
+use bfs_pages::txn::{Pages, Steps};
 use bfs_pages::{place, read_interior, write_header, write_page};
-use bfs_txn::{Pages, Steps};
 use std::sync::ledger::Ledger;
 
 /// Puts a page before the free list of this header, and tells the header since.

@@ -7,8 +7,8 @@ ghost use Rattle.bfs_pages.specs.Writes.{Makes, Kept};
 ghost use Rattle.bfs_remove.specs.Removed.{IsMended};
 
 use bfs_node::{KeyKind, PAGE, TreeFault, set_left_link, set_right_link};
+use bfs_pages::txn::{Pages, Steps};
 use bfs_pages::{read_beside, write_beside};
-use bfs_txn::{Pages, Steps};
 use std::sync::ledger::Ledger;
 
 /// Writes the link to the right of a leaf, where there is one.

@@ -16,7 +16,7 @@ use crate::cut::cut_row;
 use crate::drop::drop_leaf;
 use crate::way::{Branch, Way, way_to};
 use bfs_node::{Header, KeyKind, PAGE, TreeFault, row_count, row_value, search};
-use bfs_txn::{Pages, Steps};
+use bfs_pages::txn::{Pages, Steps};
 use std::sync::ledger::Ledger;
 
 /// The branch, where a leaf has one row.

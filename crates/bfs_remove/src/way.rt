@@ -10,8 +10,8 @@ ghost use Rattle.bfs_pages.specs.Writes.{Kept};
 ghost use Rattle.bfs_remove.specs.Removed.{IsBranch, IsWayTo};
 
 use bfs_node::{Header, KeyKind, TreeFault, row_count};
+use bfs_pages::txn::{Pages, Steps};
 use bfs_pages::{child_for, place, read_header, read_interior, read_leaf};
-use bfs_txn::{Pages, Steps};
 use std::sync::ledger::Ledger;
 
 /// An interior page with a key, its child on the way of a key, and how many interior pages there are from that child on.

@@ -5,3 +5,5 @@ pub mod Taken
 pub mod Known
 pub mod Whole
 pub mod Allowed
+pub use Rattle.bfs_query.proofs.Bearing
+pub use Rattle.bfs_query.proofs.Indexed

@@ -9,5 +9,6 @@ mod refusal;
 mod removing;
 
 pub use allowance::remove_index_allowance;
+pub use bfs_query as query;
 pub use refusal::remove_index_refusal;
 pub use removing::remove_index;

@@ -6,3 +6,4 @@ pub mod Lengths
 pub mod Indexed
 pub mod Allowing
 pub mod Keyed
+pub use Rattle.bfs_unmake.proofs.Streams as UnmakeStreams

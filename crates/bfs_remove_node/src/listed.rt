@@ -13,11 +13,11 @@ ghost use Rattle.bfs_remove_node.specs.Counted.{has_key, indices_in, is_listed, 
 
 use bfs_bitmap::Bitmap;
 use bfs_node::TreeFault;
-use bfs_query::{attr_read, index_list};
 use bfs_stream_pages::MapFault;
 use bfs_super::Super;
 use bfs_tree::{IndexRow, Indices, KeyKind, Reply, code_of, is_built_in, key_of_bytes};
 use bfs_txn::Edits;
+use bfs_unlist::query::{attr_read, index_list};
 use std::alloc::{AllocError, Global};
 
 /// More indices than this aren't counted: there is no room for the number.

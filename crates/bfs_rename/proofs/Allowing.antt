@@ -30,7 +30,7 @@ use Rattle.bfs_calls.specs.Allowances.{allowance, allowed_cost, left_alone, owne
 use Rattle.bfs_calls.specs.Made.{AreBuiltIn}
 use Rattle.bfs_calls.specs.declared.indices.BuiltIn.{BuiltIn}
 use Rattle.bfs_calls.proofs.Allowed.{ones, AllLeast, count_at, least_built, least_index, least_joined, min_less, rows_least, some_levels}
-use Rattle.bfs_unmake.proofs.Streams.{alone_few}
+use Rattle.bfs_remove_node.proofs.UnmakeStreams.{alone_few}
 use Rattle.bfs_remove_node.proofs.Allowing.{least_all, rows_are}
 use Rattle.bfs_rename.specs.Counted.{rows_left}
 use Rattle.bfs_rename.specs.Renamed.{MayBeRenamed}

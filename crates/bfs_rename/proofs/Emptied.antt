@@ -19,8 +19,8 @@ use Rattle.bfs_look.specs.Ready.{IsReady}
 use Rattle.bfs_look.proofs.Known.{rows_numbers, row_child}
 use Rattle.bfs_leave.specs.Leaving.{GivesBack, IsLeft, tree_without}
 use Rattle.bfs_leave.proofs.Steps.{goes_on_gives, gives_back_twice}
-use Rattle.bfs_unlist.specs.Without.{HasUnlisted, HasNodeIn}
-use Rattle.bfs_unmake.specs.Whole.{HoldsNode}
+use Rattle.bfs_remove_node.specs.Without.{HasUnlisted, HasNodeIn}
+use Rattle.bfs_remove_node.specs.Whole.{HoldsNode}
 use Rattle.bfs_make.proofs.Telling.{one_map}
 use Rattle.bfs_moves.proofs.Ends.{goes_on_twice}
 use Rattle.bfs_remove_node.proofs.Sought.{plain_of}

@@ -14,3 +14,4 @@ pub mod Relists
 pub mod Stampings
 pub mod Arrived
 pub mod Vacated
+pub use Rattle.bfs_remove_node.proofs.Refusing

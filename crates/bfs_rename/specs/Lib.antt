@@ -8,3 +8,4 @@ pub mod Replacing
 pub mod Rows
 pub mod Sited
 pub mod Stamped
+pub use Rattle.bfs_remove_node.specs.Removed

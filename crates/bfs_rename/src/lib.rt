@@ -20,6 +20,7 @@ mod seating;
 mod stamping;
 
 pub use allowance::rename_allowance;
+pub use bfs_remove_node as remove_node;
 pub use laws::may_be_renamed;
 pub use refusal::rename_refusal;
 pub use rename::rename_node;

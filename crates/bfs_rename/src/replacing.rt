@@ -18,11 +18,11 @@ ghost use Rattle.bfs_rename.specs.Replacing.{StandsEmpty, HasEmptyAt, HasLeftRea
 use crate::rows::take_row;
 use bfs_bitmap::Bitmap;
 use bfs_make::Site;
+use bfs_remove_node::unlist::unlist_node;
+use bfs_remove_node::unmake::give_node;
 use bfs_stream_pages::MapFault;
 use bfs_super::Super;
 use bfs_txn::Edits;
-use bfs_unlist::unlist_node;
-use bfs_unmake::give_node;
 use std::alloc::Global;
 
 /// Takes a node out of every index that lists it, out of its directory and out of the tree, and gives all its blocks back. No run is taken.

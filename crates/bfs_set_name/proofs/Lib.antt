@@ -12,3 +12,6 @@ pub mod Ends
 pub mod Whys
 pub mod Counted
 pub mod Rows
+pub use Rattle.bfs_attrs.proofs.Replaces
+pub use Rattle.bfs_attrs.proofs.Follows
+pub use Rattle.bfs_attrs.proofs.Beside

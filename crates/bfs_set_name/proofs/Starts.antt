@@ -8,8 +8,8 @@ use Rattle.bfs_stream.proofs.Writes.{wrote_none}
 use Rattle.bfs_attr.specs.Bearers.{Bearer, volume_at, attributes_at}
 use Rattle.bfs_attr.specs.Changed.{attribute_blocks, Holds, AttributesNow}
 use Rattle.bfs_attr.proofs.Stays.{none_taken, none_new}
-use Rattle.bfs_attr_write.specs.Exchanged.{Exchanged}
-use Rattle.bfs_attr_write.proofs.Addressed.{now_exchanged}
+use Rattle.bfs_attrs.specs.Exchanged.{Exchanged}
+use Rattle.bfs_attrs.proofs.Addressed.{now_exchanged}
 
 -- the attributes before the first step
 module _ (b : Bearer) (v : Room) (m : ℕ → Option (List ℕ)) (holds : Holds b v m) (old : ℕ → Bool) where

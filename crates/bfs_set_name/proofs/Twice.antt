@@ -6,8 +6,8 @@ use Rattle.bfs_txn.specs.Told.{StaysChanged}
 use Rattle.bfs_tree.specs.Trees.{Attributes}
 use Rattle.bfs_attr.specs.Bearers.{Bearer, volume_at, attributes_at}
 use Rattle.bfs_attr.specs.Changed.{attribute_blocks, Holds, AttributesNow}
-use Rattle.bfs_attr_write.proofs.Brings.{rest_given}
-use Rattle.bfs_attr_write.proofs.Follows.{follows}
+use Rattle.bfs_attrs.proofs.Brings.{rest_given}
+use Rattle.bfs_attrs.proofs.Follows.{follows}
 use Rattle.bfs_attrs.specs.Replaced.{HasAllBlocks}
 
 -- two changes that leave the attributes, one after the other

@@ -9,6 +9,3 @@ mod naming;
 
 pub use laws::nodes_can_be_named;
 pub use naming::set_name;
-
-#[cfg(test)]
-mod tests;

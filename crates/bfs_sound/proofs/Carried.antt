@@ -12,10 +12,10 @@ use Rattle.bfs_super.specs.Conditions.{natural, ceil}
 use Rattle.bfs_super.specs.Geometry.{bitmap_length}
 use Rattle.bfs_super.specs.declared.sup.Super.{Super}
 use Rattle.bfs_super.specs.declared.geometry.Geometry.{Geometry}
-use Rattle.bfs_bitmap.specs.Bits.{bit_of}
-use Rattle.bfs_bitmap.specs.Runs.{marked}
+use Rattle.bfs_stream.specs.Bits.{bit_of}
+use Rattle.bfs_stream.specs.Runs.{marked}
 use Rattle.bfs_node.specs.Page.{Row}
-use Rattle.bfs_pages.specs.Maps.{assoc}
+use Rattle.bfs_values.specs.Maps.{assoc}
 use Rattle.bfs_log.specs.Replay.{super_of, blocks_of, Valid}
 use Rattle.bfs_stream.proofs.Frames.{has_first, has_rest, agree_left, agree_right}
 use Rattle.bfs_tree.specs.Listings.{listed}

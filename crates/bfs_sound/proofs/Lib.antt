@@ -5,3 +5,5 @@ pub mod Nodes
 pub mod Parts
 pub mod Carried
 pub mod Owning
+pub use Rattle.bfs_stream.proofs.Doubles
+pub use Rattle.bfs_stream.proofs.Frames

@@ -7,8 +7,8 @@ use Rattle.std.proofs.lemmas.Grind.{common_steps}
 use Rattle.bfs_base.specs.Lists.{times, Agree, IsOnce, ChangesAt}
 use Rattle.bfs_base.specs.declared.kind.KeyKind.{KeyKind}
 use Rattle.bfs_node.specs.Page.{Row}
-use Rattle.bfs_pages.specs.Maps.{assoc}
-use Rattle.bfs_pages.specs.Order.{same_keys}
+use Rattle.bfs_values.specs.Maps.{assoc}
+use Rattle.bfs_values.specs.Order.{same_keys}
 use Rattle.bfs_stream.proofs.Doubles.{times-append}
 use Rattle.bfs_tree.specs.Trees.{Node, Tree, IsNode, HasBuiltIn, IsPlain}
 use Rattle.bfs_sound.specs.Volumes.{Volume, bitmap_blocks}

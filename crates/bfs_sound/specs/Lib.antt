@@ -9,3 +9,5 @@ pub mod Laws
 pub mod OwnerLaws
 pub mod Need
 pub mod Worked
+pub use Rattle.bfs_stream.specs.Places
+pub use Rattle.bfs_stream.specs.Sizes

@@ -6,7 +6,7 @@ use Rattle.bfs_base.specs.declared.kind.KeyKind.{KeyKind}
 use Rattle.bfs_base.specs.declared.kind.KeyKind.TheVariants.{Text}
 use Rattle.bfs_super.specs.Conditions.{natural}
 use Rattle.bfs_node.specs.Page.{Row}
-use Rattle.bfs_pages.specs.Maps.{assoc}
+use Rattle.bfs_values.specs.Maps.{assoc}
 use Rattle.bfs_tree.specs.declared.call.Kind.TheVariants.{Dir}
 use Rattle.bfs_tree.specs.Trees.{Node, Tree, IsNode}
 use Rattle.bfs_values.specs.Rows.{rows_in}

@@ -8,7 +8,7 @@ use Rattle.bfs_base.specs.declared.kind.KeyKind.TheVariants.{Text}
 use Rattle.bfs_super.specs.Conditions.{natural, ceil}
 use Rattle.bfs_super.specs.Geometry.{bitmap_length}
 use Rattle.bfs_node.specs.Header.{header_at}
-use Rattle.bfs_pages.specs.Maps.{assoc}
+use Rattle.bfs_values.specs.Maps.{assoc}
 use Rattle.bfs_smalldata.specs.Items.{Item, size_of, sizes_of, items_of}
 use Rattle.bfs_smalldata.specs.Edits.{without}
 use Rattle.bfs_stream.specs.Sizes.{array_length}

@@ -1,7 +1,7 @@
 -- A volume: its geometry, and its blocks by their numbers.
 use Rattle.std.specs.Prelude.{◌≡◌, ◌<◌, ℕ, ◌*◌, ◌^◌, List, Some}
 use Rattle.bfs_base.specs.Lists.{counted_from}
-use Rattle.bfs_bitmap.specs.Runs.{marked}
+use Rattle.bfs_stream.specs.Runs.{marked}
 use Rattle.bfs_super.specs.Geometry.{bitmap_length}
 use Rattle.bfs_super.specs.declared.geometry.Geometry.{Geometry}
 use Rattle.bfs_stream.specs.Sizes.{Sizes}

@@ -6,3 +6,5 @@ pub mod Grown
 pub mod Faults
 pub mod Trimmed
 pub mod Standing
+pub use Rattle.bfs_bitmap.specs.Bits
+pub use Rattle.bfs_bitmap.specs.Runs

@@ -8,7 +8,7 @@ use Rattle.bfs_node.specs.Page.{rows_of, row_in, links_of, overflow_of}
 use Rattle.bfs_pages.specs.Answers.{IsInteriorPage}
 use Rattle.bfs_pages.specs.Shapes.{Entry, leaf_body, Precedes}
 use Rattle.bfs_pages.specs.Trees.{state_of, page_in, place_of, is_page, body_of, body_in}
-use Rattle.bfs_sound.specs.Owners.{In}
+use Rattle.bfs_finding.specs.Owners.{In}
 use Rattle.bfs_finding.specs.Walks.{Met, entries_met}
 use Rattle.bfs_finding.specs.TreeFaults.{IsOrderFault}
 use Rattle.bfs_walk.proofs.Going.{inner_good}

@@ -13,7 +13,7 @@ use Rattle.bfs_pages.specs.Shapes.{Entry, a_row, a_bound, key_in, IsAbove, Prece
 use Rattle.bfs_pages.proofs.KeyOrder.{less_less, less_most, most_less, most_most, less_is_most}
 use Rattle.std.proofs.lemmas.List.{take_more, drop_more, take-append-drop, length-take-le}
 use Rattle.bfs_pages.proofs.Splice.{ascends-append, Precede}
-use Rattle.bfs_sound.specs.Owners.{In}
+use Rattle.bfs_finding.specs.Owners.{In}
 use Rattle.bfs_finding.specs.Walks.{Met, rows_met}
 use Rattle.bfs_walk.specs.Walked.{entries_alone}
 use Rattle.bfs_tree_check.specs.Ordered.{follows, IsUpTo}

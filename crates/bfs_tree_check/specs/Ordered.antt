@@ -4,7 +4,7 @@ use Rattle.bfs_base.specs.declared.kind.KeyKind.{KeyKind}
 use Rattle.bfs_node.specs.Page.{IsKeyLength}
 use Rattle.bfs_pages.specs.Order.{Key, comes_before, at_most}
 use Rattle.bfs_pages.specs.Shapes.{Entry, key_in, Precedes, AscendAll}
-use Rattle.bfs_sound.specs.Owners.{In}
+use Rattle.bfs_finding.specs.Owners.{In}
 use Rattle.bfs_base.specs.Lists.{Has}
 use Rattle.bfs_finding.specs.Walks.{Met, leaves_in}
 use Rattle.bfs_walk.specs.Walked.{entries_alone}

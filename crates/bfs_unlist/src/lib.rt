@@ -6,4 +6,5 @@
 mod reading;
 mod unlisting;
 
+pub use bfs_query as query;
 pub use unlisting::unlist_node;

@@ -7,6 +7,7 @@ mod counting;
 mod giving;
 mod inodes;
 
+pub use bfs_calls as calls;
 pub use counting::streams_length;
 pub use giving::give_node;
 pub use inodes::{stands_alone, stream_inodes};

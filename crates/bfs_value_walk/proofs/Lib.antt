@@ -7,3 +7,5 @@ mod Chaining
 mod Rowing
 mod Reaching
 mod Pairing
+pub use Rattle.bfs_tree_walk.proofs.Plainly
+pub use Rattle.bfs_tree_walk.proofs.Wholly

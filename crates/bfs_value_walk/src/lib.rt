@@ -12,4 +12,5 @@ mod value;
 mod walk;
 mod words;
 
+pub use bfs_tree_walk as tree_walk;
 pub use walk::walk_values;

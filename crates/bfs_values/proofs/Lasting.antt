@@ -3,8 +3,8 @@ use Rattle.std.proofs.Common.{◌≡◌, ℕ, List, Option, Some, None, IfSome, 
 use Rattle.bfs_base.specs.declared.kind.KeyKind.{KeyKind}
 use Rattle.bfs_node.specs.declared.fault.TreeFault.{TreeFault}
 use Rattle.bfs_node.specs.declared.fault.TreeFault.TheVariants.{Exists, Absent, Damaged, Pages, NoMemory}
-use Rattle.bfs_txn.specs.Faults.{Counts}
-use Rattle.bfs_txn.specs.Pages.{page_at, IsPageAt, HasLength}
+use Rattle.bfs_pages.specs.Faults.{Counts}
+use Rattle.bfs_pages.specs.Pages.{page_at, IsPageAt, HasLength}
 use Rattle.bfs_pages.specs.Answers.{IsChild, IsLink, IsOfPages}
 use Rattle.bfs_pages.specs.Trees.{page_in, neighbours_in}
 use Rattle.bfs_pages.proofs.OfKind.{if_some}

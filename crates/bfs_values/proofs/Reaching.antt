@@ -4,7 +4,7 @@ use Rattle.std.specs.List.{flat_map, AllByRecursion}
 use Rattle.bfs_base.specs.Lists.{times, Has, IsOnce}
 use Rattle.bfs_base.specs.declared.kind.KeyKind.{KeyKind}
 use Rattle.bfs_node.specs.Page.{Row}
-use Rattle.bfs_txn.specs.Pages.{page_at}
+use Rattle.bfs_pages.specs.Pages.{page_at}
 use Rattle.bfs_pages.specs.Answers.{IsChild}
 use Rattle.bfs_pages.specs.Maps.{assoc, put, without}
 use Rattle.bfs_pages.specs.Order.{Key}

@@ -6,7 +6,7 @@ use Rattle.bfs_node.specs.declared.fault.PageKind.{PageKind}
 use Rattle.bfs_node.specs.declared.fault.PageKind.TheVariants.{Header as HeaderKind, Interior as InteriorKind, Leaf as LeafKind, Fragment as FragmentKind, Duplicates as DuplicatesKind}
 use Rattle.bfs_node.specs.declared.fault.TreeFault.{TreeFault}
 use Rattle.bfs_node.specs.declared.fault.TreeFault.TheVariants.{Exists, Absent, Damaged, Pages, NoMemory}
-use Rattle.bfs_txn.specs.Faults.{Counts, AreLater}
+use Rattle.bfs_pages.specs.Faults.{Counts, AreLater}
 use Rattle.bfs_pages.specs.Answers.{IsChild, IsLink, IsOfKind, IsLeafPage}
 use Rattle.bfs_pages.specs.Trees.{page_in}
 use Rattle.bfs_values.specs.declared.link.Link.{Link}

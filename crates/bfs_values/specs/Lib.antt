@@ -9,3 +9,5 @@ pub mod Formed
 pub mod Named
 pub mod Chained
 pub mod Sets
+pub use Rattle.bfs_pages.specs.Order
+pub use Rattle.bfs_pages.specs.Maps

@@ -7,8 +7,8 @@ ghost use Rattle.bfs_values.specs.Values.{IsDuplicates, page_numbers, next_of, E
 
 use crate::packed::{add_numbers, duplicates_size};
 use bfs_node::{KeyKind, PAGE, PageKind, TreeFault, right_link};
+use bfs_pages::txn::{Pages, Steps};
 use bfs_pages::{is_link, place};
-use bfs_txn::{Pages, Steps};
 use std::sync::ledger::Ledger;
 
 /// Adds the numbers of a duplicate page to a list, and answers the next page, or 0 for none.

@@ -12,7 +12,7 @@ use crate::link::{Link, link_of};
 use crate::packed::{add_numbers, fragment_size};
 use bfs_node::{KeyKind, PAGE, PageKind, TreeFault};
 use bfs_pages::is_child;
-use bfs_txn::{Pages, Steps};
+use bfs_pages::txn::{Pages, Steps};
 use std::alloc::{AllocError, Global};
 use std::marker::Model;
 use std::sync::ledger::Ledger;

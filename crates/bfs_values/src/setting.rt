@@ -17,8 +17,8 @@ ghost use Rattle.bfs_values.specs.Sets.{IsValued, IsNotValued};
 ghost use Rattle.bfs_values.specs.Stored.{Stored, SameNumbers};
 
 use bfs_node::{KeyKind, PAGE, TreeFault, search, set_row_value};
+use bfs_pages::txn::{Pages, Steps};
 use bfs_pages::{read_leaf, write_page};
-use bfs_txn::{Pages, Steps};
 use std::sync::ledger::Ledger;
 
 /// Writes a new value into the row of a key, in the leaf that has it. A value that came from adding or taking a number

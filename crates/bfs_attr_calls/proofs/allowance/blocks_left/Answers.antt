@@ -2,7 +2,7 @@ use Rattle.std.proofs.Common.{◌≡◌, ◌∙◌, [], ℕ, List, min, sym, ap,
 use Rattle.bfs_super.specs.Geometry.{geometry_of}
 use Rattle.bfs_shift.specs.Shifts.{volume_in}
 use Rattle.bfs_query.proofs.Bearing.{bears, can_read}
-use Rattle.bfs_calls.specs.Allowances.{inodes_left}
+use Rattle.bfs_unmake.specs.Allowances.{inodes_left}
 use Rattle.bfs_unmake.specs.Counted.{HaveStreams, streams_among}
 use Rattle.bfs_unmake.proofs.Streams.{with_all}
 use Rattle.bfs_attr_calls.proofs.Leaves.{left_streams}

@@ -5,7 +5,7 @@ use Rattle.bfs_tree.specs.declared.call.Call.TheVariants.{AttrRemove}
 use Rattle.bfs_sound.specs.Need.{logged_need}
 use Rattle.bfs_shift.specs.Shifts.{volume_in}
 use Rattle.bfs_look.specs.Ready.{IsReady, HasReady}
-use Rattle.bfs_calls.proofs.Faulting.{read_cause, cause_earlier}
+use Rattle.bfs_unmake.proofs.Faulting.{read_cause, cause_earlier}
 use Rattle.bfs_attr_calls.proofs.Allowing.{allowed, within}
 use Rattle.bfs_attr_calls.proofs.allowance.remove_attr_allowance.Goals as goal
 

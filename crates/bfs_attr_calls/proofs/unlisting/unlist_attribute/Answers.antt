@@ -7,8 +7,8 @@ use Rattle.bfs_tree.specs.Listings.{key_in, pair_cmp, without_id}
 use Rattle.bfs_tree.specs.Refusals.{is_built_in}
 use Rattle.bfs_shift.specs.Lists.{with_pairs}
 use Rattle.bfs_shift.specs.Work.{IsAtWork, IsStepped}
-use Rattle.bfs_moves.specs.Written.{HasIndexAt}
-use Rattle.bfs_moves.proofs.Ends.{goes_on_same}
+use Rattle.bfs_query.specs.Written.{HasIndexAt}
+use Rattle.bfs_query.proofs.Ends.{goes_on_same}
 use Rattle.bfs_query.specs.Indices.{IsIndexFound}
 use Rattle.bfs_query.proofs.Bearing.{bears, attributes_are, can_read}
 use Rattle.bfs_attr_calls.proofs.Keys.{attribute_key}

@@ -3,7 +3,7 @@ use Rattle.bfs_bitmap.specs.Runs.{Room}
 use Rattle.bfs_super.specs.Geometry.{geometry_of}
 use Rattle.bfs_shift.specs.Work.{GoesOn}
 use Rattle.bfs_look.specs.Ready.{IsReady, HasReady}
-use Rattle.bfs_moves.proofs.Ends.{goes_on_same}
+use Rattle.bfs_attr_calls.proofs.Ends.{goes_on_same}
 use Rattle.bfs_attr_calls.specs.Removed.{HasUnlistedUnder}
 use Rattle.bfs_attr_put.proofs.Missing.{state_of, unrefused, refused, none_unlisted}
 use Rattle.bfs_attr_put.proofs.leaving.leave_index.Goals as goal

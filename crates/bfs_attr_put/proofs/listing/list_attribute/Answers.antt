@@ -10,8 +10,8 @@ use Rattle.bfs_super.specs.Geometry.{geometry_of}
 use Rattle.bfs_stream.specs.Sizes.{sizes_of}
 use Rattle.bfs_tree.specs.Listings.{pair_cmp}
 use Rattle.bfs_shift.specs.Lists.{with_pairs}
-use Rattle.bfs_moves.proofs.Ends.{goes_on_same}
-use Rattle.bfs_calls.proofs.Faulting.{pair_unanswered}
+use Rattle.bfs_attr_calls.proofs.Ends.{goes_on_same}
+use Rattle.bfs_attr_calls.proofs.Faulting.{pair_unanswered}
 use Rattle.bfs_attr_put.specs.Listed.{IsDue}
 use Rattle.bfs_attr_put.proofs.Relisted.{lists_none, lists_some, pairs, pairs_sorted, pairs_more}
 use Rattle.bfs_attr_put.proofs.listing.list_attribute.Goals as goal

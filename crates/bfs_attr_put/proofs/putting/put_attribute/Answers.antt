@@ -7,10 +7,10 @@ use Rattle.bfs_make.proofs.Pieces.{told_long, sized_at}
 use Rattle.bfs_attr.specs.Bearers.{bearer_of}
 use Rattle.bfs_shift.proofs.AtWork.{inode_told}
 use Rattle.bfs_look.proofs.Listed.{good_is_proper}
-use Rattle.bfs_leave.specs.Leaving.{IsLeft}
-use Rattle.bfs_calls.specs.Done.{IsUnanswered}
-use Rattle.bfs_calls.proofs.Faulting.{pair_cause, undone_unanswered}
-use Rattle.bfs_calls.proofs.Refusing.{good_short}
+use Rattle.bfs_attr_calls.specs.LeaveLeaving.{IsLeft}
+use Rattle.bfs_attr_calls.specs.Done.{IsUnanswered}
+use Rattle.bfs_attr_calls.proofs.Faulting.{pair_cause, undone_unanswered}
+use Rattle.bfs_attr_calls.proofs.CallsRefusing.{good_short}
 use Rattle.bfs_attr_calls.specs.Attributed.{with_attributes}
 use Rattle.bfs_attr_calls.proofs.Holding.{node_holds}
 use Rattle.bfs_attr_put.specs.Written.{HasWriteCause}

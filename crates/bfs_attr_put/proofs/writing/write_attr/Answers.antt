@@ -6,7 +6,7 @@ use Rattle.bfs_super.specs.Conditions.{ceil}
 use Rattle.bfs_super.specs.Geometry.{geometry_of}
 use Rattle.bfs_tree.specs.Trees.{Attribute}
 use Rattle.bfs_look.specs.Ready.{IsReady, HasReady}
-use Rattle.bfs_calls.proofs.Faulting.{undone_unanswered, read_cause}
+use Rattle.bfs_attr_calls.proofs.Faulting.{undone_unanswered, read_cause}
 use Rattle.bfs_attr_put.specs.Written.{IsAttributeWritten}
 use Rattle.bfs_attr_put.proofs.Faulting.{answer_write}
 use Rattle.bfs_attr_put.proofs.writing.write_attr.Goals as goal

@@ -6,10 +6,10 @@ use Rattle.bfs_super.specs.Conditions.{ceil, natural}
 use Rattle.bfs_super.specs.Geometry.{geometry_of}
 use Rattle.bfs_tree.specs.Trees.{Attribute}
 use Rattle.bfs_make.proofs.Telling.{told_back, one_map}
-use Rattle.bfs_attr_write.proofs.Brings.{rest_given}
+use Rattle.bfs_attr_calls.proofs.Brings.{rest_given}
 use Rattle.bfs_look.proofs.Known.{few_blocks}
-use Rattle.bfs_leave.proofs.Standing.{same_standing}
-use Rattle.bfs_calls.proofs.Faulting.{undone_unanswered, read_cause}
+use Rattle.bfs_attr_calls.proofs.Standing.{same_standing}
+use Rattle.bfs_attr_calls.proofs.Faulting.{undone_unanswered, read_cause}
 use Rattle.bfs_attr_calls.specs.Removed.{tree_with}
 use Rattle.bfs_attr_put.specs.Listed.{HasPutOnly}
 use Rattle.bfs_attr_put.specs.Written.{node_with, IsAttributeWritten}

@@ -8,7 +8,7 @@ use Rattle.bfs_shift.specs.Lists.{with_rows}
 use Rattle.bfs_shift.specs.Work.{IsStepped}
 use Rattle.bfs_calls.specs.Made.{IsFor, IsNamed, with_new, with_touched}
 use Rattle.bfs_calls.proofs.Newborn.{named_now, entered}
-use Rattle.bfs_make.proofs.Telling.{told_back, one_map}
+use Rattle.bfs_look.proofs.Telling.{told_back, one_map}
 use Rattle.bfs_calls.proofs.entering.enter.Goals as goal
 
 pub enter_name-requires-clause-born : goal.enter_name-requires-clause-born

@@ -9,7 +9,7 @@ use Rattle.bfs_tree.specs.Trees.{is_file}
 use Rattle.bfs_shift.specs.Work.{IsAtWork}
 use Rattle.bfs_calls.proofs.Faulting.{list_unanswered}
 use Rattle.bfs_calls.proofs.Listing.{index_at, number_again, kind_since, by_name, by_size, by_time, pairs_of, name_more, size_more, time_more, other_listed, file_listed}
-use Rattle.bfs_make.proofs.Telling.{told_back, one_map}
+use Rattle.bfs_look.proofs.Telling.{told_back, one_map}
 use Rattle.bfs_moves.proofs.Stepping.{stepped_twice}
 use Rattle.bfs_calls.proofs.entering.enter_indices.Goals as goal
 

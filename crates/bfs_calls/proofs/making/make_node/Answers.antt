@@ -16,7 +16,7 @@ use Rattle.bfs_calls.specs.Made.{IsCreated, IsBorn, IsFor, HasEntered, IsMadeIn}
 use Rattle.bfs_calls.proofs.Faulting.{undone_unanswered, cause_earlier}
 use Rattle.bfs_calls.proofs.Newborn.{not_root, no_child_no_row, born, new_is_for, made_in}
 use Rattle.bfs_calls.proofs.Refusing.{may_be, good_short}
-use Rattle.bfs_make.proofs.Telling.{told_back, one_map}
+use Rattle.bfs_look.proofs.Telling.{told_back, one_map}
 use Rattle.bfs_calls.proofs.making.make_node.Goals as goal
 
 pub returns-in-Err-clause-unanswered : goal.returns-in-Err-clause-unanswered

@@ -4,7 +4,7 @@ use Rattle.bfs_super.specs.Geometry.{geometry_of}
 use Rattle.bfs_make.proofs.Telling.{told_back, one_map}
 use Rattle.bfs_attr.specs.Bearers.{bearer_of, volume_at}
 use Rattle.bfs_attr.specs.Changed.{IsNamePut}
-use Rattle.bfs_calls.proofs.Faulting.{read_cause, undone_unanswered}
+use Rattle.bfs_attr_put.proofs.CallsFaulting.{read_cause, undone_unanswered}
 use Rattle.bfs_attr_put.proofs.Holding.{node_holds}
 use Rattle.bfs_attr_put.proofs.Faulting.{answer_write, write_earlier}
 use Rattle.bfs_give_name.specs.Named.{HoldsProper}

@@ -6,7 +6,7 @@ use Rattle.bfs_stream.specs.Told.{contents}
 use Rattle.bfs_txn.specs.Told.{StaysChanged}
 use Rattle.bfs_shift.proofs.AtWork.{inode_told}
 use Rattle.bfs_attr.specs.Bearers.{bearer_of}
-use Rattle.bfs_calls.specs.Done.{IsUnanswered}
+use Rattle.bfs_attr_put.specs.Done.{IsUnanswered}
 use Rattle.bfs_attr_put.proofs.Holding.{node_holds}
 use Rattle.bfs_attr_put.specs.Written.{HasWriteCause}
 use Rattle.bfs_attr_put.proofs.Faulting.{answer_write, put_write}

@@ -2,7 +2,7 @@ use Rattle.std.proofs.Common.{◌∙◌, ◌++◌, ℕ, [], List, Option, sym, a
 use Rattle.std.specs.List.{cons_option}
 use Rattle.std.specs.Option.{option_map}
 use Rattle.bfs_index_check.specs.Compared.{pairs_of}
-use Rattle.bfs_query.proofs.Bearing.{bears, attributes_are, can_read}
+use Rattle.bfs_remove_index.proofs.Bearing.{bears, attributes_are, can_read}
 use Rattle.bfs_index_make.proofs.Gathers.{key_of_node}
 use Rattle.bfs_index_make.proofs.gather.gather_node.Goals as goal
 

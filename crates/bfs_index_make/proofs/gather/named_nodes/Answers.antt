@@ -1,7 +1,7 @@
 use Rattle.std.proofs.Common.{◌∙◌, sym, subst, ap, codes}
-use Rattle.bfs_query.specs.Indices.{IsIndexFound}
+use Rattle.bfs_remove_index.specs.Indices.{IsIndexFound}
 use Rattle.bfs_index_make.specs.Gathered.{numbers_of}
-use Rattle.bfs_query.proofs.Indexed.{index_readable, no_index}
+use Rattle.bfs_remove_index.proofs.Indexed.{index_readable, no_index}
 use Rattle.bfs_index_make.proofs.Named.{whole_tree, numbers_named, unnamed}
 use Rattle.bfs_index_make.proofs.gather.named_nodes.Goals as goal
 

@@ -9,7 +9,7 @@ use Rattle.bfs_values.specs.Rows.{rows_in}
 use Rattle.bfs_maps.specs.Mapped.{HasReadable}
 use Rattle.bfs_attr.specs.Directories.{AreInodes, inode_rows}
 use Rattle.bfs_moves.proofs.Found.{names_readable}
-use Rattle.bfs_query.proofs.Indexed.{names_tree, names_inodes}
+use Rattle.bfs_remove_index.proofs.Indexed.{names_tree, names_inodes}
 use Rattle.bfs_index_make.proofs.Counted.{none_counted, all_counted}
 use Rattle.bfs_index_make.proofs.refusal.index_count.Goals as goal
 

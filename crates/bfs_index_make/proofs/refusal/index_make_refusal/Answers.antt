@@ -1,8 +1,8 @@
 use Rattle.std.proofs.Common.{◌≡◌, ◌∙◌, true, false, sym, ap, subst}
 use Rattle.std.specs.FinMap.{get, len}
 use Rattle.bfs_tree.specs.Trees.{Tree}
-use Rattle.bfs_query.specs.Indices.{IsIndexFound}
-use Rattle.bfs_query.proofs.Indexed as indexed
+use Rattle.bfs_remove_index.specs.Indices.{IsIndexFound}
+use Rattle.bfs_remove_index.proofs.Indexed as indexed
 use Rattle.bfs_index_make.proofs.Refusing.{no_index, there_is, float_kind, bad_name, by_count, is_none, not_none, too_many, few}
 use Rattle.bfs_index_make.proofs.refusal.index_make_refusal.Goals as goal
 

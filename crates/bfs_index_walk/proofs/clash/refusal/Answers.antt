@@ -4,7 +4,7 @@ use Rattle.bfs_sound.specs.Volumes.{Volume}
 use Rattle.bfs_sound.specs.Whole.{volume_of}
 use Rattle.bfs_inode_walk.specs.declared.fault.VisitFault.TheVariants.{Taken}
 use Rattle.bfs_owner.specs.Owned.{IsFound, blocks_of_places}
-use Rattle.bfs_attr_walk.specs.Attributed.{IsTakenIn}
+use Rattle.bfs_attrs_walk.specs.Attributed.{IsTakenIn}
 use Rattle.bfs_index_walk.specs.Indices.{places_by_rows}
 use Rattle.bfs_index_walk.proofs.Clashing.{are_placed, is_shared, not_there}
 use Rattle.bfs_index_walk.proofs.clash.refusal.Goals as goal

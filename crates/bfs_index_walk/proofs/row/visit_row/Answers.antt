@@ -5,7 +5,7 @@ use Rattle.bfs_sound.specs.Volumes.{Volume}
 use Rattle.bfs_sound.specs.Inodes.{is_proper, inode_blocks}
 use Rattle.bfs_sound.specs.Whole.{volume_of}
 use Rattle.bfs_claims.specs.Claims.{AreClaimed}
-use Rattle.bfs_attr_walk.proofs.Attributing.{below, no_claims, one_blocks, taken_one}
+use Rattle.bfs_attrs_walk.proofs.Attributing.{below, no_claims, one_blocks, taken_one}
 use Rattle.bfs_index_walk.proofs.Clashing.{untaken_in}
 use Rattle.bfs_index_walk.proofs.Rowing.{number_is, inside_next, found_past, found_next, arrives_at}
 use Rattle.bfs_index_walk.proofs.row.visit_row.Goals as goal

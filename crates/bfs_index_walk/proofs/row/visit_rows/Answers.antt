@@ -10,8 +10,8 @@ use Rattle.bfs_claims.specs.Claims.{AreClaimed}
 use Rattle.bfs_inode_walk.specs.Visited.{IsVisitCause}
 use Rattle.bfs_names_walk.specs.declared.row.NameRow.{NameRow}
 use Rattle.bfs_node_walk.specs.Listed.{NamesBlock}
-use Rattle.bfs_attr_walk.specs.Attributed.{row_blocks, IsTakenIn}
-use Rattle.bfs_attr_walk.proofs.Attributing.{named_row, row_there, claimed_next, taken_next, claimed_all}
+use Rattle.bfs_attrs_walk.specs.Attributed.{row_blocks, IsTakenIn}
+use Rattle.bfs_attrs_walk.proofs.Attributing.{named_row, row_there, claimed_next, taken_next, claimed_all}
 use Rattle.bfs_index_walk.specs.Indices.{AreRowsOf}
 use Rattle.bfs_index_walk.proofs.Placed.{rows_there}
 use Rattle.bfs_index_walk.proofs.Placing.{behind_rows}

@@ -6,7 +6,7 @@ use Rattle.bfs_sound.specs.Whole.{volume_of}
 use Rattle.bfs_claims.specs.Claims.{AreClaimed}
 use Rattle.bfs_names_walk.specs.Rows.{as_rows}
 use Rattle.bfs_node_walk.specs.Listed.{proper}
-use Rattle.bfs_attr_walk.specs.Attributed.{row_blocks}
+use Rattle.bfs_attrs_walk.specs.Attributed.{row_blocks}
 use Rattle.bfs_index_walk.specs.Indices.{AreFound, AreInside}
 use Rattle.bfs_index_walk.proofs.row.visit_rows.Given as goal
 

@@ -8,7 +8,7 @@ use Rattle.bfs_sound.specs.Whole.{volume_of}
 use Rattle.bfs_names_walk.specs.Rows.{as_rows, AreNames}
 use Rattle.bfs_names_walk.specs.declared.row.NameRow.{NameRow}
 use Rattle.bfs_node_walk.specs.Listed.{proper, NamesBlock}
-use Rattle.bfs_attr_walk.specs.Attributed.{IsTakenBy}
+use Rattle.bfs_attrs_walk.specs.Attributed.{IsTakenBy}
 use Rattle.bfs_index_walk.proofs.Placed.{is_there, is_inside, walked_there}
 use Rattle.bfs_index_walk.proofs.Clashing.{directory_taken, row_taken}
 use Rattle.bfs_index_walk.proofs.walk.visit_there.Goals as goal

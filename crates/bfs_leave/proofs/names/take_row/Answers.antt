@@ -5,7 +5,7 @@ use Rattle.bfs_stream.specs.Sizes.{Origin, sizes_of}
 use Rattle.bfs_maps.specs.Mapped.{HasHeld, HasRowsNow}
 use Rattle.bfs_maps.specs.Refused.{IsTakeFault}
 use Rattle.bfs_maps.proofs.Sized.{held_here}
-use Rattle.bfs_dir.specs.Directories.{IsDirectory, names_of}
+use Rattle.bfs_moves.specs.Directories.{IsDirectory, names_of}
 use Rattle.bfs_leave.proofs.Unnamed.{undone_take, read_takes}
 use Rattle.bfs_leave.proofs.names.take_row.Goals as goal
 

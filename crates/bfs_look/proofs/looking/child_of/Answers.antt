@@ -1,6 +1,6 @@
 use Rattle.std.proofs.Common.{◌∙◌, sym, subst}
 use Rattle.bfs_base.specs.declared.kind.KeyKind.TheVariants.{Text}
-use Rattle.bfs_maps.specs.NumberTrees.{IsNumberAt}
+use Rattle.bfs_make.specs.NumberTrees.{IsNumberAt}
 use Rattle.bfs_look.proofs.Looked.{bad_reads, none_reads, row_in, found_reads}
 use Rattle.bfs_look.proofs.Known.{dir_is}
 use Rattle.bfs_look.proofs.looking.child_of.Goals as goal

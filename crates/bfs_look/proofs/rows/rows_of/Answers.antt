@@ -3,8 +3,8 @@ use Rattle.bfs_base.specs.declared.kind.KeyKind.TheVariants.{Text}
 use Rattle.bfs_node.specs.Page.{Row}
 use Rattle.bfs_stream.specs.Sizes.{Origin}
 use Rattle.bfs_stream_pages.specs.Held.{stream_of}
-use Rattle.bfs_maps.specs.Mapped.{HasReadable}
-use Rattle.bfs_maps.specs.NumberTrees.{IsNumberTree}
+use Rattle.bfs_make.specs.Mapped.{HasReadable}
+use Rattle.bfs_make.specs.NumberTrees.{IsNumberTree}
 use Rattle.bfs_dir.specs.Directories.{names_of, listed}
 use Rattle.bfs_look.proofs.Known.{can_read, directory_tree}
 use Rattle.bfs_look.proofs.rows.rows_of.Goals as goal

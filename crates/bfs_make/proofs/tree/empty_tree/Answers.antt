@@ -1,7 +1,7 @@
 use Rattle.std.proofs.Common.{rules, ◌≡◌, ◌∙◌, ◌++◌, ℕ, List, length, sym, ap, subst}
 use Rattle.bfs_node.specs.Header.{header_at}
-use Rattle.bfs_values.specs.Reached.{IsWholeTree}
-use Rattle.bfs_values.specs.Rows.{rows_in}
+use Rattle.bfs_maps.specs.Reached.{IsWholeTree}
+use Rattle.bfs_maps.specs.Rows.{rows_in}
 use Rattle.bfs_make.specs.Trees.{IsEmptyLeaf}
 use Rattle.bfs_make.proofs.NewTrees.{whole_tree, no_rows, first_page, second_page, both_pages}
 use Rattle.bfs_make.proofs.tree.empty_tree.Goals as goal

@@ -3,8 +3,8 @@ use Rattle.bfs_base.specs.declared.kind.KeyKind.TheVariants.{Text}
 use Rattle.bfs_super.specs.Conditions.{block_of_run}
 use Rattle.bfs_stream.specs.Sizes.{Origin, sizes_of}
 use Rattle.bfs_stream_pages.specs.Held.{stream_of}
-use Rattle.bfs_maps.specs.Mapped.{HasReadable}
-use Rattle.bfs_maps.specs.NumberTrees.{HoldsNumber, IsNumberAt}
+use Rattle.bfs_make.specs.Mapped.{HasReadable}
+use Rattle.bfs_make.specs.NumberTrees.{HoldsNumber, IsNumberAt}
 use Rattle.bfs_dir.specs.Directories.{names_of}
 use Rattle.bfs_moves.proofs.Found.{names_readable, names_hold, number_found}
 use Rattle.bfs_moves.proofs.find.find_index.Goals as goal

@@ -4,7 +4,7 @@ use Rattle.bfs_base.specs.declared.kind.KeyKind.TheVariants.{Text}
 use Rattle.bfs_super.specs.Geometry.{geometry_of}
 use Rattle.bfs_pages.specs.Maps.{assoc}
 use Rattle.bfs_stream.specs.Sizes.{sizes_of}
-use Rattle.bfs_maps.specs.NumberTrees.{IsNumberAt}
+use Rattle.bfs_make.specs.NumberTrees.{IsNumberAt}
 use Rattle.bfs_moves.specs.Written.{HasIndexAt, IsListFault}
 use Rattle.bfs_moves.proofs.Ends.{goes_on_same}
 use Rattle.bfs_moves.proofs.Keys.{work_free}

@@ -2,8 +2,8 @@ use Rattle.std.proofs.Common.{◌∙◌, ℕ, Bool, sym, subst}
 use Rattle.bfs_stream.specs.Sizes.{Origin, sizes_of}
 use Rattle.bfs_stream_pages.specs.Held.{stream_of}
 use Rattle.bfs_stream_pages.specs.MovesLaws.{moved_none}
-use Rattle.bfs_maps.specs.Mapped.{HasHeld, StreamNow}
-use Rattle.bfs_maps.proofs.Sized.{held_here}
+use Rattle.bfs_make.specs.Mapped.{HasHeld, StreamNow}
+use Rattle.bfs_make.proofs.Sized.{held_here}
 use Rattle.bfs_index.specs.Indices.{Place, IsIndex, HasWithout}
 use Rattle.bfs_index.specs.Refused.{IsPairFault}
 use Rattle.bfs_moves.proofs.Listed.{undone_pair}

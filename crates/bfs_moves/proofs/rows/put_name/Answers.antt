@@ -4,8 +4,8 @@ use Rattle.bfs_super.specs.Geometry.{geometry_of}
 use Rattle.bfs_node.specs.Page.{Row}
 use Rattle.bfs_pages.specs.Maps.{assoc, put}
 use Rattle.bfs_stream.specs.Sizes.{Origin, sizes_of}
-use Rattle.bfs_maps.specs.NumberTrees.{IsTreeOf}
-use Rattle.bfs_maps.specs.Refused.{IsPutFault}
+use Rattle.bfs_make.specs.NumberTrees.{IsTreeOf}
+use Rattle.bfs_make.specs.Refused.{IsPutFault}
 use Rattle.bfs_shift.specs.Lists.{with_rows}
 use Rattle.bfs_shift.specs.Work.{IsStepped}
 use Rattle.bfs_moves.specs.Written.{HasRowsSince}

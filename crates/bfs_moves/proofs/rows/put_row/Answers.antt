@@ -3,9 +3,9 @@ use Rattle.bfs_base.specs.declared.kind.KeyKind.TheVariants.{Text}
 use Rattle.bfs_pages.specs.Maps.{assoc, put}
 use Rattle.bfs_stream.specs.Sizes.{Origin, sizes_of}
 use Rattle.bfs_stream_pages.specs.MovesLaws.{moved_none}
-use Rattle.bfs_maps.specs.Mapped.{HasHeld, HasRowsNow}
-use Rattle.bfs_maps.specs.Refused.{IsPutFault}
-use Rattle.bfs_maps.proofs.Sized.{held_here}
+use Rattle.bfs_make.specs.Mapped.{HasHeld, HasRowsNow}
+use Rattle.bfs_make.specs.Refused.{IsPutFault}
+use Rattle.bfs_make.proofs.Sized.{held_here}
 use Rattle.bfs_dir.specs.Directories.{IsDirectory, names_of}
 use Rattle.bfs_moves.proofs.Named.{undone_put}
 use Rattle.bfs_moves.proofs.rows.put_row.Goals as goal

@@ -8,7 +8,7 @@ use Rattle.bfs_pages.specs.Trees.{state_of}
 use Rattle.bfs_pages.proofs.Later.{later-twice}
 use Rattle.bfs_values.specs.Rows.{rows_at}
 use Rattle.bfs_tree_check.proofs.Joined.{all_at}
-use Rattle.bfs_tree_walk.proofs.Plainly.{one_of}
+use Rattle.bfs_value_walk.proofs.Plainly.{one_of}
 use Rattle.bfs_names_walk.specs.Rows.{as_rows}
 use Rattle.bfs_names_walk.proofs.Gathered.{rows_by, rows_are, rows_more}
 use Rattle.bfs_names_walk.proofs.leaves.take_leaves.Goals as goal

@@ -1,7 +1,7 @@
 use Rattle.std.proofs.Common.{rules, ◌≡◌, ◌≤◌, ◌<◌, ◌∙◌, ℤ, List, length, get_or, subst, arith, w64, to_z, of_z}
 use Rattle.std.proofs.lemmas.List.{take_all}
 use Rattle.bfs_values.specs.Links.{link_in}
-use Rattle.bfs_tree_walk.specs.Plain.{IsNumber, ArePlain}
+use Rattle.bfs_value_walk.specs.Plain.{IsNumber, ArePlain}
 use Rattle.bfs_names_walk.specs.Rows.{as_rows}
 use Rattle.bfs_names_walk.specs.declared.row.NameRow.{NameRow}
 use Rattle.bfs_names_walk.proofs.Gathered.{next_plain}

@@ -10,9 +10,9 @@ use Rattle.bfs_values.specs.Rows.{rows_in}
 use Rattle.bfs_finding.specs.Walks.{frees_in}
 use Rattle.bfs_tree_check.specs.Marked.{marked}
 use Rattle.bfs_tree_check.specs.Shaped.{IsShaped}
-use Rattle.bfs_tree_walk.specs.Plain.{ArePlain}
-use Rattle.bfs_tree_walk.specs.Unmet.{IsUnmet}
-use Rattle.bfs_tree_walk.proofs.Wholly.{walked, unmet_wrong, fault_amiss}
+use Rattle.bfs_value_walk.specs.Plain.{ArePlain}
+use Rattle.bfs_value_walk.specs.Unmet.{IsUnmet}
+use Rattle.bfs_value_walk.proofs.Wholly.{walked, unmet_wrong, fault_amiss}
 use Rattle.bfs_names_walk.specs.Rows.{as_rows}
 use Rattle.bfs_names_walk.proofs.Gathered.{wrong_amiss}
 use Rattle.bfs_names_walk.proofs.walk.walk_below.Goals as goal

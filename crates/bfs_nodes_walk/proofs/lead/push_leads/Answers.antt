@@ -1,6 +1,6 @@
 use Rattle.std.proofs.Common.{rules, ◌≡◌, ◌≤◌, ◌<◌, ◌+◌, ◌++◌, ◌∷◌, [], ◌∙◌, List, length, take, get_or, sym, ap, arith, append_assoc, append-nil}
 use Rattle.std.proofs.lemmas.List.{take_more, take_all}
-use Rattle.bfs_names_walk.specs.declared.row.NameRow.{NameRow}
+use Rattle.bfs_node_walk.specs.NameRow.{NameRow}
 use Rattle.bfs_nodes_walk.specs.declared.lead.NodeLead.{NodeLead}
 use Rattle.bfs_nodes_walk.specs.Leads.{leads_in}
 use Rattle.bfs_nodes_walk.proofs.Leading.{leads_more}

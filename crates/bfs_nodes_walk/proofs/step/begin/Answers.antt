@@ -2,7 +2,7 @@ use Rattle.std.proofs.Common.{◌≡◌, ◌++◌, ◌∙◌, List, ap}
 use Rattle.bfs_stream.specs.Told.{contents}
 use Rattle.bfs_sound.specs.Volumes.{Volume}
 use Rattle.bfs_sound.specs.Whole.{volume_of}
-use Rattle.bfs_names_walk.specs.declared.row.NameRow.{NameRow}
+use Rattle.bfs_node_walk.specs.NameRow.{NameRow}
 use Rattle.bfs_nodes_walk.specs.declared.lead.NodeLead.{NodeLead}
 use Rattle.bfs_nodes_walk.specs.Leads.{leads_in}
 use Rattle.bfs_nodes_walk.proofs.Walking.{begun, taken_first, untaken_first}

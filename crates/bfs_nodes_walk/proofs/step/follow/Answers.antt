@@ -5,7 +5,7 @@ use Rattle.bfs_sound.specs.Volumes.{Volume}
 use Rattle.bfs_sound.specs.Whole.{volume_of}
 use Rattle.bfs_inode_walk.specs.Visited.{IsTakenFirst}
 use Rattle.bfs_owner.specs.Owned.{blocks_of_places}
-use Rattle.bfs_names_walk.specs.declared.row.NameRow.{NameRow}
+use Rattle.bfs_node_walk.specs.NameRow.{NameRow}
 use Rattle.bfs_nodes_walk.specs.declared.lead.NodeLead.{NodeLead}
 use Rattle.bfs_nodes_walk.specs.Clashes.{IsApart}
 use Rattle.bfs_nodes_walk.specs.Leads.{leads_in, places_of_nodes, AreInside, IsTakenBy}

@@ -1,7 +1,7 @@
 use Rattle.std.proofs.Common.{◌∙◌, ◌∷◌}
 use Rattle.bfs_stream.specs.Told.{contents}
 use Rattle.bfs_sound.specs.Whole.{volume_of}
-use Rattle.bfs_index_walk.specs.Laws.{system_blocks}
+use Rattle.bfs_indices_check.specs.Laws.{system_blocks}
 use Rattle.bfs_passes.proofs.Owning.{node_owns, index_owns, system_owns}
 use Rattle.bfs_passes.proofs.owners.owner_of.Goals as goal
 

@@ -4,7 +4,7 @@ use Rattle.bfs_stream.specs.Told.{contents}
 use Rattle.bfs_sound.specs.Owners.{node_blocks}
 use Rattle.bfs_sound.specs.Whole.{volume_of}
 use Rattle.bfs_finding.specs.Findings.{IsFindingOf}
-use Rattle.bfs_index_walk.specs.Laws.{system_blocks}
+use Rattle.bfs_indices_check.specs.Laws.{system_blocks}
 use Rattle.bfs_passes.proofs.Owning.{IsNodeOwner, node_owns}
 use Rattle.bfs_passes.proofs.Sharing.{by_node, by_no_node, untaken_shared}
 use Rattle.bfs_passes.proofs.owners.shared_index.Goals as goal

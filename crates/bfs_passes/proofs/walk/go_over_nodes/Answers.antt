@@ -3,8 +3,8 @@ use Rattle.bfs_stream.specs.Told.{contents}
 use Rattle.bfs_sound.specs.Whole.{volume_of}
 use Rattle.bfs_inode_walk.specs.Visited.{IsVisitCause}
 use Rattle.bfs_nodes_walk.specs.Walks.{IsWalked}
-use Rattle.bfs_attrs_walk.specs.Passes.{IsWhole}
-use Rattle.bfs_index_walk.specs.Laws.{system_blocks}
+use Rattle.bfs_indices_check.specs.Passes.{IsWhole}
+use Rattle.bfs_indices_check.specs.Laws.{system_blocks}
 use Rattle.bfs_passes.proofs.Sharing.{node_shared, attribute_shared}
 use Rattle.bfs_passes.proofs.walk.go_over_nodes.Goals as goal
 

@@ -5,9 +5,9 @@ use Rattle.bfs_sound.specs.Owners.{node_blocks}
 use Rattle.bfs_sound.specs.Whole.{volume_of}
 use Rattle.bfs_inode_walk.specs.Visited.{IsClaimedFirst, IsTakenFirst}
 use Rattle.bfs_nodes_walk.specs.declared.lead.NodeLead.{NodeLead}
-use Rattle.bfs_attrs_walk.specs.Passes.{IsWhole, IsWholeOf}
-use Rattle.bfs_index_walk.specs.Indices.{IsIndexWay}
-use Rattle.bfs_index_walk.specs.Laws.{system_blocks}
+use Rattle.bfs_indices_check.specs.Passes.{IsWhole, IsWholeOf}
+use Rattle.bfs_indices_check.specs.Indices.{IsIndexWay}
+use Rattle.bfs_indices_check.specs.Laws.{system_blocks}
 use Rattle.bfs_passes.specs.Passed.{IsFaultOf}
 use Rattle.bfs_passes.proofs.walk.go_round.Goals as goal
 

@@ -1,5 +1,5 @@
 use Rattle.std.proofs.Common.{inl, inr, ◌≤◌, ◌≡◌, ◌-◌, ℕ, pos, List, Option, length, ap, sym, ◌∙◌, subst, refl, arith, rules, w64, to_z, of_z}
-use Rattle.bfs_txn.specs.Pages.{HasLength}
+use Rattle.bfs_pages.specs.Pages.{HasLength}
 use Rattle.bfs_node.specs.Page.{rows_of, links_of}
 use Rattle.bfs_node.specs.declared.header.Header.{Header}
 use Rattle.bfs_node.specs.declared.fault.PageKind.TheVariants.{Interior}

@@ -1,5 +1,5 @@
 use Rattle.std.proofs.Common.{◌≡◌, ℕ, List, Option, length, sym, ◌∙◌, subst}
-use Rattle.bfs_txn.specs.Pages.{HasLength}
+use Rattle.bfs_pages.specs.Pages.{HasLength}
 use Rattle.bfs_pages.specs.Answers.{IsInteriorPage}
 use Rattle.bfs_pages.specs.Trees.{page_in}
 use Rattle.bfs_pages.proofs.OfKind.{if_some}

@@ -20,7 +20,7 @@ echo "bench_journal: $below byteorder" >> "$work/crates.txt"
 git init -q "$work"
 # The groups are those of the tests.
 sed -e '/^\/\/\/ A device over this disk with three groups sealed/,$d' -e '/^use crate::volumes/d' -e '/^use bfs_device/d' \
-    -e '/^use bfs_disk/d' -e 's/^fn is_next(/pub fn is_next(/' "$tests/src/groups.rt" > "$program/src/groups.rt"
+    -e '/^use bfs_disk/d' "$tests/src/groups.rt" > "$program/src/groups.rt"
 cp -R "$tests/proofs/groups/are_data" "$tests/proofs/groups/set_all" "$program/proofs/groups/"
 cp "$tests/proofs/Lib.antt" "$tests/proofs/Once.antt" "$program/proofs/"
 sed -i 's/bfs_journal_tests/bench_journal/' "$program"/proofs/groups/*/*.antt

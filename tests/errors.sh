@@ -120,7 +120,7 @@ check 'a name with a slash' ends 2 "$usage" 'not a label: a/b' "$program" "$imag
 check 'an empty label' ends 2 "$usage" 'not a label: ' "$program" "$image" label ''
 check 'a label of 32 letters' ends 2 "$usage" 'not a label: letters-letters-letters-letters-' "$program" "$image" label letters-letters-letters-letters-
 check 'sh' ends 2 "$usage" 'not a number in range: 4' "$program" "$image" sh -j 4
-check 'soak' ends 2 "$usage" 'not built yet: soak' "$program" "$image" soak 7 1000
+check 'a workload that is too long' ends 2 "$usage" 'not a number in range: 1048573' "$program" "$image" soak 7 1048573
 check 'no command' begins 2 "$usage" "error: unrecognized subcommand 'LABEL'" "$program" "$image" LABEL new
 check 'a word too many' begins 2 "$usage" "error: unexpected argument 'newer' found" "$program" "$image" label new newer
 check 'an option of no command' begins 2 "$usage" "error: unexpected argument '--size' found" "$program" "$image" mk --blocks 4096 --size 1

@@ -1,5 +1,5 @@
 #!/bin/sh
-# `sh` on real files: what scripts print, what they leave for `check` and for a reader that others wrote, and volumes on which the program was
+# `sh` and `soak` on real files: what scripts print, what they leave for `check` and for a reader that others wrote, and volumes on which the program was
 # killed at one of its writes.
 . "$(dirname "$(readlink -f "$0")")/checks.sh"
 
@@ -115,6 +115,12 @@ check 'a volume that is not whole' runs 3 'finding bitextra 800' '1 ls /'
 fresh 1024
 "$program" "$image" sh <"$work" >"$work/out" 2>"$work/err"
 check 'a script that cannot be read' test $? -eq 5
+
+# A workload leaves a volume that is whole, with as many nodes as it told.
+fresh 1024
+check 'a workload' sh -c "'$program' '$image' soak 7 200 >'$work/said' && grep -qx 'lines 204 ok [0-9]* refused [0-9]* nodes [0-9]*' '$work/said'"
+check 'leaves a whole volume' is_whole
+check 'of as many nodes' test "$(sed 's/.* nodes //' "$work/said")" = "$(sed 's/whole nodes \([0-9]*\) .*/\1/' "$work/out")"
 
 # Killed at a write: the volume mounts, and has the first so many of the directories, among them each that a sync stands behind.
 script='1 mkdir /d1

@@ -1,0 +1,93 @@
+#!/bin/sh
+# Calls a second of processor time by their kind, on a volume in a memory file system that has so many files already, in ten folders: a script of so many calls of one kind is run by
+# `sh`, and the processor time of a run without them is taken off. Each file has a size of its own: the numbers of one key stand in a chain of pages, which
+# grows with the files that are as long (all new ones are, with no bytes). Beside it SQLite in memory of the same kind: one table of names and one of attributes, a
+# statement a line and one transaction.
+# usage: bench/calls.sh [FILES..]
+set -eu
+root=$(dirname "$(dirname "$(readlink -f "$0")")")
+work=$(mktemp -d -p /dev/shm)
+trap 'rm -rf "$work"' EXIT
+"$root/bfs" "$work/none.img" >/dev/null
+program=${BFS_PROGRAM:-$root/crates/bfs_tool/out/bfs_tool}
+[ $# -gt 0 ] || set -- 1000 10000 100000
+
+for files in "$@"; do
+    blocks=$((files * 36 + 32768))
+    rm -f "$work/volume.img"
+    truncate -s $((blocks * 1024)) "$work/volume.img"
+    "$program" "$work/volume.img" mk --blocks $blocks >/dev/null
+    python3 - "$program" "$work" "$files" <<'END'
+import resource
+import shutil
+import sqlite3
+import subprocess
+import sys
+import time
+
+program, work, files = sys.argv[1], sys.argv[2], int(sys.argv[3])
+calls = 2000
+
+
+def run(image, lines):
+    """The processor time of a script."""
+    before = resource.getrusage(resource.RUSAGE_CHILDREN)
+    done = subprocess.run([program, image, "sh"], input="".join(f"1 {line}\n" for line in lines).encode(), capture_output=True)
+    assert done.returncode == 0, done.stdout[-200:]
+    after = resource.getrusage(resource.RUSAGE_CHILDREN)
+    return after.ru_utime + after.ru_stime - before.ru_utime - before.ru_stime
+
+
+image = f"{work}/volume.img"
+filled = run(image, ["mkindex weight LONG"] + [f"mkdir /d{i}" for i in range(10)] + [line for i in range(files) for line in (f"make /d{i % 10}/file{i}", f"size /d{i % 10}/file{i} {i * 977 % 65536 + 1}")])
+step = max(1, files // calls)
+there = [f"/d{i % 10}/file{i}" for i in range(0, files, step)][:calls]
+kinds = {
+    "make": [f"make /d{i % 10}/new{i}" for i in range(len(there))],
+    "stat": [f"stat {path}" for path in there],
+    "attr": [f"attr {path} weight LONG:{i}" for i, path in enumerate(there)],
+    "getattr": None,
+    "mv": [f"mv {path} {path}x" for path in there],
+    "size": [f"size {path} 1000" for path in there],
+    "rm": [f"rm {path}" for path in there],
+}
+told = []
+for kind, lines in kinds.items():
+    copy = f"{work}/copy.img"
+    shutil.copy(image, copy)
+    if kind == "getattr":
+        run(copy, kinds["attr"])
+        lines = [f"getattr {path} weight" for path in there]
+    base = min(run(copy, ["ls /"]) for _ in range(3))
+    seconds = run(copy, lines) - base
+    told.append(f"{kind} {len(lines) / seconds:.0f}" if seconds > base / 20 else f"{kind} (below the noise)")
+print(f"bfs sh, {files} files, calls a second: {', '.join(told)}; filled in {filled:.1f} s")
+
+base = sqlite3.connect(f"{work}/names.db", isolation_level=None)
+base.executescript("pragma journal_mode=wal; create table nodes (id integer primary key, dir int, name text, size int, unique (dir, name)); create table attrs (id int, name text, value int, primary key (id, name)); create index weight on attrs (name, value);")
+base.execute("begin")
+base.executemany("insert into nodes (dir, name, size) values (?, ?, 0)", ((i % 10, f"file{i}") for i in range(files)))
+base.execute("commit")
+pairs = [(i % 10, f"file{i}") for i in range(0, files, step)][:calls]
+work_of = {
+    "make": lambda i, d, n: base.execute("insert into nodes (dir, name, size) values (?, ?, 0)", (d, f"new{i}")),
+    "stat": lambda i, d, n: base.execute("select * from nodes where dir = ? and name = ?", (d, n)).fetchone(),
+    "attr": lambda i, d, n: base.execute("insert or replace into attrs select id, 'weight', ? from nodes where dir = ? and name = ?", (i, d, n)),
+    "getattr": lambda i, d, n: base.execute("select value from attrs where name = 'weight' and id = (select id from nodes where dir = ? and name = ?)", (d, n)).fetchone(),
+    "mv": lambda i, d, n: base.execute("update nodes set name = ? where dir = ? and name = ?", (n + "x", d, n)),
+    "size": lambda i, d, n: base.execute("update nodes set size = 1000 where dir = ? and name = ?", (d, n + "x")),
+    "rm": lambda i, d, n: base.execute("delete from nodes where dir = ? and name = ?", (d, n + "x")),
+}
+told = []
+for kind, call in work_of.items():
+    before = time.process_time()
+    base.execute("begin")
+    for i, (d, n) in enumerate(pairs):
+        call(i, d, n)
+    base.execute("commit")
+    told.append(f"{kind} {len(pairs) / (time.process_time() - before):.0f}")
+print(f"SQLite, {files} files, calls a second: {', '.join(told)}")
+base.close()
+subprocess.run(["rm", "-f", f"{work}/names.db", f"{work}/names.db-wal", f"{work}/names.db-shm"])
+END
+done

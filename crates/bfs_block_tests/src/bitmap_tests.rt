@@ -56,6 +56,22 @@ fn takes<E: Edits>(bitmap: &mut Bitmap, edits: &mut E) -> Result<[Run; 3], RunFa
     Ok([first, second, third])
 }
 
+/// Takes three runs, one of which is given back; and once more behind the groups: the four runs.
+fn takes_again<E: Edits>(bitmap: &mut Bitmap, edits: &mut E) -> Result<[Run; 4], RunFault>
+    requires block { E.size edits.old ≡ bitmap.old.block_size }
+    requires none { bitmap.old.last ≡ 0 }
+    ensures size { E.size edits.new ≡ E.size edits.old }
+    ensures frame { E.frame edits.new ≡ E.frame edits.old }
+{
+    let [first, second, third] = takes(bitmap, edits)?;
+    bitmap.keep();
+    bitmap.close_group(1);
+    bitmap.release(1);
+    let again = bitmap.take_run(edits, 4, 4)?;
+    bitmap.drop_call();
+    Ok([first, second, third, again])
+}
+
 #[test]
 fn the_lowest_run_is_taken_and_one_given_back_waits_for_its_group(
     rt: HostRuntime,
@@ -67,21 +83,19 @@ fn the_lowest_run_is_taken_and_one_given_back_waits_for_its_group(
     let mut open = Changed::new(alloc);
     let mut bitmap = Bitmap::of(alloc, &sup);
     let mut edits = Overlay::begin(&mut open, &mut under);
-    let taken = takes(&mut bitmap, &mut edits);
-    bitmap.keep();
-    bitmap.close_group(1);
-    bitmap.release(1);
-    let again = bitmap.take_run(&mut edits, 4, 4);
-    bitmap.drop_call();
+    let taken = takes_again(&mut bitmap, &mut edits);
     edits.drop_call();
+    let used = bitmap.used();
     let run = |start, len| Run {
         group: 0,
         start,
         len,
     };
-    assert_eq!(rt; taken?, [run(529, 4), run(533, 1), run(534, 4)]);
-    assert_eq!(rt; again?, run(529, 4));
-    assert_eq!(rt; bitmap.used(), 534);
+    assert_eq!(rt;
+        taken?,
+        [run(529, 4), run(533, 1), run(534, 4), run(529, 4)]
+    );
+    assert_eq!(rt; used, 534);
     Ok(())
 }
 
@@ -100,8 +114,10 @@ fn where_no_run_is_free_the_free_blocks_are_counted(rt: HostRuntime) -> Result<(
     let mut edits = Overlay::begin(&mut open, &mut under);
     let short = bitmap.take_run(&mut edits, 3, 8);
     edits.drop_call();
-    assert_eq!(rt; full, Err(RunFault::NoRun { wanted: 1, free: 0 }));
-    assert_eq!(rt; short, Err(RunFault::NoRun { wanted: 3, free: 4 }));
+    let none = matches!(full, Err(RunFault::NoRun { wanted: 1, free: 0 }));
+    let four = matches!(short, Err(RunFault::NoRun { wanted: 3, free: 4 }));
+    assert!(rt; none);
+    assert!(rt; four);
     Ok(())
 }
 
@@ -113,9 +129,10 @@ fn free_runs_are_counted_that_share_no_block(rt: HostRuntime) -> Result<(), Fail
     let bitmap = Bitmap::of(alloc, &sup);
     // Of the last eight blocks the third, fifth, sixth and eighth stay free.
     let mut under = memory(alloc, 2, 511, 0b0100_1011)?;
-    assert_eq!(rt; bitmap.free_runs(&mut under, 1, 9), Ok(4));
-    assert_eq!(rt; bitmap.free_runs(&mut under, 2, 9), Ok(1));
-    assert_eq!(rt; bitmap.free_runs(&mut under, 3, 9), Ok(0));
-    assert_eq!(rt; bitmap.free_runs(&mut under, 1, 3), Ok(3));
+    let single = matches!(bitmap.free_runs(&mut under, 1, 9), Ok(4));
+    let double = matches!(bitmap.free_runs(&mut under, 2, 9), Ok(1));
+    let triple = matches!(bitmap.free_runs(&mut under, 3, 9), Ok(0));
+    let most = matches!(bitmap.free_runs(&mut under, 1, 3), Ok(3));
+    assert_eq!(rt; [single, double, triple, most], [true, true, true, true]);
     Ok(())
 }

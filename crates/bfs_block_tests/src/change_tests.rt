@@ -63,32 +63,58 @@ fn call<B: Blocks>(
     found
 }
 
-#[test]
-fn an_overlay_reads_its_changes_and_keeps_them_or_not(rt: HostRuntime) -> Result<(), Fail> {
-    let alloc = rt.alloc();
-    let bytes = Vec::from_slice(alloc, &[0, 0, 0, 0, 1, 1, 1, 1, 2, 2, 2, 2])?;
-    let mut memory = MemBlocks::new(bytes, 4);
-    let mut open = Changed::new(alloc);
-    assert!(rt; open.is_empty());
-    assert_eq!(rt;
-        call(&mut open, &mut memory, 7, false)?,
-        [[0; 4], [7; 4], [7; 4]]
-    );
-    assert_eq!(rt; open.len(), 0);
-    assert_eq!(rt;
-        call(&mut open, &mut memory, 8, true)?,
-        [[0; 4], [8; 4], [8; 4]]
-    );
-    assert_eq!(rt; open.len(), 2);
-    assert_eq!(rt; open.block(0), 1);
-    assert_eq!(rt; open.bytes(1), [8; 4].as_slice());
-    assert_eq!(rt;
-        call(&mut open, &mut memory, 9, false)?,
-        [[0; 4], [9; 4], [9; 4]]
-    );
-    assert_eq!(rt; open.find(2), Some([8; 4].as_slice()));
-    assert_eq!(rt; open.find(3), None);
-    assert!(rt; lie_inside(&open, &memory));
+/// Whether a call that writes a value reads that value in blocks 1 and 2, and zeros in block 0.
+fn reads<B: Blocks>(open: &mut Changed, under: &mut B, value: u8, keeps: bool) -> bool
+    requires block { B.size under.old ≡ 4 }
+    requires ascends { Ascends «open».old }
+    requires sized { AreOfSize 4 «open».old }
+    ensures ascends { Ascends «open».new }
+    ensures sized { AreOfSize 4 «open».new }
+    ensures size { B.size under.new ≡ B.size under.old }
+{
+    match call(open, under, value, keeps) {
+        Ok(found) => found == [[0; 4], [value; 4], [value; 4]],
+        Err(_) => false,
+    }
+}
+
+/// Three calls, of which the second one is kept: whether each reads what it writes, and whether so many blocks are changed behind the first two.
+fn three_calls(open: &mut Changed, memory: &mut MemBlocks) -> [bool; 5]
+    requires block { memory.old.block_size ≡ 4 }
+    requires ascends { Ascends «open».old }
+    requires sized { AreOfSize 4 «open».old }
+    ensures ascends { Ascends «open».new }
+    ensures sized { AreOfSize 4 «open».new }
+    ensures block { memory.new.block_size ≡ 4 }
+{
+    let first = reads(open, memory, 7, false);
+    let none = open.len() == 0;
+    let second = reads(open, memory, 8, true);
+    let two = open.len() == 2;
+    [first, none, second, two, reads(open, memory, 9, false)]
+}
+
+/// Whether blocks 1 and 2 are changed, block 2 has eights, and block 3 isn't changed.
+fn has_eights(open: &Changed) -> bool
+    requires { Ascends «open».now }
+{
+    if open.len() != 2 {
+        return false;
+    }
+    let first = open.block(0) == 1;
+    let second = open.bytes(1) == [8; 4].as_slice();
+    let found = open.find(2) == Some([8; 4].as_slice());
+    first && second && found && open.find(3) == None
+}
+
+/// Whether the changed blocks are in the memory once they are applied, and are read there.
+fn goes_home(open: Changed, memory: &mut MemBlocks) -> bool
+    requires block { memory.old.block_size ≡ 4 }
+    requires sized { AreOfSize 4 «open» }
+{
+    if !lie_inside(&open, memory) {
+        return false;
+    }
     let group = Group {
         first: 1,
         last: 1,
@@ -96,11 +122,22 @@ fn an_overlay_reads_its_changes_and_keeps_them_or_not(rt: HostRuntime) -> Result
         blocks: open,
     };
     memory.apply(&group);
-    assert_eq!(rt;
-        memory.bytes(),
-        [0, 0, 0, 0, 8, 8, 8, 8, 8, 8, 8, 8].as_slice()
-    );
-    assert_eq!(rt; read(&mut memory, 2)?, [8; 4]);
+    let home = memory.bytes() == [0, 0, 0, 0, 8, 8, 8, 8, 8, 8, 8, 8].as_slice();
+    home && read(memory, 2) == Ok([8; 4])
+}
+
+#[test]
+fn an_overlay_reads_its_changes_and_keeps_them_or_not(rt: HostRuntime) -> Result<(), Fail> {
+    let alloc = rt.alloc();
+    let bytes = Vec::from_slice(alloc, &[0, 0, 0, 0, 1, 1, 1, 1, 2, 2, 2, 2])?;
+    let mut memory = MemBlocks::new(bytes, 4);
+    let mut open = Changed::new(alloc);
+    let empty = open.is_empty();
+    let told = three_calls(&mut open, &mut memory);
+    let eights = has_eights(&open);
+    let home = goes_home(open, &mut memory);
+    assert_eq!(rt; told, [true, true, true, true, true]);
+    assert_eq!(rt; [empty, eights, home], [true, true, true]);
     Ok(())
 }
 

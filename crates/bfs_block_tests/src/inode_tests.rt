@@ -51,44 +51,73 @@ const NOWHERE: Run = Run {
     len: 0,
 };
 
+/// The magic number, the type, the mode and the flags, the owners, and `etc`.
+fn words(inode: &InodeView<'_>) -> [i64; 7] {
+    [
+        i64::from(inode.magic1()),
+        i64::from(inode.type_code()),
+        i64::from(inode.mode()),
+        i64::from(inode.flags()),
+        i64::from(inode.uid()),
+        i64::from(inode.gid()),
+        i64::from(inode.etc()),
+    ]
+}
+
+/// The stamps, and the sizes.
+fn sizes(inode: &InodeView<'_>) -> [i64; 8] {
+    [
+        inode.create_time(),
+        inode.last_modified_time(),
+        inode.status_change_time(),
+        i64::from(inode.inode_size()),
+        inode.size(),
+        inode.max_direct_range(),
+        inode.max_indirect_range(),
+        inode.max_double_indirect_range(),
+    ]
+}
+
+/// The runs.
+fn runs(inode: &InodeView<'_>) -> [Run; 7] {
+    [
+        inode.inode_num(),
+        inode.parent(),
+        inode.attributes(),
+        inode.direct(0),
+        inode.direct(11),
+        inode.indirect(),
+        inode.double_indirect(),
+    ]
+}
+
+/// How long the parts are that are bytes; and whether the last one begins with the name's item.
+fn lengths(inode: &InodeView<'_>) -> ([usize; 3], bool) {
+    let lengths = [
+        inode.stream_bytes().len(),
+        inode.pad().len(),
+        inode.small_data().len(),
+    ];
+    (lengths, inode.small_data().starts_with(b"RTSC"))
+}
+
 #[test]
 fn the_fields_of_the_root_are_read(rt: HostRuntime) {
     let block = root();
     match InodeView::of(&block, 514, 13) {
         Ok(inode) => {
-            assert_eq!(rt; inode.magic1(), 0x3bbe0ad9);
-            assert!(rt; inode.inode_num() == HERE && inode.parent() == HERE);
-            assert_eq!(rt; inode.mode(), 0o40755);
-            assert_eq!(rt; (inode.uid(), inode.gid(), inode.flags()), (0, 0, 1));
-            assert_eq!(rt; inode.create_time(), 65_536_000);
-            assert_eq!(rt; inode.last_modified_time(), 65_536_000);
-            assert_eq!(rt; inode.status_change_time(), 65_536_000);
-            assert!(rt; inode.attributes() == NOWHERE);
+            assert_eq!(rt; words(&inode), [0x3bbe0ad9, 0, 0o40755, 1, 0, 0, 0]);
             assert_eq!(rt;
-                (inode.type_code(), inode.inode_size(), inode.etc()),
-                (0, 1024, 0)
+                sizes(&inode),
+                [65_536_000, 65_536_000, 65_536_000, 1024, 2048, 2048, 0, 0]
             );
-            assert!(rt;
-                inode.direct(0)
-                    == Run {
-                        group: 0,
-                        start: 515,
-                        len: 2
-                    }
-            );
-            assert!(rt; inode.direct(11) == NOWHERE);
-            assert_eq!(rt; (inode.max_direct_range(), inode.size()), (2048, 2048));
-            assert_eq!(rt;
-                (
-                    inode.max_indirect_range(),
-                    inode.max_double_indirect_range()
-                ),
-                (0, 0)
-            );
-            assert!(rt; inode.indirect() == NOWHERE && inode.double_indirect() == NOWHERE);
-            assert_eq!(rt; (inode.stream_bytes().len(), inode.pad().len()), (144, 8));
-            assert_eq!(rt; inode.small_data().len(), 1024 - SMALL_DATA);
-            assert!(rt; inode.small_data().starts_with(b"RTSC"));
+            let leaf = Run {
+                group: 0,
+                start: 515,
+                len: 2,
+            };
+            assert!(rt; runs(&inode) == [HERE, HERE, NOWHERE, leaf, NOWHERE, NOWHERE, NOWHERE]);
+            assert_eq!(rt; lengths(&inode), ([144, 8, 1024 - SMALL_DATA], true));
         }
         Err(_) => assert!(rt; false),
     }

@@ -32,6 +32,11 @@ fn find_if(area: &[u8], name: &[u8]) -> Option<Item> {
     }
 }
 
+// Whether the items end there, and this is the one of this name.
+fn has(area: &[u8], end: usize, name: &[u8], item: Item) -> bool {
+    list_end(area) == Ok(end) && find_if(area, name) == Some(item)
+}
+
 fn take_if(area: &mut [u8], name: &[u8]) -> bool {
     match list_end(area) {
         Err(_) => false,
@@ -39,37 +44,47 @@ fn take_if(area: &mut [u8], name: &[u8]) -> bool {
     }
 }
 
+// Puts an item of one byte, then none of 766 bytes, and one of 765.
+fn puts_most(area: &mut [u8]) -> bool {
+    let bytes = [0x7a; 766];
+    put_if(area, TEXT, OWN_NAME, b"a")
+        && !put_if(area, RAW, b"x", &bytes)
+        && list_end(area) == Ok(14)
+        && put_if(area, RAW, b"x", &bytes[..765])
+}
+
 #[test]
 fn an_area_of_792_bytes_takes_765_beside_a_name_of_one_letter(rt: HostRuntime) {
-    let bytes = [0x7a; 766];
     let mut area = [0u8; 792];
-    assert!(rt; put_if(&mut area, TEXT, OWN_NAME, b"a"));
-    assert!(rt; !put_if(&mut area, RAW, b"x", &bytes));
-    assert_eq!(rt; list_end(&area), Ok(14));
-    assert!(rt; put_if(&mut area, RAW, b"x", &bytes[..765]));
-    assert_eq!(rt; list_end(&area), Ok(792));
     let place = Item {
         kind: RAW,
         at: 26,
         len: 765,
     };
-    assert_eq!(rt; find_if(&area, b"x"), Some(place));
+    assert!(rt; puts_most(&mut area));
+    assert!(rt; has(&area, 792, b"x", place));
     let head = [
         0x52, 0x54, 0x53, 0x43, 1, 0, 1, 0, 0x13, 0, 0, 0, 0x61, 0, 0x54, 0x57, 0x41, 0x52, 1, 0,
         0xfd, 2, 0x78, 0, 0, 0, 0x7a,
     ];
     assert!(rt; area.starts_with(&head));
-    assert_eq!(rt; area[790], 0x7a);
-    assert_eq!(rt; area[791], 0);
+    assert_eq!(rt; (area[790], area[791]), (0x7a, 0));
+}
+
+// Puts three items, of which the last one takes the place of the first.
+fn puts_three(area: &mut [u8]) -> bool {
+    put_if(area, TEXT, OWN_NAME, b"a")
+        && put_if(area, RAW, b"x", b"12")
+        && put_if(area, TEXT, OWN_NAME, b"long")
+}
+
+// Whether the item is taken, and then isn't there.
+fn takes_once(area: &mut [u8]) -> bool {
+    take_if(area, OWN_NAME) && !take_if(area, OWN_NAME)
 }
 
 #[test]
 fn a_new_item_stands_where_the_old_one_of_its_name_stood(rt: HostRuntime) {
-    let mut area = [0u8; 64];
-    assert!(rt; put_if(&mut area, TEXT, OWN_NAME, b"a"));
-    assert!(rt; put_if(&mut area, RAW, b"x", b"12"));
-    assert!(rt; put_if(&mut area, TEXT, OWN_NAME, b"long"));
-    assert_eq!(rt; list_end(&area), Ok(32));
     let own = Item {
         kind: TEXT,
         at: 12,
@@ -80,17 +95,17 @@ fn a_new_item_stands_where_the_old_one_of_its_name_stood(rt: HostRuntime) {
         at: 29,
         len: 2,
     };
-    assert_eq!(rt; find_if(&area, OWN_NAME), Some(own));
-    assert_eq!(rt; find_if(&area, b"x"), Some(other));
-    assert!(rt; take_if(&mut area, OWN_NAME));
-    assert!(rt; !take_if(&mut area, OWN_NAME));
-    assert_eq!(rt; list_end(&area), Ok(15));
     let moved = Item {
         kind: RAW,
         at: 12,
         len: 2,
     };
-    assert_eq!(rt; find_if(&area, b"x"), Some(moved));
+    let mut area = [0u8; 64];
+    assert!(rt; puts_three(&mut area));
+    assert!(rt; has(&area, 32, OWN_NAME, own));
+    assert!(rt; has(&area, 32, b"x", other));
+    assert!(rt; takes_once(&mut area));
+    assert!(rt; has(&area, 15, b"x", moved));
 }
 
 #[test]

@@ -63,26 +63,30 @@ fn push_rows(alloc: Global, all: &mut Vec<u8>, rows: &[FoundRow]) -> Result<(), 
     Ok(())
 }
 
+fn push_count(alloc: Global, all: &mut Vec<u8>, number: i64) -> Result<(), AllocError> {
+    all.push(b' ')?;
+    push_number(alloc, all, number)
+}
+
+/// What a reply holds, behind its word.
+fn push_reply(alloc: Global, all: &mut Vec<u8>, reply: &Reply) -> Result<(), AllocError> {
+    match reply {
+        Reply::Names { names } => push_names(all, names.as_slice()),
+        Reply::Rows { rows } => push_rows(alloc, all, rows.as_slice()),
+        Reply::Target { bytes } => {
+            all.push(b' ')?;
+            all.extend_from_slice(bytes.as_slice())
+        }
+        Reply::Indices { rows } => push_count(alloc, all, rows.as_slice().len() as i64),
+        Reply::Held { session } => push_count(alloc, all, i64::from(*session)),
+        _ => Ok(()),
+    }
+}
+
 /// A reply as one line: its word, and what it holds.
 fn text(alloc: Global, reply: &Reply) -> Result<Vec<u8>, AllocError> {
     let mut all = Vec::from_slice(alloc, word(reply).as_bytes())?;
-    match reply {
-        Reply::Names { names } => push_names(&mut all, names.as_slice())?,
-        Reply::Rows { rows } => push_rows(alloc, &mut all, rows.as_slice())?,
-        Reply::Target { bytes } => {
-            all.push(b' ')?;
-            all.extend_from_slice(bytes.as_slice())?;
-        }
-        Reply::Indices { rows } => {
-            all.push(b' ')?;
-            push_number(alloc, &mut all, rows.as_slice().len() as i64)?;
-        }
-        Reply::Held { session } => {
-            all.push(b' ')?;
-            push_number(alloc, &mut all, i64::from(*session))?;
-        }
-        _ => {}
-    }
+    push_reply(alloc, &mut all, reply)?;
     Ok(all)
 }
 
@@ -524,11 +528,17 @@ fn lists(tree: &Model, dir: u64, name: &[u8]) -> Result<bool, AllocError> {
     }
 }
 
+/// Makes the folder 0 with the file 1 in it.
+fn makes_in_folder(tree: &mut Model) -> Result<(), AllocError> {
+    tree.make(ROOT, b"a", &MakeKind::Dir, 0o755, 65_536_000)?;
+    tree.make(0, b"f", &MakeKind::File, 0o644, 65_536_002)?;
+    Ok(())
+}
+
 #[test]
 fn a_file_in_a_folder_has_the_stamps_of_its_entry(rt: HostRuntime) -> Result<(), Fail> {
     let mut tree = Model::new(rt.alloc(), ROOT, 65_536_000)?;
-    tree.make(ROOT, b"a", &MakeKind::Dir, 0o755, 65_536_000)?;
-    tree.make(0, b"f", &MakeKind::File, 0o644, 65_536_002)?;
+    makes_in_folder(&mut tree)?;
     let listed = lists(&tree, 0, b"f")?;
     let made = is_as_made(&tree, 1, 65_536_002)?;
     assert_eq!(rt; (listed, made), (true, true));
@@ -658,19 +668,28 @@ fn listed(alloc: Global, tree: &Model) -> Result<Vec<u8>, AllocError> {
     text(alloc, &reply)
 }
 
+/// Whether just these names are in the root.
+fn has_names(alloc: Global, tree: &Model, names: &str) -> Result<bool, AllocError> {
+    let listed = listed(alloc, tree)?;
+    Ok(listed.as_slice() == names.as_bytes())
+}
+
+/// Makes a file, removes it, and makes another.
+fn makes_another(tree: &mut Model) -> Result<(), AllocError> {
+    tree.make(ROOT, b"a", &MakeKind::File, 0o644, 2)?;
+    tree.remove(ROOT, b"a", 3)?;
+    tree.make(ROOT, b"b", &MakeKind::File, 0o644, 4)?;
+    Ok(())
+}
+
 #[test]
 fn a_name_is_free_again_and_a_sync_changes_nothing(rt: HostRuntime) -> Result<(), Fail> {
     let mut tree = Model::new(rt.alloc(), ROOT, 0)?;
     let durable = synced(&mut tree)?;
-    let before = listed(rt.alloc(), &tree)?;
-    tree.make(ROOT, b"a", &MakeKind::File, 0o644, 2)?;
-    tree.remove(ROOT, b"a", 3)?;
-    tree.make(ROOT, b"b", &MakeKind::File, 0o644, 4)?;
-    let after = listed(rt.alloc(), &tree)?;
-    assert_eq!(rt;
-        (durable, before.as_slice(), after.as_slice()),
-        (true, b"ok".as_slice(), b"ok b".as_slice())
-    );
+    let before = has_names(rt.alloc(), &tree, "ok")?;
+    makes_another(&mut tree)?;
+    let after = has_names(rt.alloc(), &tree, "ok b")?;
+    assert_eq!(rt; (durable, before, after), (true, true, true));
     Ok(())
 }
 
@@ -736,11 +755,8 @@ fn two_hundred_long_names_are_listed_after_each_call(rt: HostRuntime) -> Result<
     let mut there = [false; 200];
     let made = make_all(&mut tree, &mut there)?;
     let removed = remove_all(&mut tree, &mut there)?;
-    let left = listed(rt.alloc(), &tree)?;
-    assert_eq!(rt;
-        (made, removed, left.as_slice()),
-        (true, true, b"ok".as_slice())
-    );
+    let left = has_names(rt.alloc(), &tree, "ok")?;
+    assert_eq!(rt; (made, removed, left), (true, true, true));
     Ok(())
 }
 
@@ -848,6 +864,12 @@ fn entry_of(alloc: Global, number: u8) -> Result<Entry, AllocError> {
     }
 }
 
+/// Whether the entry is taken.
+fn follows(alloc: Global, tree: &mut Model, number: u8) -> Result<bool, AllocError> {
+    let entry = entry_of(alloc, number)?;
+    tree.follow(&entry)
+}
+
 /// The entry is taken or not, as it should be, and these names are in the root then.
 fn takes(
     alloc: Global,
@@ -856,10 +878,9 @@ fn takes(
     want: bool,
     names: &str,
 ) -> Result<bool, AllocError> {
-    let entry = entry_of(alloc, number)?;
-    let taken = tree.follow(&entry)?;
-    let listed = listed(alloc, tree)?;
-    Ok(taken == want && listed.as_slice() == names.as_bytes())
+    let taken = follows(alloc, tree, number)?;
+    let named = has_names(alloc, tree, names)?;
+    Ok(taken == want && named)
 }
 
 #[test]

@@ -197,6 +197,18 @@ fn the_first_broken_condition_of_a_page_is_told(rt: HostRuntime) {
     assert_eq!(rt; check(&root_leaf(), KeyKind::Text), Ok(()));
 }
 
+/// How many of 91 keys of one byte a page takes, before the first that it doesn't.
+fn letters_put() -> u8 {
+    let mut page = [0u8; 1024];
+    blank(&mut page);
+    for byte in 0..91u8 {
+        if !put(&mut page, KeyKind::Text, &[byte], -7) {
+            return byte;
+        }
+    }
+    91
+}
+
 #[test]
 fn a_page_takes_rows_up_to_its_last_byte(rt: HostRuntime) {
     let mut page = [0u8; 1024];
@@ -210,11 +222,7 @@ fn a_page_takes_rows_up_to_its_last_byte(rt: HostRuntime) {
     assert!(rt; put(&mut page, KeyKind::Text, &long[..191], i64::MAX));
     assert!(rt; free(&page) == Some(0));
     assert!(rt; !put(&mut page, KeyKind::Text, b"a", 0));
-    let mut small = [0u8; 1024];
-    blank(&mut small);
-    for byte in 0..91u8 {
-        assert_eq!(rt; put(&mut small, KeyKind::Text, &[byte], -7), byte < 90);
-    }
+    assert_eq!(rt; letters_put(), 90);
     let want: [(&[u8], i64); 4] = [
         (&long[..191], i64::MAX),
         (&first, i64::MIN),
@@ -222,6 +230,26 @@ fn a_page_takes_rows_up_to_its_last_byte(rt: HostRuntime) {
         (&third, i64::MIN),
     ];
     assert!(rt; has_rows(&page, &want));
+}
+
+/// Puts a row for each key but the second, not in their order.
+fn are_put(page: &mut [u8; 1024], kind: KeyKind, keys: &[&[u8]; 6]) -> bool {
+    for i in [3, 5, 0, 4, 2] {
+        if !put(page, kind, keys[i], i as i64) {
+            return false;
+        }
+    }
+    true
+}
+
+/// Whether each key is at its place.
+fn are_found(page: &[u8; 1024], kind: KeyKind, keys: &[&[u8]; 6]) -> bool {
+    for i in 0..6 {
+        if find(page, kind, keys[i]) != Some(Ok(i)) {
+            return false;
+        }
+    }
+    true
 }
 
 #[test]
@@ -263,21 +291,11 @@ fn keys_ascend_by_their_kind(rt: HostRuntime) {
     for (kind, keys) in table {
         let mut page = [0u8; 1024];
         blank(&mut page);
-        for i in [3, 5, 0, 4, 2] {
-            assert!(rt;
-                put(&mut page, kind, keys[i], i as i64),
-                "key {i} of {kind:?}"
-            );
-        }
+        assert!(rt; are_put(&mut page, kind, &keys), "{kind:?}");
         assert!(rt; !put(&mut page, kind, keys[3], 9));
         assert!(rt; find(&page, kind, keys[1]) == Some(Err(1)), "{kind:?}");
         assert!(rt; put(&mut page, kind, keys[1], 1));
-        for i in 0..6 {
-            assert!(rt;
-                find(&page, kind, keys[i]) == Some(Ok(i)),
-                "key {i} of {kind:?}"
-            );
-        }
+        assert!(rt; are_found(&page, kind, &keys), "{kind:?}");
     }
 }
 

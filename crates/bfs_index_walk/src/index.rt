@@ -16,13 +16,14 @@ ghost use Rattle.bfs_claims.specs.Claims.{AreClaimed};
 ghost use Rattle.bfs_inode_walk.specs.Visited.{IsTrueOf, IsTaken, IsUntaken, IsVisitCause};
 
 use crate::header::find_kind;
-use crate::values::read_values;
+use crate::values::read_rows;
 use bfs_claims::Claims;
 use bfs_inode_walk::{VisitFault, visit_inode};
 use bfs_node::KeyKind;
 use bfs_node_check::Role;
 use bfs_super::Super;
 use bfs_txn::Blocks;
+use bfs_value_walk::NoRows;
 use std::alloc::Global;
 
 /// The kind of keys of the tree of an index, all of which is read.
@@ -56,14 +57,14 @@ fn read_tree<B: Blocks>(
         Ok(kind) => kind,
         Err(fault) => return Err(fault),
     };
-    match read_values(alloc, under, sup, id, bytes, kind) {
-        Ok(_) => Ok(kind),
+    let mut none = NoRows {};
+    match read_rows(alloc, under, sup, id, bytes, kind, &mut none) {
+        Ok(()) => Ok(kind),
         Err(fault) => Err(fault),
     }
 }
 
 /// Goes over the index at this block: its inode, its stream and blocks, which are claimed, and its whole tree. Answers the kind of its keys.
-/// It takes the memory of all keys with their numbers.
 pub fn visit_index<B: Blocks>(
     alloc: Global,
     under: &mut B,

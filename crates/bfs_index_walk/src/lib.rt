@@ -15,10 +15,11 @@ mod values;
 mod walk;
 
 pub use bfs_attrs_walk as attrs_walk;
+pub use bfs_value_walk::RowSink;
 pub use found::FoundIndex;
 pub use header::find_kind;
 pub use index::visit_index;
 pub use laws::{none_is_rowless, walk_is_tour, walk_stands};
 pub use owners::find_index_owner;
-pub use values::read_values;
+pub use values::{read_rows, read_values};
 pub use walk::visit_indices;

@@ -26,6 +26,7 @@ use Rattle.bfs_sound.specs.Whole.{HasIndices}
 use Rattle.bfs_finding.specs.TreeFaults.{HasTree}
 use Rattle.bfs_finding.proofs.Rows.{all_in, text_same}
 use Rattle.bfs_tour.specs.Tours.{Visit, toured_tree}
+use Rattle.bfs_key_walk.specs.Gathered.{IsUnread}
 use Rattle.bfs_key_walk.specs.NodeLead.{NodeLead}
 use Rattle.bfs_inode_walk.specs.Visited.{IsTrueOf, IsUntaken}
 use Rattle.bfs_inode_walk.specs.declared.fault.VisitFault.{VisitFault}
@@ -109,6 +110,12 @@ pub true_with : (v : Volume) (tree : Tree) (fault : VisitFault) → IsTrueOf v f
 true_with v tree (Wrong finding) is untaken = inl is
 true_with v tree (Taken block owner) is untaken = absurd untaken
 true_with v tree (Block fault) is untaken = tt
+
+-- where a block could not be had nothing is said
+pub unread_with : (v : Volume) (tree : Tree) (fault : VisitFault) → IsUnread fault → IsTrueWith v tree fault
+unread_with v tree (Wrong finding) is = absurd is
+unread_with v tree (Taken block owner) is = absurd is
+unread_with v tree (Block fault) is = tt
 
 -- the next of the indices lists what it has to, and so do those before
 pub more_listed : (v : Volume) (tree : Tree) (xs : List FoundIndex) (x : FoundIndex) → AllListed v tree xs → ListsAll v tree x → AllListed v tree (xs ++ (x ∷ []))

@@ -5,6 +5,7 @@
 mod built_in;
 mod index;
 mod pass;
+mod same;
 
 pub use bfs_index_walk as index_walk;
 pub use bfs_index_walk::attrs_walk as attrs_walk;

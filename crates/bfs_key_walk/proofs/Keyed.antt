@@ -1,5 +1,5 @@
 -- The key of a node by the index's name.
-use Rattle.std.proofs.Common.{◌≡◌, ◌∙◌, ℕ, List, Bool, true, false, cond, Option, Some, None, codes, sym, ap}
+use Rattle.std.proofs.Common.{◌≡◌, ◌∙◌, ℕ, List, Bool, true, false, cond, Option, Some, None, codes, refl, sym, ap}
 use Rattle.std.specs.Option.{option_and_then}
 use Rattle.std.specs.Prelude.{◌==◌}
 use Rattle.std.specs.Str.{bytes_eq}
@@ -8,6 +8,7 @@ use Rattle.bfs_base.specs.declared.kind.KeyKind.{KeyKind}
 use Rattle.bfs_bytes.specs.Fields.{unsigned_bytes, signed64_bytes}
 use Rattle.bfs_tree.specs.Listings.{key_in, key_of_attribute}
 use Rattle.bfs_tree.specs.Trees.{Node, is_file}
+use Rattle.bfs_key_walk.specs.declared.inode_keys.FileKeys.{FileKeys}
 
 module _ (root : ℕ) (index : List ℕ) (kind : KeyKind) (id : ℕ) (n : Node) where
   abbrev by_attributes : Option (List ℕ)
@@ -28,8 +29,20 @@ module _ (root : ℕ) (index : List ℕ) (kind : KeyKind) (id : ℕ) (n : Node) 
   pub named_key : (is_root : Bool) → bytes_eq index (codes "name") ≡ true → is_root ≡ (id == root) → key_in root index kind id n ≡ cond is_root None (Some n.name)
   named_key is_root e r = ap (λ (t : Bool). by_tests t is_size is_time (id == root)) e ∙ ap (λ (t : Bool). by_tests true is_size is_time t) (sym r)
 
-pub no_file : (f : Bool) (bytes : List ℕ) → f ≡ false → None ≡ cond f (Some bytes) None
-no_file f bytes e = sym (ap (λ (t : Bool). cond t (Some bytes) None) e)
+-- what was read of a node that is no file, and of a file
+pub no_keys : (f : Bool) (keys : FileKeys) → f ≡ false → None ≡ cond f (Some keys) None
+no_keys f keys e = sym (ap (λ (t : Bool). cond t (Some keys) None) e)
 
-pub is_file_key : (f : Bool) (key bytes : List ℕ) → f ≡ true → key ≡ bytes → Some key ≡ cond f (Some bytes) None
-is_file_key f key bytes e same = ap (λ (b : List ℕ). Some b) same ∙ sym (ap (λ (t : Bool). cond t (Some bytes) None) e)
+pub has_keys : (f : Bool) (keys : FileKeys) → f ≡ true → Some keys ≡ cond f (Some keys) None
+has_keys f keys e = sym (ap (λ (t : Bool). cond t (Some keys) None) e)
+
+-- the key of one that has none, and of one that has
+pub key_of_none : (f : Bool) (keys : FileKeys) (bytes : List ℕ) → None ≡ cond f (Some keys) None → None ≡ cond f (Some bytes) None
+key_of_none true keys bytes e = absurd (let bad : None ≡ Some keys = e in cc)
+key_of_none false keys bytes e = refl
+
+pub key_of_some : (f by_size : Bool) (keys these : FileKeys) → Some keys ≡ cond f (Some these) None → Some (cond by_size keys.size keys.stamp) ≡ cond f (Some (cond by_size these.size these.stamp)) None
+key_of_some true by_size keys these e =
+    let same : keys ≡ these = let both : Some keys ≡ Some these = e in cc in
+    ap (λ (k : FileKeys). Some (cond by_size k.size k.stamp)) same
+key_of_some false by_size keys these e = absurd (let bad : Some keys ≡ None = e in cc)

@@ -2,3 +2,4 @@ pub mod Keyed
 pub mod Bearing
 pub mod Gathers
 pub mod Toured
+mod Filed

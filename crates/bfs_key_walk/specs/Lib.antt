@@ -1,3 +1,4 @@
 pub mod Gathered
+pub mod Keys
 pub use Rattle.bfs_nodes_walk.specs.declared.lead.NodeLead
 pub use Rattle.bfs_nodes_walk.specs.Leads

@@ -1,5 +1,5 @@
 // The pairs of nodes, one after the other.
-ghost use Rattle.std.specs.Prelude.{◌≡◌, ◌<◌, ◌++◌, ◌==◌, ℕ, List, map, Option, Some, OnOk, IfErr};
+ghost use Rattle.std.specs.Prelude.{◌≡◌, ◌<◌, ◌++◌, ◌==◌, ℕ, List, map, length, get_or, Option, Some, None, OnOk, IfErr};
 ghost use Rattle.bfs_super.specs.Conditions.{IsValid, natural};
 ghost use Rattle.bfs_txn.specs.Faults.{AreLater};
 ghost use Rattle.bfs_stream.specs.Sizes.{sizes_of};
@@ -14,7 +14,10 @@ ghost use Rattle.bfs_nodes_walk.specs.Listed.{NamesBlock};
 ghost use Rattle.bfs_inode_walk.specs.Visited.{IsVisitCause};
 ghost use Rattle.bfs_index_check.specs.Compared.{pairs_of};
 ghost use Rattle.bfs_key_walk.specs.Gathered.{IsKnown, IsUnread, IsFor, AreFor, pair_with};
+ghost use Rattle.bfs_key_walk.specs.Keys.{keys_of, keys_of_visits};
 
+use crate::FileKeys;
+use crate::inode_keys::number_of;
 use crate::key::node_key;
 use bfs_index::Pair;
 use bfs_inode_walk::VisitFault;
@@ -47,6 +50,7 @@ pub(crate) fn gather_node<B: Blocks>(
     id: u64,
     is_root: bool,
     name: &[u8],
+    keys: Option<FileKeys>,
     index: &[u8],
     kind: KeyKind,
     pairs: &mut Vec<Pair>,
@@ -56,7 +60,7 @@ pub(crate) fn gather_node<B: Blocks>(
     requires size { B.size under.old ≡ sup.now.block_size }
     requires all { (m : ℕ → Option (List ℕ)) → B.told under.old ≡ Some m → IsAllTold (sizes_of sup.now) m }
     requires known { (m : ℕ → Option (List ℕ)) → B.told under.old ≡ Some m → (n : Node) × IsKnown (volume_of sup.now (contents m)) id n }
-    ensures gathered { (m : ℕ → Option (List ℕ)) (root : ℕ) (n : Node) → B.told under.old ≡ Some m → IsKnown (volume_of sup.now (contents m)) id n → n.name ≡ name.now → is_root ≡ (id == root) → OnOk result (pairs_of pairs.new.items ≡ pairs_of pairs.old.items ++ pair_with (key_in root index.now kind id n) id) }
+    ensures gathered { (m : ℕ → Option (List ℕ)) (root : ℕ) (n : Node) → B.told under.old ≡ Some m → IsKnown (volume_of sup.now (contents m)) id n → n.name ≡ name.now → is_root ≡ (id == root) → keys ≡ keys_of n → OnOk result (pairs_of pairs.new.items ≡ pairs_of pairs.old.items ++ pair_with (key_in root index.now kind id n) id) }
     ensures unread { (m : ℕ → Option (List ℕ)) (n : Node) → B.told under.old ≡ Some m → IsKnown (volume_of sup.now (contents m)) id n → IfErr result IsUnread }
     ensures told { B.told under.new ≡ B.told under.old }
     ensures changed { B.changed under.new ≡ B.changed under.old }
@@ -66,7 +70,7 @@ pub(crate) fn gather_node<B: Blocks>(
     ensures later { AreLater (B.counts under.old) (B.counts under.new) }
     ensures cause { IfErr result (IsVisitCause (B.counts under.old) (B.counts under.new)) }
 {
-    let key = match node_key(alloc, under, sup, id, is_root, name, index, kind) {
+    let key = match node_key(alloc, under, sup, id, is_root, name, keys, index, kind) {
         Ok(key) => key,
         Err(fault) => return Err(fault),
     };
@@ -76,19 +80,13 @@ pub(crate) fn gather_node<B: Blocks>(
     }
 }
 
-/// The number that a row names.
-fn number_of(value: i64) -> u64
-    ensures { result ≡ natural value }
-{
-    if value < 0 { 0 } else { value as u64 }
-}
-
 /// The same of the node that a row names.
 fn gather_lead<B: Blocks>(
     alloc: Global,
     under: &mut B,
     sup: &Super,
     lead: &NodeLead,
+    keys: Option<FileKeys>,
     index: &[u8],
     kind: KeyKind,
     pairs: &mut Vec<Pair>,
@@ -98,7 +96,7 @@ fn gather_lead<B: Blocks>(
     requires size { B.size under.old ≡ sup.now.block_size }
     requires all { (m : ℕ → Option (List ℕ)) → B.told under.old ≡ Some m → IsAllTold (sizes_of sup.now) m }
     requires known { (m : ℕ → Option (List ℕ)) → B.told under.old ≡ Some m → (root : ℕ) × (e : Visit) × IsFor (volume_of sup.now (contents m)) root lead.now e }
-    ensures gathered { (m : ℕ → Option (List ℕ)) (root : ℕ) (e : Visit) → B.told under.old ≡ Some m → IsFor (volume_of sup.now (contents m)) root lead.now e → OnOk result (pairs_of pairs.new.items ≡ pairs_of pairs.old.items ++ pair_with (key_in root index.now kind e.0 e.1) e.0) }
+    ensures gathered { (m : ℕ → Option (List ℕ)) (root : ℕ) (e : Visit) → B.told under.old ≡ Some m → IsFor (volume_of sup.now (contents m)) root lead.now e → keys ≡ keys_of e.1 → OnOk result (pairs_of pairs.new.items ≡ pairs_of pairs.old.items ++ pair_with (key_in root index.now kind e.0 e.1) e.0) }
     ensures unread { (m : ℕ → Option (List ℕ)) (root : ℕ) (e : Visit) → B.told under.old ≡ Some m → IsFor (volume_of sup.now (contents m)) root lead.now e → IfErr result IsUnread }
     ensures told { B.told under.new ≡ B.told under.old }
     ensures changed { B.changed under.new ≡ B.changed under.old }
@@ -110,10 +108,18 @@ fn gather_lead<B: Blocks>(
 {
     let id = number_of(lead.row.value);
     let name = lead.row.name.as_slice();
-    match gather_node(alloc, under, sup, id, false, name, index, kind, pairs) {
+    match gather_node(alloc, under, sup, id, false, name, keys, index, kind, pairs) {
         Ok(()) => Ok(()),
         Err(fault) => Err(fault),
     }
+}
+
+/// What was read of the node that a row names.
+fn keys_at(keys: &[Option<FileKeys>], i: usize) -> Option<FileKeys>
+    requires { i < length keys.now }
+    ensures { result ≡ get_or keys.now i None }
+{
+    keys[i]
 }
 
 /// The pairs of the nodes that rows name, behind others.
@@ -122,16 +128,18 @@ pub(crate) fn gather_leads<B: Blocks>(
     under: &mut B,
     sup: &Super,
     leads: &[NodeLead],
+    keys: &[Option<FileKeys>],
     index: &[u8],
     kind: KeyKind,
     pairs: &mut Vec<Pair>,
 ) -> Result<(), VisitFault>
     requires valid { IsValid sup.now }
     requires inside { AreInside (natural sup.now.num_blocks) leads.now }
+    requires many { length keys.now ≡ length leads.now }
     requires size { B.size under.old ≡ sup.now.block_size }
     requires all { (m : ℕ → Option (List ℕ)) → B.told under.old ≡ Some m → IsAllTold (sizes_of sup.now) m }
     requires known { (m : ℕ → Option (List ℕ)) → B.told under.old ≡ Some m → (root : ℕ) × (es : List Visit) × AreFor (volume_of sup.now (contents m)) root leads.now es }
-    ensures gathered { (m : ℕ → Option (List ℕ)) (root : ℕ) (es : List Visit) → B.told under.old ≡ Some m → AreFor (volume_of sup.now (contents m)) root leads.now es → OnOk result (pairs_of pairs.new.items ≡ pairs_of pairs.old.items ++ pairs_in root index.now kind es) }
+    ensures gathered { (m : ℕ → Option (List ℕ)) (root : ℕ) (es : List Visit) → B.told under.old ≡ Some m → AreFor (volume_of sup.now (contents m)) root leads.now es → keys.now ≡ keys_of_visits es → OnOk result (pairs_of pairs.new.items ≡ pairs_of pairs.old.items ++ pairs_in root index.now kind es) }
     ensures unread { (m : ℕ → Option (List ℕ)) (root : ℕ) (es : List Visit) → B.told under.old ≡ Some m → AreFor (volume_of sup.now (contents m)) root leads.now es → IfErr result IsUnread }
     ensures told { B.told under.new ≡ B.told under.old }
     ensures changed { B.changed under.new ≡ B.changed under.old }
@@ -142,7 +150,8 @@ pub(crate) fn gather_leads<B: Blocks>(
     ensures cause { IfErr result (IsVisitCause (B.counts under.old) (B.counts under.new)) }
 {
     for i in 0..leads.len() {
-        match gather_lead(alloc, under, sup, &leads[i], index, kind, pairs) {
+        let one = keys_at(keys, i);
+        match gather_lead(alloc, under, sup, &leads[i], one, index, kind, pairs) {
             Ok(()) => {}
             Err(fault) => return Err(fault),
         }

@@ -4,8 +4,10 @@
 
 mod fault;
 mod gather;
+mod inode_keys;
 mod key;
 mod wanted;
 
 pub use bfs_nodes_walk as nodes_walk;
+pub use inode_keys::{FileKeys, read_file_keys};
 pub use wanted::wanted_pairs;

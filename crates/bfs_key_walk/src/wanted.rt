@@ -1,5 +1,5 @@
 // The pairs that an index has to list.
-ghost use Rattle.std.specs.Prelude.{◌≡◌, ◌<◌, ◌∷◌, ℕ, List, Option, Some, IfOk, IfErr};
+ghost use Rattle.std.specs.Prelude.{◌≡◌, ◌<◌, ◌∷◌, ℕ, List, length, Option, Some, IfOk, IfErr};
 ghost use Rattle.std.specs.FinMap.{entries, from_entries};
 ghost use Rattle.std.specs.Ordering.{nat_cmp};
 ghost use Rattle.bfs_super.specs.Conditions.{IsValid, natural};
@@ -13,9 +13,12 @@ ghost use Rattle.bfs_tour.specs.Tours.{Visit};
 ghost use Rattle.bfs_nodes_walk.specs.Leads.{AreInside};
 ghost use Rattle.bfs_inode_walk.specs.Visited.{IsVisitCause};
 ghost use Rattle.bfs_index_check.specs.Compared.{pairs_of};
-ghost use Rattle.bfs_key_walk.specs.Gathered.{IsUnread, IsGoneOver};
+ghost use Rattle.bfs_key_walk.specs.Gathered.{IsUnread, IsGoneOver, oldest_first};
+ghost use Rattle.bfs_key_walk.specs.Keys.{keys_of_visits};
 
+use crate::FileKeys;
 use crate::gather::{gather_leads, gather_node};
+use crate::inode_keys::read_keys;
 use bfs_index::Pair;
 use bfs_index_check::sort_pairs;
 use bfs_inode_walk::VisitFault;
@@ -26,24 +29,26 @@ use bfs_txn::{BlockFault, Blocks};
 use std::alloc::Global;
 
 /// The pairs that an index of a name and kind has to list, in its order, of all nodes that were gone over: the root at this block, and those
-/// that rows name. A file's inode is read for its size or its stamp, and a node's attributes for one of the index's name; for the index of
-/// names nothing is read. It takes the memory of these pairs.
+/// that rows name, whose keys as files were read before. Beside the root's inode only a node's attributes are read, for an index of their name. It
+/// takes the memory of these pairs.
 pub fn wanted_pairs<B: Blocks>(
     alloc: Global,
     under: &mut B,
     sup: &Super,
     root: u64,
     leads: &[NodeLead],
+    keys: &[Option<FileKeys>],
     index: &[u8],
     kind: KeyKind,
 ) -> Result<Vec<Pair>, VisitFault>
     requires valid { IsValid sup.now }
     requires root_inside { root < natural sup.now.num_blocks }
     requires inside { AreInside (natural sup.now.num_blocks) leads.now }
+    requires many { length keys.now ≡ length leads.now }
     requires size { B.size under.old ≡ sup.now.block_size }
     requires all { (m : ℕ → Option (List ℕ)) → B.told under.old ≡ Some m → IsAllTold (sizes_of sup.now) m }
     requires known { (m : ℕ → Option (List ℕ)) → B.told under.old ≡ Some m → (top : Visit) × (visits : List Visit) × IsGoneOver (volume_of sup.now (contents m)) root leads.now top visits }
-    ensures wanted { (m : ℕ → Option (List ℕ)) (top : Visit) (visits : List Visit) → B.told under.old ≡ Some m → IsGoneOver (volume_of sup.now (contents m)) root leads.now top visits → IfOk result (λ pairs. pairs_of pairs.items ≡ listed_among root index.now kind (entries (from_entries {R = nat_cmp} (top ∷ visits)))) }
+    ensures wanted { (m : ℕ → Option (List ℕ)) (top : Visit) (visits : List Visit) → B.told under.old ≡ Some m → IsGoneOver (volume_of sup.now (contents m)) root leads.now top visits → keys.now ≡ keys_of_visits (oldest_first visits) → IfOk result (λ pairs. pairs_of pairs.items ≡ listed_among root index.now kind (entries (from_entries {R = nat_cmp} (top ∷ visits)))) }
     ensures unread { (m : ℕ → Option (List ℕ)) → B.told under.old ≡ Some m → IfErr result IsUnread }
     ensures told { B.told under.new ≡ B.told under.old }
     ensures changed { B.changed under.new ≡ B.changed under.old }
@@ -54,11 +59,26 @@ pub fn wanted_pairs<B: Blocks>(
     ensures cause { IfErr result (IsVisitCause (B.counts under.old) (B.counts under.new)) }
 {
     let mut pairs = Vec::new(alloc);
-    match gather_node(alloc, under, sup, root, true, &[], index, kind, &mut pairs) {
+    let top = match read_keys(alloc, under, sup, root) {
+        Ok(top) => top,
+        Err(fault) => return Err(fault),
+    };
+    match gather_node(
+        alloc,
+        under,
+        sup,
+        root,
+        true,
+        &[],
+        top,
+        index,
+        kind,
+        &mut pairs,
+    ) {
         Ok(()) => {}
         Err(fault) => return Err(fault),
     }
-    match gather_leads(alloc, under, sup, leads, index, kind, &mut pairs) {
+    match gather_leads(alloc, under, sup, leads, keys, index, kind, &mut pairs) {
         Ok(()) => {}
         Err(fault) => return Err(fault),
     }

@@ -16,8 +16,8 @@ use bfs_node::{Header, KeyKind};
 use bfs_pages::place;
 use bfs_tree_check::{check_tree, look_at_header, new_marks};
 use bfs_txn::{Pages, Steps};
+use bfs_value_walk::check_values;
 use bfs_value_walk::tree_walk::check_met;
-use bfs_value_walk::walk_values;
 use bfs_walk::{WalkFault, walked_is_whole};
 use std::alloc::Global;
 use std::sync::ledger::Ledger;
@@ -38,8 +38,8 @@ fn check_others<P: Pages, L: Ledger>(
     ensures goes_on { P.goes_on pages.old pages.new }
     ensures is_read { P.is_read pages.old pages.new }
 {
-    match walk_values(alloc, pages, KeyKind::Text, steps) {
-        Ok(_) => Ok(()),
+    match check_values(alloc, pages, KeyKind::Text, steps) {
+        Ok(()) => Ok(()),
         Err(fault) => Err(fault),
     }
 }

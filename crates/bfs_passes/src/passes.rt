@@ -26,7 +26,7 @@ pub struct Summary {
 
 /// Passes a volume whose superblock is valid: its log is empty, and it is sound with a tree. Else what is wrong is told, or a block that is
 /// shared, or one that is reached and not marked. Nothing is written, and no file's data is read. It takes one bit for each block, the names of
-/// all nodes, and the pairs of one index.
+/// all nodes, the size and the stamp of each file, and the pairs that one index has to list.
 pub fn check_passes<B: Blocks>(
     alloc: Global,
     under: &mut B,

@@ -6,6 +6,6 @@ mod Meeting
 mod Chaining
 mod Rowing
 mod Reaching
-mod Pairing
+pub mod Pairing
 pub use Rattle.bfs_tree_walk.proofs.Plainly
 pub use Rattle.bfs_tree_walk.proofs.Wholly

@@ -39,8 +39,8 @@ use Rattle.bfs_value_walk.proofs.Wording.{named_here, none_named, none_parted, p
 
 -- ---- before the first row
 
-pub none_taken : (kind : KeyKind) (b : List ℕ) (size count : ℕ) (marks : List Bool) → ((x : ℕ) → shape_times kind b x ≡ marked size marks x) → AreTaken kind b [] size marks (replicate {A = ℕ} count 0) []
-none_taken kind b size count marks shape = record {
+pub none_taken : (kind : KeyKind) (b : List ℕ) (size count : ℕ) (marks : List Bool) → ((x : ℕ) → shape_times kind b x ≡ marked size marks x) → (took : List RangedRow → Type 0) → took [] → AreTaken kind b [] size marks (replicate {A = ℕ} count 0) took
+none_taken kind b size count marks shape took none = record {
   met = record {
     fragments = [];
     count = λ x. let s = shape x in omega (arith, s);
@@ -50,7 +50,7 @@ none_taken kind b size count marks shape = record {
     each = λ x f. sym (none_named size x f count);
     mean = tt;
   };
-  are = refl;
+  are = none;
 }
 
 -- the header is marked
@@ -119,8 +119,8 @@ is_named (r ∷ rs) x h = by_link (link_in r.1) h (λ k. is_named rs x k)
             let g = ih (omega (arith, h, k)) in
             (g.0, let s = g.1 in omega (arith, s))
 
-pub all_reached : (kind : KeyKind) (b : List ℕ) (size : ℕ) (marks : List Bool) (names : List ℕ) (taken : List RangedRow) → AreTaken kind b (rows_in kind b) size marks names taken → AreAllNamed b size names → IsReached kind b (marked size marks) taken
-all_reached kind b size marks names taken t all =
+pub all_reached : (kind : KeyKind) (b : List ℕ) (size : ℕ) (marks : List Bool) (names : List ℕ) (took : List RangedRow → Type 0) → AreTaken kind b (rows_in kind b) size marks names took → AreAllNamed b size names → IsReached kind b (marked size marks) took
+all_reached kind b size marks names took t all =
     let m = t.met in
     record {
       pages = m.fragments ++ chained_by b (rows_in kind b);
@@ -155,7 +155,7 @@ all_reached kind b size marks names taken t all =
 pub shape_marked : (kind : KeyKind) (b : List ℕ) (level : List Item) (leaves : List ℕ) (seen : ℕ → ℕ) → IsShaped kind b level leaves seen → (x : ℕ) → shape_times kind b x ≡ seen x
 shape_marked kind b level leaves seen s x = s.freed.count x
 
-module _ (kind : KeyKind) (b : List ℕ) (level : List Item) (leaves : List ℕ) (shaped seen : ℕ → ℕ) (taken : List RangedRow) (s : IsShaped kind b level leaves shaped) (r : IsReached kind b seen taken) where
+module _ (kind : KeyKind) (b : List ℕ) (level : List Item) (leaves : List ℕ) (shaped seen : ℕ → ℕ) (took : List RangedRow → Type 0) (s : IsShaped kind b level leaves shaped) (r : IsReached kind b seen took) where
   pub walked : (h : Header) → IsHeaderFor kind (length b) h → h ≡ header_in b → AscendAll kind (entries_alone (entries_met kind b)) → ((x : ℕ) → seen x ≡ held (length b) x) → length b % 1024 ≡ 0 → IsWalked kind b r.pages (frees_in kind b)
   walked h good is ascends met whole = record {
     whole = whole;
@@ -174,8 +174,8 @@ module _ (kind : KeyKind) (b : List ℕ) (level : List Item) (leaves : List ℕ)
       counts x c m = omega (arith, c, m)
 
 -- a page that wasn't met is met nowhere
-pub unmet_wrong : (kind : KeyKind) (b : List ℕ) (seen : ℕ → ℕ) (taken : List RangedRow) → IsReached kind b seen taken → (wrong : TreeWrong) → IsUnmet (length b) seen wrong → IsWrongTree kind b wrong
-unmet_wrong kind b seen taken r wrong u = subst (IsWrongTree kind b) (sym u.is) (nowhere child (by_pages, (r.none u.page none).1) refl refl)
+pub unmet_wrong : (kind : KeyKind) (b : List ℕ) (seen : ℕ → ℕ) (took : List RangedRow → Type 0) → IsReached kind b seen took → (wrong : TreeWrong) → IsUnmet (length b) seen wrong → IsWrongTree kind b wrong
+unmet_wrong kind b seen took r wrong u = subst (IsWrongTree kind b) (sym u.is) (nowhere child (by_pages, (r.none u.page none).1) refl refl)
   where
     count : shape_times kind b u.page + times u.page r.pages ≡ 0
     count = r.count u.page ∙ u.none

@@ -12,23 +12,23 @@ ghost use Rattle.bfs_finding.specs.Walks.{leaves_in};
 ghost use Rattle.bfs_walk.specs.Wrong.{IsWrong, IsWalkCause};
 ghost use Rattle.bfs_value_walk.specs.Taken.{AreTaken};
 
+use crate::RowSink;
 use crate::rows::take_rows;
 use bfs_node::{KeyKind, PAGE};
-use bfs_range::RangedRow;
 use bfs_txn::{Pages, Steps};
 use bfs_walk::{WalkFault, look_at_leaf};
 use std::alloc::Global;
 use std::sync::ledger::Ledger;
 
 /// Takes the rows of the leaf at a place.
-fn take_leaf<P: Pages, L: Ledger>(
+fn take_leaf<P: Pages, L: Ledger, T: RowSink>(
     alloc: Global,
     pages: &mut P,
     kind: KeyKind,
     at: u64,
     marks: &mut [bool],
     names: &mut [u16],
-    taken: &mut Vec<RangedRow>,
+    taken: &mut T,
     steps: &mut Steps<L>,
 ) -> Result<(), WalkFault<P::Fault>>
     requires kind { IsTreeKind kind }
@@ -36,8 +36,8 @@ fn take_leaf<P: Pages, L: Ledger>(
     requires small { P.size pages.old < 9223372036854775808 }
     requires length { length marks.old ≡ P.size pages.old / 1024 }
     requires names { length names.old ≡ P.size pages.old / 1024 }
-    ensures taken { (b : List ℕ) (done : List Row) → P.told pages.old ≡ Some b → AreTaken kind b done (P.size pages.old) marks.old names.old taken.old.items → OnOk result (AreTaken kind b (done ++ rows_at ((state_of kind b).bodies at)) (P.size pages.old) marks.new names.new taken.new.items) }
-    ensures wrong { (b : List ℕ) (done rest : List Row) → P.told pages.old ≡ Some b → Has (leaves_in kind b) at → rows_in kind b ≡ done ++ (rows_at ((state_of kind b).bodies at) ++ rest) → AreTaken kind b done (P.size pages.old) marks.old names.old taken.old.items → IfErr result (IsWrong kind b) }
+    ensures taken { (b : List ℕ) (done : List Row) (start : T) → P.told pages.old ≡ Some b → AreTaken kind b done (P.size pages.old) marks.old names.old (T.took start taken.old) → OnOk result (AreTaken kind b (done ++ rows_at ((state_of kind b).bodies at)) (P.size pages.old) marks.new names.new (T.took start taken.new)) }
+    ensures wrong { (b : List ℕ) (done rest : List Row) (start : T) → P.told pages.old ≡ Some b → Has (leaves_in kind b) at → rows_in kind b ≡ done ++ (rows_at ((state_of kind b).bodies at) ++ rest) → AreTaken kind b done (P.size pages.old) marks.old names.old (T.took start taken.old) → IfErr result (IsWrong kind b) }
     ensures length { length marks.new ≡ length marks.old }
     ensures names { length names.new ≡ length names.old }
     ensures cause { IfErr result (IsWalkCause (P.is_cause pages.old pages.new)) }
@@ -57,14 +57,14 @@ fn take_leaf<P: Pages, L: Ledger>(
 }
 
 /// Takes the rows of all leaves of a tree.
-pub fn take_leaves<P: Pages, L: Ledger>(
+pub fn take_leaves<P: Pages, L: Ledger, T: RowSink>(
     alloc: Global,
     pages: &mut P,
     kind: KeyKind,
     leaves: &[u64],
     marks: &mut [bool],
     names: &mut [u16],
-    taken: &mut Vec<RangedRow>,
+    taken: &mut T,
     steps: &mut Steps<L>,
 ) -> Result<(), WalkFault<P::Fault>>
     requires kind { IsTreeKind kind }
@@ -72,8 +72,8 @@ pub fn take_leaves<P: Pages, L: Ledger>(
     requires small { P.size pages.old < 9223372036854775808 }
     requires length { length marks.old ≡ P.size pages.old / 1024 }
     requires names { length names.old ≡ P.size pages.old / 1024 }
-    ensures taken { (b : List ℕ) → P.told pages.old ≡ Some b → leaves_in kind b ≡ leaves.now → AreTaken kind b [] (P.size pages.old) marks.old names.old taken.old.items → OnOk result (AreTaken kind b (rows_in kind b) (P.size pages.old) marks.new names.new taken.new.items) }
-    ensures wrong { (b : List ℕ) → P.told pages.old ≡ Some b → leaves_in kind b ≡ leaves.now → AreTaken kind b [] (P.size pages.old) marks.old names.old taken.old.items → IfErr result (IsWrong kind b) }
+    ensures taken { (b : List ℕ) (start : T) → P.told pages.old ≡ Some b → leaves_in kind b ≡ leaves.now → AreTaken kind b [] (P.size pages.old) marks.old names.old (T.took start taken.old) → OnOk result (AreTaken kind b (rows_in kind b) (P.size pages.old) marks.new names.new (T.took start taken.new)) }
+    ensures wrong { (b : List ℕ) (start : T) → P.told pages.old ≡ Some b → leaves_in kind b ≡ leaves.now → AreTaken kind b [] (P.size pages.old) marks.old names.old (T.took start taken.old) → IfErr result (IsWrong kind b) }
     ensures length { length marks.new ≡ length marks.old }
     ensures names { length names.new ≡ length names.old }
     ensures cause { IfErr result (IsWalkCause (P.is_cause pages.old pages.new)) }

@@ -8,16 +8,16 @@ ghost use Rattle.bfs_walk.specs.Wrong.{IsWrong, IsWalkCause};
 ghost use Rattle.bfs_value_walk.specs.Met.{IsNext, AreNext};
 ghost use Rattle.bfs_value_walk.specs.Taken.{AreTaken};
 
+use crate::RowSink;
 use crate::value::take_value;
 use bfs_node::{row_count, row_key, row_value};
-use bfs_range::{KeyBytes, RangedRow};
 use bfs_txn::{Pages, Steps};
 use bfs_walk::WalkFault;
 use std::alloc::Global;
 use std::sync::ledger::Ledger;
 
 /// Takes the row of a leaf at a place.
-fn take_row<P: Pages, L: Ledger>(
+fn take_row<P: Pages, L: Ledger, T: RowSink>(
     alloc: Global,
     pages: &mut P,
     leaf: u64,
@@ -25,7 +25,7 @@ fn take_row<P: Pages, L: Ledger>(
     i: usize,
     marks: &mut [bool],
     names: &mut [u16],
-    taken: &mut Vec<RangedRow>,
+    taken: &mut T,
     steps: &mut Steps<L>,
 ) -> Result<(), WalkFault<P::Fault>>
     requires page { HasLayout page.now }
@@ -33,8 +33,8 @@ fn take_row<P: Pages, L: Ledger>(
     requires small { P.size pages.old < 9223372036854775808 }
     requires length { length marks.old ≡ P.size pages.old / 1024 }
     requires names { length names.old ≡ P.size pages.old / 1024 }
-    ensures taken { (kind : KeyKind) (b : List ℕ) (done : List Row) → P.told pages.old ≡ Some b → AreTaken kind b done (P.size pages.old) marks.old names.old taken.old.items → OnOk result (AreTaken kind b (done ++ row_in (rows_of page.now) i ∷ []) (P.size pages.old) marks.new names.new taken.new.items) }
-    ensures wrong { (kind : KeyKind) (b : List ℕ) (done rest : List Row) → P.told pages.old ≡ Some b → IsNext kind b leaf done (row_in (rows_of page.now) i) rest → AreTaken kind b done (P.size pages.old) marks.old names.old taken.old.items → IfErr result (IsWrong kind b) }
+    ensures taken { (kind : KeyKind) (b : List ℕ) (done : List Row) (start : T) → P.told pages.old ≡ Some b → AreTaken kind b done (P.size pages.old) marks.old names.old (T.took start taken.old) → OnOk result (AreTaken kind b (done ++ row_in (rows_of page.now) i ∷ []) (P.size pages.old) marks.new names.new (T.took start taken.new)) }
+    ensures wrong { (kind : KeyKind) (b : List ℕ) (done rest : List Row) (start : T) → P.told pages.old ≡ Some b → IsNext kind b leaf done (row_in (rows_of page.now) i) rest → AreTaken kind b done (P.size pages.old) marks.old names.old (T.took start taken.old) → IfErr result (IsWrong kind b) }
     ensures length { length marks.new ≡ length marks.old }
     ensures names { length names.new ≡ length names.old }
     ensures cause { IfErr result (IsWalkCause (P.is_cause pages.old pages.new)) }
@@ -50,34 +50,29 @@ fn take_row<P: Pages, L: Ledger>(
         Ok(numbers) => numbers,
         Err(fault) => return Err(fault),
     };
-    let key = match KeyBytes::from_slice(alloc, row_key(page, i)) {
-        Ok(key) => key,
-        Err(_) => return Err(WalkFault::NoMemory),
-    };
-    match taken.push(RangedRow { key, numbers }) {
-        Ok(()) => {}
-        Err(_) => return Err(WalkFault::NoMemory),
+    match taken.take(alloc, row_key(page, i), numbers) {
+        Ok(()) => Ok(()),
+        Err(_) => Err(WalkFault::NoMemory),
     }
-    Ok(())
 }
 
 /// Takes all rows of a leaf.
-pub fn take_rows<P: Pages, L: Ledger>(
+pub fn take_rows<P: Pages, L: Ledger, T: RowSink>(
     alloc: Global,
     pages: &mut P,
     leaf: u64,
     page: &[u8],
     marks: &mut [bool],
     names: &mut [u16],
-    taken: &mut Vec<RangedRow>,
+    taken: &mut T,
     steps: &mut Steps<L>,
 ) -> Result<(), WalkFault<P::Fault>>
     requires page { HasLayout page.now }
     requires small { P.size pages.old < 9223372036854775808 }
     requires length { length marks.old ≡ P.size pages.old / 1024 }
     requires names { length names.old ≡ P.size pages.old / 1024 }
-    ensures taken { (kind : KeyKind) (b : List ℕ) (done : List Row) → P.told pages.old ≡ Some b → AreTaken kind b done (P.size pages.old) marks.old names.old taken.old.items → OnOk result (AreTaken kind b (done ++ rows_of page.now) (P.size pages.old) marks.new names.new taken.new.items) }
-    ensures wrong { (kind : KeyKind) (b : List ℕ) (done rest : List Row) → P.told pages.old ≡ Some b → AreNext kind b leaf done (rows_of page.now) rest → AreTaken kind b done (P.size pages.old) marks.old names.old taken.old.items → IfErr result (IsWrong kind b) }
+    ensures taken { (kind : KeyKind) (b : List ℕ) (done : List Row) (start : T) → P.told pages.old ≡ Some b → AreTaken kind b done (P.size pages.old) marks.old names.old (T.took start taken.old) → OnOk result (AreTaken kind b (done ++ rows_of page.now) (P.size pages.old) marks.new names.new (T.took start taken.new)) }
+    ensures wrong { (kind : KeyKind) (b : List ℕ) (done rest : List Row) (start : T) → P.told pages.old ≡ Some b → AreNext kind b leaf done (rows_of page.now) rest → AreTaken kind b done (P.size pages.old) marks.old names.old (T.took start taken.old) → IfErr result (IsWrong kind b) }
     ensures length { length marks.new ≡ length marks.old }
     ensures names { length names.new ≡ length names.old }
     ensures cause { IfErr result (IsWalkCause (P.is_cause pages.old pages.new)) }

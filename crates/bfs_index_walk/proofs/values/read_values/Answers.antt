@@ -1,25 +1,15 @@
-use Rattle.std.proofs.Common.{◌∙◌, List, ℕ, refl, sym, ap}
-use Rattle.bfs_inode.specs.Inode.{stream_at}
-use Rattle.bfs_stream.specs.Sizes.{Sizes, sizes_of}
+use Rattle.std.proofs.Common.{◌∙◌, ◌++◌, List, ap}
 use Rattle.bfs_stream.specs.Told.{contents}
-use Rattle.bfs_stream_pages.specs.GoesLaws.{sized_of}
+use Rattle.bfs_values.specs.Rows.{rows_in}
+use Rattle.bfs_range.specs.declared.ranged.RangedRow.{RangedRow}
+use Rattle.bfs_range.specs.Answers.{answer_of}
+use Rattle.bfs_sound.specs.Inodes.{content}
 use Rattle.bfs_sound.specs.Whole.{volume_of}
-use Rattle.bfs_node_walk.proofs.Readable.{readable}
-use Rattle.bfs_index_walk.proofs.Unsized.{of_tree, unsized}
+use Rattle.bfs_value_walk.proofs.Pairing.{written}
 use Rattle.bfs_index_walk.proofs.values.read_values.Goals as goal
 
-pub returns-in_default-clause-wrong : goal.returns-in_default-clause-wrong
-returns-in_default-clause-wrong g c m told has =
-    let s : Sizes = sizes_of c.args.sup.now in
-    let sized = sized_of s.block_size (g.B.Blocks.size c.args.under.now) (g.B.Blocks.told c.args.under.now) m c.requires.size told (g.met.B.Blocks.sized c.args.under.now) in
-    unsized c.args.sup.now c.args.id m c.args.bytes.now (c.requires.all m told) c.requires.inside (c.requires.stream m told) sized (c.requires.bytes m told) (of_tree (volume_of c.args.sup.now (contents m)) c.args.id c.args.kind has)
-    (c.in_default.ensures.none refl)
-
-pub values_with-requires-clause-held : goal.values_with-requires-clause-held
-values_with-requires-clause-held g c m told =
-    let s : Sizes = sizes_of c.args.sup.now in
-    let size = ap (λ (b : List ℕ). (stream_at b).size) (sym (c.requires.bytes m told)) ∙ c.in-Some.ensures.is.0 in
-    ∣ readable s c.args.id m (c.requires.all m told) c.requires.inside (c.requires.stream m told) c.in-Some.length size ∣₁
-
-pub returns-clause-wrong : goal.returns-clause-wrong
-returns-clause-wrong g c m told has = c.values_with.ensures.wrong m told has (c.requires.stream m told)
+pub returns-in-Ok-clause-written : goal.returns-in-Ok-clause-written
+returns-in-Ok-clause-written g c m told =
+    let b = content (volume_of c.args.sup.now (contents m)) c.args.id in
+    let w = c.in-Ok.ensures.whole m told in
+    written c.args.kind b c.into_ranged.result (w.0, c.into_ranged.ensures ∙ w.1 ∙ ap (λ (l : List RangedRow). l ++ answer_of b (rows_in c.args.kind b)) c.new-kept.ensures)

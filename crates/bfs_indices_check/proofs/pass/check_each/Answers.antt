@@ -18,10 +18,10 @@ check_index-requires-clause-known g c m told =
     (c.args.found.now, k.0, k.1, k.2, in_at c.args.found.now c.loop-i.i x c.loop-i-test.true item)
 
 pub returns-in-Err-clause-wrong : goal.returns-in-Err-clause-wrong
-returns-in-Err-clause-wrong g c m top visits told w built =
+returns-in-Err-clause-wrong g c m top visits told w keys built =
     let x : FoundIndex = c.index-found-i.result in
     let item : x ≡ get_or c.args.found.now c.loop-i.i x = search rules in
-    c.in-Err.ensures.wrong m c.args.found.now top visits (c.loop-i.invariant.told ∙ told) w (in_at c.args.found.now c.loop-i.i x c.loop-i-test.true item) built
+    c.in-Err.ensures.wrong m c.args.found.now top visits (c.loop-i.invariant.told ∙ told) w (in_at c.args.found.now c.loop-i.i x c.loop-i-test.true item) keys built
 
 pub loop-i-preserved : goal.loop-i-preserved
 loop-i-preserved g c =
@@ -33,9 +33,9 @@ loop-i-preserved g c =
       size = c.in-Ok.ensures.size ∙ c.loop-i.invariant.size;
       frame = c.in-Ok.ensures.frame ∙ c.loop-i.invariant.frame;
       later = later-twice c.loop-i.invariant.later c.in-Ok.ensures.later;
-      listed = λ m top visits told w.
+      listed = λ m top visits told w keys.
           let v = volume_of c.args.sup.now (contents m) in
           subst (AllListed v (toured_tree v top visits (kinds_of c.args.found.now))) (sym (next c.args.found.now c.loop-i.i x c.loop-i-test.true item))
-          (more_listed v (toured_tree v top visits (kinds_of c.args.found.now)) _ x (c.loop-i.invariant.listed m top visits told w)
-          (c.in-Ok.ensures.listed m c.args.found.now top visits (c.loop-i.invariant.told ∙ told) w (in_at c.args.found.now c.loop-i.i x c.loop-i-test.true item)));
+          (more_listed v (toured_tree v top visits (kinds_of c.args.found.now)) _ x (c.loop-i.invariant.listed m top visits told w keys)
+          (c.in-Ok.ensures.listed m c.args.found.now top visits (c.loop-i.invariant.told ∙ told) w (in_at c.args.found.now c.loop-i.i x c.loop-i-test.true item) keys));
     }

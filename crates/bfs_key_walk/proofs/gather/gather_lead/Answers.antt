@@ -18,12 +18,12 @@ gather_node-requires-clause-known g c m told =
     (k.1.1, subst (λ (i : ℕ). IsKnown (volume_of c.args.sup.now (contents m)) i k.1.1) same f.known)
 
 pub returns-in-Ok-clause-gathered : goal.returns-in-Ok-clause-gathered
-returns-in-Ok-clause-gathered g c m root e told f =
+returns-in-Ok-clause-gathered g c m root e told f keys =
     let signed : to_z w64 (of_z w64 c.args.lead.now.row.value) ≡ c.args.lead.now.row.value = search rules in
     let same : c.number_of-id.result ≡ e.0 = c.number_of-id.ensures ∙ ap natural signed ∙ f.id in
     let known = subst (λ (i : ℕ). IsKnown (volume_of c.args.sup.now (contents m)) i e.1) (sym same) f.known in
     let other : false ≡ (c.number_of-id.result == root) = other_number c.number_of-id.result root (λ h. f.other (sym same ∙ h)) in
-    c.in-Ok.ensures.gathered m root e.1 told known (sym f.name ∙ sym c.as_slice-name.ensures) other
+    c.in-Ok.ensures.gathered m root e.1 told known (sym f.name ∙ sym c.as_slice-name.ensures) other keys
     ∙ ap (λ (i : ℕ). pairs_of c.args.pairs.now.items ++ pair_with (key_in root c.args.index.now c.args.kind i e.1) i) same
 
 pub returns-in-Err-clause-unread : goal.returns-in-Err-clause-unread

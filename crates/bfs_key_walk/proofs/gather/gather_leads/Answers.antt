@@ -1,10 +1,12 @@
-use Rattle.std.proofs.Common.{rules, ◌≡◌, ◌≤◌, ◌∙◌, length, get_or, refl, sym, arith, append-nil}
+use Rattle.std.proofs.Common.{rules, ◌≡◌, ◌≤◌, ◌∙◌, List, length, get_or, Option, None, refl, sym, ap, arith, append-nil}
 use Rattle.bfs_stream.specs.Told.{contents}
 use Rattle.bfs_pages.proofs.Later.{later-twice}
 use Rattle.bfs_sound.specs.Volumes.{Volume}
 use Rattle.bfs_sound.specs.Whole.{volume_of}
 use Rattle.bfs_nodes_walk.specs.declared.lead.NodeLead.{NodeLead}
 use Rattle.bfs_index_check.specs.Compared.{pairs_of}
+use Rattle.bfs_key_walk.specs.declared.inode_keys.FileKeys.{FileKeys}
+use Rattle.bfs_key_walk.proofs.Filed.{keys_here}
 use Rattle.bfs_key_walk.proofs.Gathers.{one_at, as_many, gathered_next, gathered_all}
 use Rattle.bfs_key_walk.proofs.gather.gather_leads.Goals as goal
 
@@ -16,7 +18,7 @@ loop-i-init g c = record {
   size = refl;
   frame = refl;
   later = record { faults = omega arith; stops = refl; stop = refl };
-  gathered = λ m root es told are. sym (append-nil (pairs_of c.args.pairs.now.items));
+  gathered = λ m root es told are keys. sym (append-nil (pairs_of c.args.pairs.now.items));
 }
 
 pub loop-i-preserved : goal.loop-i-preserved
@@ -29,11 +31,12 @@ loop-i-preserved g c =
       size = c.in-Ok.ensures.size ∙ c.loop-i.invariant.size;
       frame = c.in-Ok.ensures.frame ∙ c.loop-i.invariant.frame;
       later = later-twice c.loop-i.invariant.later c.in-Ok.ensures.later;
-      gathered = λ m root es told are.
+      gathered = λ m root es told are keys.
           let v : Volume = volume_of c.args.sup.now (contents m) in
           let one = one_at v root c.args.leads.now es c.loop-i.i l are c.loop-i-test.true item in
-          gathered_next root c.args.index.now c.args.kind v l es c.loop-i.i one (pairs_of c.args.pairs.now.items) (pairs_of c.loop-i.pairs.items) (pairs_of c.gather_lead.new.pairs.items) (c.loop-i.invariant.gathered m root es told are)
-          (c.in-Ok.ensures.gathered m root one.visit (c.loop-i.invariant.told ∙ told) one.is);
+          gathered_next root c.args.index.now c.args.kind v l es c.loop-i.i one (pairs_of c.args.pairs.now.items) (pairs_of c.loop-i.pairs.items) (pairs_of c.gather_lead.new.pairs.items) (c.loop-i.invariant.gathered m root es told are keys)
+          (c.in-Ok.ensures.gathered m root one.visit (c.loop-i.invariant.told ∙ told) one.is
+          (c.keys_at-one.ensures ∙ ap (λ (ks : List (Option FileKeys)). get_or ks c.loop-i.i None) keys ∙ keys_here es c.loop-i.i one.visit one.inside one.item));
     }
 
 pub gather_lead-requires-clause-size : goal.gather_lead-requires-clause-size
@@ -58,7 +61,7 @@ returns-in-Err-clause-unread g c m root es told are =
     c.in-Err.ensures.unread m root one.visit (c.loop-i.invariant.told ∙ told) one.is
 
 pub returns-clause-gathered : goal.returns-clause-gathered
-returns-clause-gathered g c m root es told are =
+returns-clause-gathered g c m root es told are keys =
     let past : length c.args.leads.now ≤ c.loop-i.i = omega arith in
     let many = as_many (volume_of c.args.sup.now (contents m)) root c.args.leads.now es are in
-    gathered_all root c.args.index.now c.args.kind es c.loop-i.i (pairs_of c.args.pairs.now.items) (pairs_of c.loop-i.pairs.items) (omega (arith, past, many)) (c.loop-i.invariant.gathered m root es told are)
+    gathered_all root c.args.index.now c.args.kind es c.loop-i.i (pairs_of c.args.pairs.now.items) (pairs_of c.loop-i.pairs.items) (omega (arith, past, many)) (c.loop-i.invariant.gathered m root es told are keys)

@@ -1,15 +1,19 @@
-use Rattle.std.proofs.Common.{◌≡◌, ◌∙◌, true, sym}
-use Rattle.std.specs.Prelude.{if◌then◌else◌}
+use Rattle.std.proofs.Common.{◌≡◌, ◌∙◌, ℕ, List, cond, Option, Some, None, sym}
+use Rattle.std.proofs.lemmas.Result.{IfOk-weaker}
 use Rattle.bfs_bytes.specs.Fields.{unsigned_bytes, signed64_bytes}
 use Rattle.bfs_tree.specs.Trees.{is_file}
-use Rattle.bfs_key_walk.proofs.Keyed.{no_file, is_file_key}
+use Rattle.bfs_key_walk.specs.declared.inode_keys.FileKeys.{FileKeys}
+use Rattle.bfs_key_walk.proofs.Keyed.{key_of_none, key_of_some}
 use Rattle.bfs_key_walk.proofs.key.file_key.Goals as goal
 
-pub returns-then-not-is_file_in : goal.returns-then-not-is_file_in
-returns-then-not-is_file_in c v id n read has =
-    no_file (is_file n.kind) (if c.args.by_size then unsigned_bytes 8 n.size else signed64_bytes n.modified) (sym (c.is_file_in.ensures v id n read has) ∙ c.if-not-is_file_in.true)
+pub returns-in-Some : goal.returns-in-Some
+returns-in-Some c n is =
+    let these : FileKeys = record { size = unsigned_bytes 8 n.size; stamp = signed64_bytes n.modified } in
+    let keys : FileKeys = c.in-Some.keys in
+    IfOk-weaker c.some_key.result (λ (k : Option (List ℕ)). k ≡ Some (cond c.args.by_size keys.size keys.stamp)) (λ (k : Option (List ℕ)). k ≡ cond (is_file n.kind) (Some (cond c.args.by_size these.size these.stamp)) None)
+    (λ k e. e ∙ key_of_some (is_file n.kind) c.args.by_size keys these (sym c.in-Some.is ∙ is)) c.some_key.ensures
 
-pub returns-in-Ok : goal.returns-in-Ok
-returns-in-Ok c v id n read has =
-    let file : is_file n.kind ≡ true = sym (c.is_file_in.ensures v id n read has) ∙ c.if-not-is_file_in.false in
-    is_file_key (is_file n.kind) c.in-Ok.key (if c.args.by_size then unsigned_bytes 8 n.size else signed64_bytes n.modified) file (c.in-Ok.ensures ∙ c.file_bytes-bytes.ensures v id n read has file)
+pub returns-in-None : goal.returns-in-None
+returns-in-None c n is =
+    let these : FileKeys = record { size = unsigned_bytes 8 n.size; stamp = signed64_bytes n.modified } in
+    key_of_none (is_file n.kind) these (cond c.args.by_size these.size these.stamp) (sym c.in-None.is ∙ is)

@@ -15,6 +15,6 @@ invariant-loop-at g l = record {
   is_read : g.P.Pages.is_read l.fn.pages l.pages;
   long : length l.marks ≡ length l.fn.marks;
   words : length l.names ≡ length l.fn.names;
-  taken : (b : List ℕ) → g.P.Pages.told l.fn.pages ≡ Some b → leaves_in l.kind b ≡ l.leaves → AreTaken l.kind b [] (g.P.Pages.size l.fn.pages) l.fn.marks l.fn.names l.fn.taken.items
-      → AreTaken l.kind b (rows_by l.kind b (take l.at-index l.leaves)) (g.P.Pages.size l.fn.pages) l.marks l.names l.taken.items;
+  taken : (b : List ℕ) (begin : g.row.T.Denot) → g.P.Pages.told l.fn.pages ≡ Some b → leaves_in l.kind b ≡ l.leaves → AreTaken l.kind b [] (g.P.Pages.size l.fn.pages) l.fn.marks l.fn.names (g.T.RowSink.took begin l.fn.taken)
+      → AreTaken l.kind b (rows_by l.kind b (take l.at-index l.leaves)) (g.P.Pages.size l.fn.pages) l.marks l.names (g.T.RowSink.took begin l.taken);
 }

@@ -19,12 +19,12 @@ pub take_row-requires-clause-names : goal.take_row-requires-clause-names
 take_row-requires-clause-names g c = c.loop-i.invariant.words ∙ c.requires.names ∙ ap (λ n. n / 1024) (sym c.loop-i.invariant.size)
 
 pub returns-in-Err-clause-wrong : goal.returns-in-Err-clause-wrong
-returns-in-Err-clause-wrong g c = λ kind b done rest told next start.
+returns-in-Err-clause-wrong g c = λ kind b done rest begin told next start.
     let rows : List Row = rows_of c.args.page.now in
     let i = c.loop-i.i in
     let h : i < length rows = let e = c.row_count-i-end.ensures in let t = c.loop-i-test.true in omega (arith, e, t) in
-    c.in-Err.ensures.wrong kind b (done ++ take i rows) (drop (suc i) rows ++ rest) (c.loop-i.invariant.told ∙ told) (next_row kind b c.args.leaf done rows rest i h next)
-    (subst (λ s. AreTaken kind b (done ++ take i rows) s c.loop-i.marks c.loop-i.names c.loop-i.taken.items) (sym c.loop-i.invariant.size) (c.loop-i.invariant.taken kind b done told start))
+    c.in-Err.ensures.wrong kind b (done ++ take i rows) (drop (suc i) rows ++ rest) begin (c.loop-i.invariant.told ∙ told) (next_row kind b c.args.leaf done rows rest i h next)
+    (subst (λ s. AreTaken kind b (done ++ take i rows) s c.loop-i.marks c.loop-i.names (g.T.RowSink.took begin c.loop-i.taken)) (sym c.loop-i.invariant.size) (c.loop-i.invariant.taken kind b done begin told start))
 
 pub loop-i-preserved : goal.loop-i-preserved
 loop-i-preserved g c =
@@ -41,12 +41,12 @@ loop-i-preserved g c =
       is_read = g.met.P.Pages.is_read_twice _ _ _ c.loop-i.invariant.is_read c.in-Ok.ensures.is_read;
       long = c.in-Ok.ensures.length ∙ c.loop-i.invariant.long;
       words = c.in-Ok.ensures.names ∙ c.loop-i.invariant.words;
-      taken = λ kind b done told start.
-          let was = subst (λ s. AreTaken kind b (done ++ take i rows) s c.loop-i.marks c.loop-i.names c.loop-i.taken.items) (sym c.loop-i.invariant.size) (c.loop-i.invariant.taken kind b done told start) in
-          let now = c.in-Ok.ensures.taken kind b (done ++ take i rows) (c.loop-i.invariant.told ∙ told) was in
+      taken = λ kind b done begin told start.
+          let was = subst (λ s. AreTaken kind b (done ++ take i rows) s c.loop-i.marks c.loop-i.names (g.T.RowSink.took begin c.loop-i.taken)) (sym c.loop-i.invariant.size) (c.loop-i.invariant.taken kind b done begin told start) in
+          let now = c.in-Ok.ensures.taken kind b (done ++ take i rows) begin (c.loop-i.invariant.told ∙ told) was in
           let more : (done ++ take i rows) ++ row_in rows i ∷ [] ≡ done ++ take (i + 1) rows = append_assoc done (take i rows) (row_in rows i ∷ []) ∙ ap (λ (l : List Row). done ++ l) (sym (take_more rows i ([], pos 0) h)) in
-          subst (λ (rs : List Row). AreTaken kind b rs size c.take_row.new.marks c.take_row.new.names c.take_row.new.taken.items) more
-          (subst (λ s. AreTaken kind b ((done ++ take i rows) ++ row_in rows i ∷ []) s c.take_row.new.marks c.take_row.new.names c.take_row.new.taken.items) c.loop-i.invariant.size now);
+          subst (λ (rs : List Row). AreTaken kind b rs size c.take_row.new.marks c.take_row.new.names (g.T.RowSink.took begin c.take_row.new.taken)) more
+          (subst (λ s. AreTaken kind b ((done ++ take i rows) ++ row_in rows i ∷ []) s c.take_row.new.marks c.take_row.new.names (g.T.RowSink.took begin c.take_row.new.taken)) c.loop-i.invariant.size now);
     }
 
 pub loop-i-init : goal.loop-i-init
@@ -59,12 +59,12 @@ loop-i-init g c = record {
   is_read = g.met.P.Pages.is_read_same c.args.pages.now;
   long = refl;
   words = refl;
-  taken = λ kind b done told start. subst (λ (rs : List Row). AreTaken kind b rs (g.P.Pages.size c.args.pages.now) c.args.marks.now c.args.names.now c.args.taken.now.items) (sym (append-nil done)) start;
+  taken = λ kind b done begin told start. subst (λ (rs : List Row). AreTaken kind b rs (g.P.Pages.size c.args.pages.now) c.args.marks.now c.args.names.now (g.T.RowSink.took begin c.args.taken.now)) (sym (append-nil done)) start;
 }
 
 pub returns-clause-taken : goal.returns-clause-taken
-returns-clause-taken g c = λ kind b done told start.
+returns-clause-taken g c = λ kind b done begin told start.
     let rows : List Row = rows_of c.args.page.now in
     let size = g.P.Pages.size c.args.pages.now in
     let behind : length rows ≤ c.loop-i.i = let e = c.row_count-i-end.ensures in let t = c.loop-i-test.false in omega (arith, e, t) in
-    subst (λ (rs : List Row). AreTaken kind b (done ++ rs) size c.loop-i.marks c.loop-i.names c.loop-i.taken.items) (take_all c.loop-i.i rows behind) (c.loop-i.invariant.taken kind b done told start)
+    subst (λ (rs : List Row). AreTaken kind b (done ++ rs) size c.loop-i.marks c.loop-i.names (g.T.RowSink.took begin c.loop-i.taken)) (take_all c.loop-i.i rows behind) (c.loop-i.invariant.taken kind b done begin told start)

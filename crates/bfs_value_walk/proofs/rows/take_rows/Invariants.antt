@@ -15,6 +15,6 @@ invariant-loop-i g l = record {
   is_read : g.P.Pages.is_read l.fn.pages l.pages;
   long : length l.marks ≡ length l.fn.marks;
   words : length l.names ≡ length l.fn.names;
-  taken : (kind : KeyKind) (b : List ℕ) (done : List Row) → g.P.Pages.told l.fn.pages ≡ Some b → AreTaken kind b done (g.P.Pages.size l.fn.pages) l.fn.marks l.fn.names l.fn.taken.items
-      → AreTaken kind b (done ++ take l.i (rows_of l.page)) (g.P.Pages.size l.fn.pages) l.marks l.names l.taken.items;
+  taken : (kind : KeyKind) (b : List ℕ) (done : List Row) (begin : g.row.T.Denot) → g.P.Pages.told l.fn.pages ≡ Some b → AreTaken kind b done (g.P.Pages.size l.fn.pages) l.fn.marks l.fn.names (g.T.RowSink.took begin l.fn.taken)
+      → AreTaken kind b (done ++ take l.i (rows_of l.page)) (g.P.Pages.size l.fn.pages) l.marks l.names (g.T.RowSink.took begin l.taken);
 }

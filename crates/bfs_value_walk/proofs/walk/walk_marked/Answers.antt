@@ -41,8 +41,8 @@ returns-in-Err-take_values-clause-wrong g c = λ b told is m.
     let shape = subst (λ n. (x : ℕ) → shape_times c.args.kind b x ≡ marked n c.check_tree.new.marks x) (sym c.in-Ok.ensures.size) (shape_marked c.args.kind b survey.level.items survey.leaves.items (marked size c.check_tree.new.marks) s) in
     c.in-Err-take_values.ensures.wrong b told' leaves shape
 
-pub returns-clause-whole : goal.returns-clause-whole
-returns-clause-whole g c = λ b told is m.
+pub returns-in-Ok-check_met-clause-whole : goal.returns-in-Ok-check_met-clause-whole
+returns-in-Ok-check_met-clause-whole g c = λ b told is m.
     let kind = c.args.kind in
     let size = g.P.Pages.size c.args.pages.now in
     let root_z : to_z w64 (of_z w64 c.args.header.root_pointer) ≡ c.args.header.root_pointer = search rules in
@@ -56,19 +56,19 @@ returns-clause-whole g c = λ b told is m.
     let told' = c.in-Ok.ensures.told ∙ told in
     let leaves = s.leaves_are ∙ sym c.deref.ensures.value in
     let shape = subst (λ n. (x : ℕ) → shape_times kind b x ≡ marked n c.check_tree.new.marks x) (sym c.in-Ok.ensures.size) (shape_marked kind b survey.level.items survey.leaves.items (marked size c.check_tree.new.marks) s) in
-    let r : IsReached kind b (marked (g.P.Pages.size c.check_tree.new.pages) c.take_values.new.marks) c.in-Ok-take_values.rows.items = c.in-Ok-take_values.ensures.reached b told' leaves shape in
+    let r : IsReached kind b (marked (g.P.Pages.size c.check_tree.new.pages) c.take_values.new.marks) (g.T.RowSink.took c.args.taken.now c.take_values.new.taken) = c.in-Ok-take_values.ensures.reached b told' leaves shape in
     let long = if_some (λ (z : List ℕ). length z ≡ size) _ b (g.met.P.Pages.sized c.args.pages.now) told in
     let now : c.length.result ≡ g.P.Pages.size c.check_tree.new.pages = c.length.ensures ∙ c.in-Ok-take_values.ensures.size in
     let met : (x : ℕ) → marked (g.P.Pages.size c.check_tree.new.pages) c.take_values.new.marks x ≡ held (length b) x = λ x.
     ap (λ n. marked n c.take_values.new.marks x) (sym now) ∙ c.in-Ok-check_met.ensures.met x ∙ ap (λ n. held n x) (now ∙ c.in-Ok.ensures.size ∙ sym long) in
     let header : IsHeaderFor kind (length b) c.args.header = subst (λ n. IsHeaderFor kind n c.args.header) (sym long) c.requires.header in
     let whole : length b % 1024 ≡ 0 = ap (λ n. n % 1024) long ∙ g.met.P.Pages.whole c.args.pages.now in (
-      c.walked_is_whole.ensures kind b r.pages (frees_in kind b) (walked kind b survey.level.items survey.leaves.items (marked size c.check_tree.new.marks) (marked (g.P.Pages.size c.check_tree.new.pages) c.take_values.new.marks) c.in-Ok-take_values.rows.items s r c.args.header header is ascends met whole),
-      c.new.ensures ∙ r.are,
+      c.walked_is_whole.ensures kind b r.pages (frees_in kind b) (walked kind b survey.level.items survey.leaves.items (marked size c.check_tree.new.marks) (marked (g.P.Pages.size c.check_tree.new.pages) c.take_values.new.marks) (g.T.RowSink.took c.args.taken.now c.take_values.new.taken) s r c.args.header header is ascends met whole),
+      r.are,
     )
 
-pub returns-in-Err-check_met-clause-wrong : goal.returns-in-Err-check_met-clause-wrong
-returns-in-Err-check_met-clause-wrong g c = λ b told is m.
+pub returns-clause-wrong : goal.returns-clause-wrong
+returns-clause-wrong g c = λ b told is m.
     let kind = c.args.kind in
     let size = g.P.Pages.size c.args.pages.now in
     let root_z : to_z w64 (of_z w64 c.args.header.root_pointer) ≡ c.args.header.root_pointer = search rules in
@@ -81,10 +81,10 @@ returns-in-Err-check_met-clause-wrong g c = λ b told is m.
     let told' = c.in-Ok.ensures.told ∙ told in
     let leaves = s.leaves_are ∙ sym c.deref.ensures.value in
     let shape = subst (λ n. (x : ℕ) → shape_times kind b x ≡ marked n c.check_tree.new.marks x) (sym c.in-Ok.ensures.size) (shape_marked kind b survey.level.items survey.leaves.items (marked size c.check_tree.new.marks) s) in
-    let r : IsReached kind b (marked (g.P.Pages.size c.check_tree.new.pages) c.take_values.new.marks) c.in-Ok-take_values.rows.items = c.in-Ok-take_values.ensures.reached b told' leaves shape in
+    let r : IsReached kind b (marked (g.P.Pages.size c.check_tree.new.pages) c.take_values.new.marks) (g.T.RowSink.took c.args.taken.now c.take_values.new.taken) = c.in-Ok-take_values.ensures.reached b told' leaves shape in
     let long = if_some (λ (z : List ℕ). length z ≡ size) _ b (g.met.P.Pages.sized c.args.pages.now) told in
     let now : c.length.result ≡ g.P.Pages.size c.check_tree.new.pages = c.length.ensures ∙ c.in-Ok-take_values.ensures.size in
     let here : c.length.result ≡ length b = now ∙ c.in-Ok.ensures.size ∙ sym long in
     let unmet = subst (λ n. IsUnmet n (marked n c.take_values.new.marks) c.in-Err-check_met.wrong) here c.in-Err-check_met.ensures.unmet in
-    unmet_wrong kind b (marked (length b) c.take_values.new.marks) c.in-Ok-take_values.rows.items
-    (subst (λ n. IsReached kind b (marked n c.take_values.new.marks) c.in-Ok-take_values.rows.items) (c.in-Ok.ensures.size ∙ sym long) r) c.in-Err-check_met.wrong unmet
+    unmet_wrong kind b (marked (length b) c.take_values.new.marks) (g.T.RowSink.took c.args.taken.now c.take_values.new.taken)
+    (subst (λ n. IsReached kind b (marked n c.take_values.new.marks) (g.T.RowSink.took c.args.taken.now c.take_values.new.taken)) (c.in-Ok.ensures.size ∙ sym long) r) c.in-Err-check_met.wrong unmet

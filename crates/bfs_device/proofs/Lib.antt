@@ -15,3 +15,4 @@ pub mod Reading
 pub mod Keeping
 pub mod Forward
 pub mod PlainReads
+pub mod Contents

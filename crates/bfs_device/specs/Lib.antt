@@ -11,3 +11,4 @@ pub mod Data
 pub mod Kept
 pub mod Ahead
 pub mod Plain
+pub mod Contents

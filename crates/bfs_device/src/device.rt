@@ -15,6 +15,7 @@ ghost use Rattle.bfs_device.specs.Steps.{told_front, FailedFront, still_touched,
 ghost use Rattle.bfs_device.specs.Told.{HasCalled, HasMarked, HasCounted};
 ghost use Rattle.bfs_device.specs.Data.{newest_in, moved_on, IsRested, IsReadFault, touching, AreSameBut};
 ghost use Rattle.bfs_device.specs.Seals.{adopted, with_room, sealed_with, last_used, calls_of_group};
+ghost use Rattle.bfs_device.specs.Contents.{KeepsContents};
 ghost use Rattle.bfs_device.specs.Ahead.{IsSteady, HasOrder, IsGroupOf, GoesOn};
 ghost use Rattle.bfs_device.specs.Kept.{IsOut, written_front};
 
@@ -208,6 +209,8 @@ impl<D: Disk> Device<D> {
             → OnOk result (Tells (D.state self.new.disk) (λ s. IsRight self.new.books (still_touched self.old.books t) s × AreSame self.old.books right.0 self.new.books s)) }
         ensures still_right { (t : ℕ → Bool) (right : Tells (D.state self.old.disk) (IsRight self.old.books t))
             → OnErr result (Tells (D.state self.new.disk) (λ s. IsRight self.new.books t s × AreSame self.old.books right.0 self.new.books s)) }
+        // A sector of a file gets no content that it hadn't, and where more entries are durable since, it has its newest one alone.
+        ensures contents { (st next : State) → D.state self.old.disk ≡ Some st → D.state self.new.disk ≡ Some next → KeepsContents self.old.books self.new.books st next }
         // The versions' used blocks stay too, and on a disk that tells there is exactly one call but where the device is idle.
         ensures used { (n : ℕ) → IsVersion self.new.books n → used_of self.new.books n ≡ used_of self.old.books n }
         ensures one { IsSome (D.state self.old.disk) → IfOk result (λ p. (p ≡ Progress.Idle) ⊎ (D.clock self.new.disk ≡ D.clock self.old.disk + 1)) }

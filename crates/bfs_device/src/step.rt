@@ -10,6 +10,7 @@ ghost use Rattle.bfs_device.specs.Steps.{told_front, FailedFront, LeftFront, Rea
 ghost use Rattle.bfs_device.specs.Told.{HasCalled, HasMarked, HasCounted};
 ghost use Rattle.bfs_device.specs.Kept.{KeepsAgreed, written_front};
 ghost use Rattle.bfs_device.specs.Ahead.{GoesOn};
+ghost use Rattle.bfs_device.specs.Contents.{KeepsContents};
 
 use crate::calls::perform;
 use crate::journal::{DeviceFault, Journal, Progress, Stop};
@@ -96,6 +97,7 @@ pub fn step_of<D: Disk>(disk: &mut D, journal: &mut Journal) -> Result<Progress,
         → OnOk result (Tells (D.state disk.new) (λ s. IsRight (books_of journal.new) (still_touched (books_of journal.old) t) s × AreSame (books_of journal.old) right.0 (books_of journal.new) s)) }
     ensures still_right { (t : ℕ → Bool) (right : Tells (D.state disk.old) (IsRight (books_of journal.old) t))
         → OnErr result (Tells (D.state disk.new) (λ s. IsRight (books_of journal.new) t s × AreSame (books_of journal.old) right.0 (books_of journal.new) s)) }
+    ensures contents { (st next : State) → D.state disk.old ≡ Some st → D.state disk.new ≡ Some next → KeepsContents (books_of journal.old) (books_of journal.new) st next }
     ensures used { (n : ℕ) → IsVersion (books_of journal.new) n → used_of (books_of journal.new) n ≡ used_of (books_of journal.old) n }
     ensures one { IsSome (D.state disk.old) → IfOk result (λ p. (p ≡ Progress.Idle) ⊎ (D.clock disk.new ≡ D.clock disk.old + 1)) }
     ensures moments { (t : ℕ → Bool) → Tells (D.state disk.old) (IsRight (books_of journal.old) t)

@@ -1,13 +1,15 @@
-use Rattle.std.proofs.Common.{◌≡◌, ◌<◌, inr, ℕ, length, sym, ap, subst, ◌∙◌, None, arith, rules}
+use Rattle.std.proofs.Common.{◌≡◌, ◌<◌, inr, ℕ, length, refl, sym, ap, subst, ◌∙◌, Option, Some, None, arith, rules}
 use Rattle.std.proofs.lemmas.Grind.{common_steps}
-use Rattle.bfs_disk.specs.State.{Tells}
-use Rattle.bfs_device.specs.Books.{Books, books_of, IsRight, AreSame, IsVersion, used_of}
+use Rattle.bfs_disk.specs.State.{State, Tells}
+use Rattle.bfs_device.specs.Books.{Books, durable_of, books_of, IsRight, AreSame, IsVersion, used_of}
 use Rattle.bfs_device.specs.Layouts.{IsSameVolume, layout_of}
-use Rattle.bfs_device.specs.Steps.{stepped, halted, still_touched, progress_to, calls_left}
+use Rattle.bfs_device.specs.Steps.{stepped, halted, still_touched, progress_to, calls_left, told_front, FailedFront}
 use Rattle.bfs_device.specs.Told.{HasCalled, HasMarked, HasCounted}
 use Rattle.bfs_device.proofs.Telling.{step_called, step_marked, step_counted, step_volume, step_moment, step_used}
 use Rattle.bfs_device.proofs.Keeping.{step_done, step_failed}
 use Rattle.bfs_device.specs.Ahead.{GoesOn}
+use Rattle.bfs_device.specs.Contents.{KeepsContents}
+use Rattle.bfs_device.proofs.Contents.{done_contents, failed_contents}
 use Rattle.bfs_device.proofs.Forward.{steady_of, step_ahead, other_ahead}
 use Rattle.bfs_device.proofs.step.step_of.Given.{Over}
 use Rattle.bfs_device.proofs.Stepping.{known_of, ok_right, err_right, step_moments}
@@ -101,3 +103,20 @@ returns-in-Err-clause-ahead g c =
     let j = c.args.journal.now in
     let is = c.halt.ensures.books ∙ ap (λ (b : Books). halted b c.faults.result) c.act.ensures.books in
     other_ahead (books_of j) (books_of c.halt.new.journal) (ap (λ (b : Books). b.sup) is) (ap (λ (b : Books). b.groups) is) (ap (λ (b : Books). b.phase) is) (ap (λ (b : Books). b.left) is)
+
+pub returns-in-Ok-clause-contents : goal.returns-in-Ok-clause-contents
+returns-in-Ok-clause-contents g c = λ st next is now.
+    let j = c.args.journal.now in
+    let steady = steady_of j c.requires.ready in
+    let read = c.act.ensures.read in
+    let called = step_called (books_of j) (known_of j c.requires.ready) read (Some st) (Some next) (sym now ∙ c.in-Ok.ensures.done ∙ ap (told_front j.sup j.groups.items j.phase) is) in
+    subst (λ (b : Books). KeepsContents (books_of j) b st next) (sym (new_books g c))
+    (done_contents (books_of j) (stepped (books_of j)) st next steady (progress_to j.groups.items j.phase) refl called (step_marked (books_of j) (known_of j c.requires.ready)) (step_ahead (books_of j) steady).durable)
+
+pub returns-in-Err-clause-contents : goal.returns-in-Err-clause-contents
+returns-in-Err-clause-contents g c = λ st next is now.
+    let j = c.args.journal.now in
+    let steady = steady_of j c.requires.ready in
+    let same = c.halt.ensures.books ∙ ap (λ (b : Books). halted b c.faults.result) c.act.ensures.books in
+    let failed = subst (λ (o : Option State). FailedFront j.sup j.groups.items j.phase (Some st) o) now (subst (λ (o : Option State). FailedFront j.sup j.groups.items j.phase o (g.D.Disk.state c.act.new.disk)) is c.in-Err.ensures.failed) in
+    failed_contents (books_of j) (books_of c.halt.new.journal) st next steady (ap durable_of same) j.groups.items j.phase refl steady.phase c.act.ensures.read failed

@@ -1,6 +1,6 @@
-use Rattle.std.proofs.Common.{ℕ, Bool, subst, sym, ap, refl, Option, OnOk, OnErr, IfOk}
+use Rattle.std.proofs.Common.{◌≡◌, Some, ℕ, Bool, subst, sym, ap, refl, Option, OnOk, OnErr, IfOk}
 use Rattle.bfs_base.specs.Moments.{Passed}
-use Rattle.bfs_disk.specs.State.{Tells}
+use Rattle.bfs_disk.specs.State.{State, Tells}
 use Rattle.bfs_device.specs.Layouts.{IsSameVolume, Layout, layout_of}
 use Rattle.bfs_device.specs.Books.{View, books_of, IsRight, RecoversOne, AreSame, IsOnDisk}
 use Rattle.bfs_device.specs.Steps.{still_touched}
@@ -8,6 +8,7 @@ use Rattle.bfs_device.specs.Told.{HasCalled}
 use Rattle.bfs_device.proofs.Stepping.{on_layout}
 use Rattle.bfs_device.proofs.Keeping.{agrees_as}
 use Rattle.bfs_device.specs.Ahead.{GoesOn}
+use Rattle.bfs_device.specs.Contents.{KeepsContents}
 use Rattle.bfs_device.proofs.device.Device.step.Goals as goal
 
 pub invariant_of-self : goal.invariant_of-self
@@ -46,3 +47,8 @@ pub returns-clause-ahead : goal.returns-clause-ahead
 returns-clause-ahead g c =
     let new = c.step_of.new in
     subst (λ (x : View g.row.D.Denot). GoesOn x.books (books_of new.journal)) c.self.view_is c.step_of.ensures.ahead
+
+pub returns-clause-contents : goal.returns-clause-contents
+returns-clause-contents g c =
+    let new = c.step_of.new in
+    subst (λ (x : View g.row.D.Denot). (st next : State) → g.D.Disk.state x.disk ≡ Some st → g.D.Disk.state new.disk ≡ Some next → KeepsContents x.books (books_of new.journal) st next) c.self.view_is c.step_of.ensures.contents

@@ -15,6 +15,7 @@ use Rattle.bfs_device.specs.Told.{HasMarked}
 use Rattle.bfs_device.specs.Seals.{with_room}
 use Rattle.bfs_device.specs.Ahead.{GoesOn, IsSteady}
 use Rattle.bfs_device.proofs.Forward.{other_ahead}
+use Rattle.bfs_device.proofs.Contents.{read_contents}
 use Rattle.bfs_core.specs.Moments.{DeviceMoves, IsLessTouched, IsRightOn, IsWrittenAt, Marked}
 use Rattle.bfs_core.proofs.Times.{step_touches}
 
@@ -114,6 +115,7 @@ module _ (b : Books) (spare : ℕ) where
     ahead = other_ahead b roomy refl refl refl refl;
     stops = λ none. none;
     right = λ t right. record { touched = t; less = untouched b roomy t refl; right = (right.0, right.1, (roomy_right b.stop t right.0 right.2, λ n is k d. refl)) };
+    contents = λ st next is now. read_contents b roomy told told refl refl st next is now;
     time = record {
       meanwhile = λ t right. passed_none clock since (λ c. Tells told (λ s. RecoversOne b t s c));
       now = now;

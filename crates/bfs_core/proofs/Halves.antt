@@ -30,12 +30,12 @@ get_take (suc n) zero (x ∷ xs) lt = refl
 get_take (suc n) (suc i) (x ∷ xs) lt = get_take n i xs (omega (arith, lt))
 
 -- a byte stands in its sector
-get_sector : (xs : List ℕ) (at : ℕ) → slice_get xs at ≡ slice_get (sector (at / 512) xs) (at % 512)
+pub get_sector : (xs : List ℕ) (at : ℕ) → slice_get xs at ≡ slice_get (sector (at / 512) xs) (at % 512)
 get_sector xs at =
     let small : at % 512 < 512 = mod-lt at (let some : 0 < 512 = omega arith in some) in
     sym (get_take 512 (at % 512) (drop (512 * (at / 512)) xs) small ∙ get_drop (512 * (at / 512)) (at % 512) xs ∙ ap (slice_get xs) (div-add-mod at 512))
 
-get_joined : (r : ℕ) (f : ℕ → List ℕ) (at : ℕ) → ((j : ℕ) → j < r → length (f j) ≡ 512) → at / 512 < r → slice_get (joined r f) at ≡ slice_get (f (at / 512)) (at % 512)
+pub get_joined : (r : ℕ) (f : ℕ → List ℕ) (at : ℕ) → ((j : ℕ) → j < r → length (f j) ≡ 512) → at / 512 < r → slice_get (joined r f) at ≡ slice_get (f (at / 512)) (at % 512)
 get_joined r f at long inside = get_sector (joined r f) at ∙ ap (λ (xs : List ℕ). slice_get xs (at % 512)) (sector-joined r f (at / 512) long inside)
 
 module _ (st next : State) (r block : ℕ) (bytes : List ℕ) (filled : Filled st) (fits : r * block + r ≤ st.size) (long : length bytes ≡ 512 * r) (half : IsHalfWritten st (r * block) bytes next) where

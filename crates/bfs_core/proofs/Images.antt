@@ -39,7 +39,7 @@ module _ (t0 : Mounted) (history : List Entry) (b : Books) (t : ℕ → Bool) (s
   sound : IsSound (version_volume b st one.number) (after t0 (take one.number history))
   sound = versions.sound one.number one.is_version
 
-  same : (k : ℕ) → IsMetadata (version_volume b st one.number) tree k → times k (fixed_blocks (version_volume b st one.number)) ≡ 0 → blocks_of one.recovers.result k ≡ masked (layout_of b.sup) (version b st one.number) k
+  pub same : (k : ℕ) → IsMetadata (version_volume b st one.number) tree k → times k (fixed_blocks (version_volume b st one.number)) ≡ 0 → blocks_of one.recovers.result k ≡ masked (layout_of b.sup) (version b st one.number) k
   same k meta apart =
       let is = metadata_data b.sup (used_of b one.number) (masked (layout_of b.sup) (version b st one.number)) tree sound k meta apart in
       one.recovers.agrees k is (versions.untouched one.number k one.is_version meta) ∙ sym (masked_at (layout_of b.sup) (version b st one.number) k is)
@@ -54,7 +54,7 @@ module _ (t0 : Mounted) (history : List Entry) (b : Books) (t : ℕ → Bool) (s
       (metadata_stays (version_volume b st one.number) (blocks_of one.recovers.result) tree sound (some_bytes b.sup steady.valid) same k).0
       (subst (λ (g : Geometry). let v : Volume = record { geometry = g; blocks = blocks_of one.recovers.result } in IsMetadata v tree k) one.recovers.geometry meta)
 
-  result_whole : IsWhole one.recovers.result tree
+  pub result_whole : IsWhole one.recovers.result tree
   result_whole = record {
     valid = one.recovers.valid;
     whole = record { valid = volume_is one.recovers.result one.recovers.valid; emptied = one.recovers.emptied; sound = result_sound };

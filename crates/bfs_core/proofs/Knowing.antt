@@ -45,7 +45,7 @@ eq_true : (a b : ℕ) → a ≡ b → (a == b) ≡ true
 eq_true a b e = grind (arith, e)
 
 -- the block of a known byte is file data
-byte_file : (t0 : Mounted) (sp : SpaceView) (b : Books) (t : ℕ → Bool) (st : State) (core : Core t0 sp b t st) (contents : ℕ → List ℕ) (id place byte : ℕ)
+pub byte_file : (t0 : Mounted) (sp : SpaceView) (b : Books) (t : ℕ → Bool) (st : State) (core : Core t0 sp b t st) (contents : ℕ → List ℕ) (id place byte : ℕ)
     → (has : HasByte (face sp (newest_map b st)) (after t0 sp.history) contents id place byte) → IsFaceData t0 sp (newest_map b st) has.block
 byte_file t0 sp b t st core contents id place byte has = file_data_of t0 sp b t st id has.file.0 (place / sp.sup.block_size) has.block core has.file.1 has.file.2 has.is
 
@@ -91,7 +91,7 @@ known_entered t0 sp new b st e entered keeps known id place byte is = ⊎_elim
       is = before.1.block ∙ has.is;
       byte_is = ap (λ (s : Super). slice_get (contents_of st (layout_of b.sup).sectors has.block) (place % s.block_size)) entered.same.sup ∙ has.byte_is;
     })
-    (λ now. now)
+    (λ now. now.0)
     (keeps id place byte is)
 
 pub known_released : (t0 : Mounted) (sp : SpaceView) (b : Books) (st : State) (n : ℕ) → HasKnown t0 sp b st → HasKnown t0 (released_space n sp) b st

@@ -23,3 +23,5 @@ pub mod Fitting
 pub mod Knowing
 pub mod Calls
 pub mod Halves
+pub mod Chains
+pub mod Settling

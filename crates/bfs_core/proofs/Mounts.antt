@@ -11,8 +11,9 @@ use Rattle.bfs_device.specs.Books.{IsOnDisk}
 use Rattle.bfs_device.specs.Seals.{adopted}
 use Rattle.bfs_device.proofs.Stepping.{on_state, filled_state}
 use Rattle.bfs_core.specs.Spaces.{opened}
+use Rattle.bfs_core.specs.Chains.{Image}
 use Rattle.bfs_core.specs.Cores.{Core}
-use Rattle.bfs_core.specs.Moments.{Adoption, IsCore, IsKept, Kept, KeptSince, adopted_at}
+use Rattle.bfs_core.specs.Moments.{Adoption, IsCore, IsKept, Kept, KeptSince, adopted_from}
 use Rattle.bfs_core.proofs.Openings.{core_mounted}
 
 -- Core, on what is held
@@ -23,9 +24,9 @@ mount_core t0 image result told size recovers replayed holds filled sized on =
     (holds.0, holds.1, (none, core_mounted t0 image result holds.0 recovers replayed holds.2 (filled_state told holds.0 filled holds.1) here))
 
 -- and what a crash might have left
-pub mount_kept : (t0 : Mounted) (begun clock : ℕ) (since : ℕ → List ℕ → Type 0) → begun ≤ clock → KeptSince t0 [] clock since begun 0 → (let at_it : Adoption = adopted_at begun clock in Kept t0 [] at_it [] 0 0 clock since)
-mount_kept t0 begun clock since early kept =
-    let at_it : Adoption = adopted_at begun clock in
+pub mount_kept : (t0 : Mounted) (first : Option Image) (begun clock : ℕ) (since : ℕ → List ℕ → Type 0) → begun ≤ clock → KeptSince t0 [] clock since begun 0 → (let at_it : Adoption = adopted_from begun clock first in Kept t0 [] at_it [] 0 0 clock since)
+mount_kept t0 first begun clock since early kept =
+    let at_it : Adoption = adopted_from begun clock first in
     record {
       slow = λ few. omega arith;
       early = early;
@@ -35,7 +36,7 @@ mount_kept t0 begun clock since early kept =
       reached = All-nil (λ (m : Mark). m.number ≤ 0);
     }
 
-pub mount_event : (t0 : Mounted) (image result : List ℕ) (told : Option State) (size : Option ℕ) (begun clock : ℕ) (since : ℕ → List ℕ → Type 0) → begun ≤ clock → KeptSince t0 [] clock since begun 0 → Recovers image t0.tree → Replayed image result → Tells told (Holds result)
+pub mount_event : (t0 : Mounted) (first : Option Image) (image result : List ℕ) (told : Option State) (size : Option ℕ) (begun clock : ℕ) (since : ℕ → List ℕ → Type 0) → begun ≤ clock → KeptSince t0 [] clock since begun 0 → Recovers image t0.tree → Replayed image result → Tells told (Holds result)
     → IfSome told Filled → IfSome told (λ x. size ≡ Some x.size) → IsOnDisk size (super_of result)
-    → IsCore t0 (adopted_at begun clock) (opened (super_of result)) (adopted (super_of result)) told clock since
-mount_event t0 image result told size begun clock since early kept recovers replayed holds filled sized on = (mount_core t0 image result told size recovers replayed holds filled sized on, mount_kept t0 begun clock since early kept)
+    → IsCore t0 (adopted_from begun clock first) (opened (super_of result)) (adopted (super_of result)) told clock since
+mount_event t0 first image result told size begun clock since early kept recovers replayed holds filled sized on = (mount_core t0 image result told size recovers replayed holds filled sized on, mount_kept t0 first begun clock since early kept)

@@ -62,7 +62,7 @@ module _ (t0 : Mounted) (s : Super) (st : State) (image : List ℕ) (whole : IsW
   version_sound = sound_stays (volume_of s (blocks_of image)) (masked (layout_of s) (version (adopted s) st 0)) t0.tree sound (some_bytes s steady.valid)
       (λ k meta apart. let d = data_at k meta apart in masked_at (layout_of s) (version (adopted s) st 0) k d ∙ read_at k d)
 
-  same_volume : (k : ℕ) → masked (layout_of s) (version (adopted s) st 0) k ≡ face_over [] (newest_map (adopted s) st) k
+  pub same_volume : (k : ℕ) → masked (layout_of s) (version (adopted s) st 0) k ≡ face_over [] (newest_map (adopted s) st) k
   same_volume k = either (is_data (layout_of s) k)
     where
       either : (d : Bool) → cond d (contents_of st (layout_of s).sectors k) [] ≡ unwrap_or (cond d (Some (contents_of st (layout_of s).sectors k)) None) []

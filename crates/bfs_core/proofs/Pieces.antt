@@ -98,7 +98,7 @@ module _ (t0 : Mounted) (sp : SpaceView) (b : Books) (t : ℕ → Bool) (st : St
     pub some : 0 < sp.sup.block_size
     some = subst (λ (n : ℕ). 0 < n) (same_size sp.sup b.sup core.one.geometry) (some_bytes b.sup core.steady.valid)
 
-    map_at : (k : ℕ) → k ≢ block → newest_map new st' k ≡ newest_map b st k
+    pub map_at : (k : ℕ) → k ≢ block → newest_map new st' k ≡ newest_map b st k
     map_at k other = by_test (is_data (layout_of b.sup) k) refl
       where
         by_test : (d : Bool) → is_data (layout_of b.sup) k ≡ d → cond d (Some (version new st' (sealed_of b) k)) None ≡ cond d (Some (version b st (sealed_of b) k)) None
@@ -121,13 +121,13 @@ module _ (t0 : Mounted) (sp : SpaceView) (b : Books) (t : ℕ → Bool) (st : St
         by_test true d = same n is k (data_of (layout_of b.sup) k d) other
         by_test false d = refl
 
-    version_same : (n : ℕ) → IsVersion b n → (k : ℕ) → IsVersionMetadata t0 sp.history b st n k → times k (fixed_blocks (version_volume b st n)) ≡ 0 → masked (layout_of b.sup) (version new st' n) k ≡ masked (layout_of b.sup) (version b st n) k
+    pub version_same : (n : ℕ) → IsVersion b n → (k : ℕ) → IsVersionMetadata t0 sp.history b st n k → times k (fixed_blocks (version_volume b st n)) ≡ 0 → masked (layout_of b.sup) (version new st' n) k ≡ masked (layout_of b.sup) (version b st n) k
     version_same n is k meta fixed = version_at n k is (λ e. piece_harmless n is (subst (IsMetadata (version_volume b st n) (after t0 (take n sp.history))) e meta))
 
     to_version : (n : ℕ) → IsVersion b n → (k : ℕ) → IsVersionMetadata t0 sp.history new st' n k ↔ IsVersionMetadata t0 sp.history b st n k
     to_version n is k = metadata_stays (version_volume b st n) (masked (layout_of b.sup) (version new st' n)) (after t0 (take n sp.history)) (core.versions.sound n is) (some_bytes b.sup core.steady.valid) (version_same n is) k
 
-    file_still : (k : ℕ) → IsFaceData t0 sp (newest_map b st) k → IsFaceData t0 sp (newest_map new st') k
+    pub file_still : (k : ℕ) → IsFaceData t0 sp (newest_map b st) k → IsFaceData t0 sp (newest_map new st') k
     file_still k is = ((to_bits k).1 is.0, (λ meta. is.1 ((to_face k).0 meta)))
 
     piece_core : (stop ≡ None → b.stop ≡ None) → IsRight new (touching block t) st' → Core t0 sp new (touching block t) st'

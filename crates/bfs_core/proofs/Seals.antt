@@ -60,7 +60,7 @@ module _ (t0 : Mounted) (sp : SpaceView) (b : Books) (t : ℕ → Bool) (st : St
   abbrev m : ℕ → Option (List ℕ)
   m = newest_map b st
 
-  older : (n : ℕ) → IsVersion b n → version_volume new st n ≡ version_volume b st n
+  pub older : (n : ℕ) → IsVersion b n → version_volume new st n ≡ version_volume b st n
   older n is = λ i. record {
     geometry = ap (geometry_with b.sup) (older_used b g (know_of b core.steady) next n is) i;
     blocks = λ k. ap (λ (c : List ℕ). cond (is_data (layout_of b.sup) k) c []) (older_version b g (know_of b core.steady) next st n k is) i;
@@ -74,7 +74,7 @@ module _ (t0 : Mounted) (sp : SpaceView) (b : Books) (t : ℕ → Bool) (st : St
       (λ d. absurd (true≢false (sym (of_data (layout_of b.sup) k d) ∙ is)))
       (pairs_data (layout_of b.sup) g.blocks k next.sealed.places)
 
-  newest_is : version_volume new st g.last ≡ face sp m
+  pub newest_is : version_volume new st g.last ≡ face sp m
   newest_is = λ i. record {
     geometry = (core.one.geometry (used_of new g.last) ∙ ap (geometry_with sp.sup) (newest_used b g (know_of b core.steady) next ∙ group.used)) i;
     blocks = λ k. (block_at k (is_data (layout_of b.sup) k) refl ∙ ap (λ (ps : List (ℕ × List ℕ)). unwrap_or (over ps m k) []) group.blocks) i;

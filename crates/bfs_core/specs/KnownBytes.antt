@@ -40,10 +40,11 @@ pub record StaysInBlock (t0 : Mounted) (old new : SpaceView) (m : ℕ → Option
   pub block : block_at (face new m) id place ≡ block_at (face old m) id place
 
 -- An entry has kept the files: each byte that is known after it was known before, at a place that stays in its block, or is on
--- the disk, as those of a whole write are.
+-- the disk, as those of a whole write are, in the block that the file had there.
 abbrev pub KeepsFiles : Mounted → SpaceView → SpaceView → (ℕ → Option (List ℕ)) → (ℕ → List ℕ) → Type 0
 KeepsFiles t0 old new m contents = (id place byte : ℕ) → get (state_after t0 new.history).known (id, place) ≡ Some byte
-    → ((get (state_after t0 old.history).known (id, place) ≡ Some byte) × StaysInBlock t0 old new m id place) ⊎ HasByte (face new m) (after t0 new.history) contents id place byte
+    → ((get (state_after t0 old.history).known (id, place) ≡ Some byte) × StaysInBlock t0 old new m id place)
+    ⊎ (HasByte (face new m) (after t0 new.history) contents id place byte × (block_at (face new m) id place ≡ block_at (face old m) id place))
 
 -- the block has each byte that is known of a place in it
 abbrev pub HasKnownIn : Mounted → SpaceView → (ℕ → Option (List ℕ)) → ℕ → List ℕ → Type 0

@@ -1,8 +1,11 @@
 pub mod Spaces
 pub mod Cores
+pub mod Caused
+pub mod Chains
 pub mod Moments
 pub mod Stories
 pub mod Laws
 pub mod StoryLaws
 pub mod KnownBytes
 pub mod KnownLaws
+pub mod Settled

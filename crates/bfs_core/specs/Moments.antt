@@ -1,5 +1,5 @@
 -- What a crash at some moment might have left, by the marks; and Core from adoption on.
-use Rattle.std.specs.Prelude.{◌≡◌, ◌⊎◌, ◌≤◌, ◌<◌, ◌+◌, ◌-◌, ◌^◌, ◌++◌, ◌∷◌, [], ℕ, List, Bool, true, false, Option, None}
+use Rattle.std.specs.Prelude.{◌≡◌, ◌⊎◌, ◌≤◌, ◌<◌, ◌+◌, ◌-◌, ◌^◌, ◌++◌, ◌∷◌, [], ℕ, List, Bool, true, false, Option, Some, None}
 use Rattle.std.specs.List.{All}
 use Rattle.bfs_base.specs.Moments.{Passed}
 use Rattle.bfs_disk.specs.State.{State, Tells}
@@ -8,20 +8,27 @@ use Rattle.bfs_tree.specs.declared.reply.Entry.{Entry}
 use Rattle.bfs_tree.specs.Histories.{Mounted}
 use Rattle.bfs_device.specs.declared.journal.Mark.{Mark}
 use Rattle.bfs_device.specs.Books.{Books, IsRight, AreSame, RecoversOne, durable_of}
+use Rattle.bfs_device.specs.Contents.{KeepsContents}
 use Rattle.bfs_device.specs.Data.{touching, AreSameBut}
 use Rattle.bfs_device.specs.Steps.{HasMoved}
 use Rattle.bfs_device.specs.Ahead.{IsSteady, GoesOn}
 use Rattle.bfs_core.specs.Spaces.{SpaceView}
 use Rattle.bfs_core.specs.Cores.{Core, RecoversFrom}
+use Rattle.bfs_core.specs.Chains.{Image}
 
--- When a device adopted its disk, and when what led there began: by the disk's clock, the moment before replay, and that of adoption.
+-- When a device adopted its disk, and when what led there began: by the disk's clock, the moment before replay, and that of adoption; and the
+-- image that it adopted, where a chain of images is asked for from there on.
 pub record Adoption : Type 0 where
   pub begun : ℕ
   pub moment : ℕ
+  pub first : Option Image
 
--- since a moment, and adopted at another one
+abbrev pub adopted_from : ℕ → ℕ → Option Image → Adoption
+adopted_from begun moment first = record { begun = begun; moment = moment; first = first }
+
+-- since a moment, and adopted at another one; no chain is asked for
 abbrev pub adopted_at : ℕ → ℕ → Adoption
-adopted_at begun moment = record { begun = begun; moment = moment }
+adopted_at begun moment = adopted_from begun moment None
 
 -- what a crash since a time might have left recovers to at least so many entries
 abbrev pub KeptSince : Mounted → List Entry → ℕ → (ℕ → List ℕ → Type 0) → ℕ → ℕ → Type 0
@@ -79,6 +86,7 @@ pub record DeviceMoves (b new : Books) (told after_it : Option State) (clock lat
   pub ahead : GoesOn b new
   pub stops : new.stop ≡ None → b.stop ≡ None
   pub right : (t : ℕ → Bool) (right : Tells told (IsRight b t)) → IsRightOn b new t right.0 after_it
+  pub contents : (st next : State) → told ≡ Some st → after_it ≡ Some next → KeepsContents b new st next
   pub time : Passes b new told after_it clock later past since (λ t. t)
 
 -- A data write of a device at a block, as its contract says it, whether it succeeded or failed.

@@ -1,6 +1,6 @@
 // Laws of Core from adoption on, with what a crash since each mark might have left. They are stated over the disk of the device,
 // of which one value stands for the disk before a call and one for that after it. The functions do nothing.
-ghost use Rattle.std.specs.Prelude.{◌≡◌, ◌≤◌, ℕ, List, [], Some};
+ghost use Rattle.std.specs.Prelude.{◌≡◌, ◌≤◌, ℕ, List, [], Option, Some};
 ghost use Rattle.bfs_super.specs.declared.sup.Super.{Super};
 ghost use Rattle.bfs_sound.specs.Volumes.{IsMarked};
 ghost use Rattle.bfs_disk.specs.State.{State, Tells, Holds};
@@ -12,8 +12,9 @@ ghost use Rattle.bfs_sound.specs.Whole.{Recovers};
 ghost use Rattle.bfs_device.specs.Books.{Books, IsOnDisk};
 ghost use Rattle.bfs_device.specs.Seals.{adopted, sealed_with};
 ghost use Rattle.bfs_core.specs.Spaces.{SpaceView, Entered, IsFaceData, IsGroupFor, opened, released_space, sealed_space};
+ghost use Rattle.bfs_core.specs.Chains.{Image};
 ghost use Rattle.bfs_core.specs.Cores.{IsKnown, newest_map};
-ghost use Rattle.bfs_core.specs.Moments.{Adoption, IsCore, KeptSince, DeviceMoves, DeviceWrites, adopted_at};
+ghost use Rattle.bfs_core.specs.Moments.{Adoption, IsCore, KeptSince, DeviceMoves, DeviceWrites, adopted_from};
 ghost use Rattle.bfs_core.specs.Stories.{Story, Words, IsStory, SpaceFits, FitsSince, IsMetadataIn, Longer, with_numbers, end_of};
 
 use bfs_disk::Disk;
@@ -21,9 +22,9 @@ use bfs_disk::Disk;
 /// Mounting: a quiet disk that holds what replay of an image that recovers gives is adopted at this moment. What led there began at one since which a
 /// crash might have left only what recovers to the same tree.
 pub fn mount_is_kept<D: Disk>(disk: &D)
-    ensures { (t0 : Mounted) (begun : ℕ) (image result : List ℕ) → begun ≤ D.clock disk.now → KeptSince t0 [] (D.clock disk.now) (D.since disk.now) begun 0
+    ensures { (t0 : Mounted) (begun : ℕ) (first : Option Image) (image result : List ℕ) → begun ≤ D.clock disk.now → KeptSince t0 [] (D.clock disk.now) (D.since disk.now) begun 0
         → Recovers image t0.tree → Replayed image result → Tells (D.state disk.now) (Holds result) → IsOnDisk (D.size disk.now) (super_of result)
-        → IsCore t0 (adopted_at begun (D.clock disk.now)) (opened (super_of result)) (adopted (super_of result)) (D.state disk.now) (D.clock disk.now) (D.since disk.now) }
+        → IsCore t0 (adopted_from begun (D.clock disk.now) first) (opened (super_of result)) (adopted (super_of result)) (D.state disk.now) (D.clock disk.now) (D.since disk.now) }
 {}
 
 /// A step of the device, a read of it, or room.

@@ -13,6 +13,7 @@ use Rattle.bfs_device.specs.Data.{IsRested}
 use Rattle.bfs_core.specs.Spaces.{SpaceView}
 use Rattle.bfs_core.specs.Cores.{Core, RecoversFrom}
 use Rattle.bfs_core.specs.KnownBytes.{HasKnown}
+use Rattle.bfs_core.specs.Settled.{HasSettled}
 use Rattle.bfs_core.specs.Moments.{Adoption, Kept, KeptSince, IsCore, IsLessTouched}
 use Rattle.bfs_core.specs.Stories.{Story, Words, IsStory, DeviceFits, FitsSince, with_numbers, end_of}
 use Rattle.bfs_core.proofs.Calls.{read_ahead, read_stops}
@@ -21,7 +22,7 @@ use Rattle.bfs_core.proofs.Images.{from_within, recovers_from}
 use Rattle.bfs_core.proofs.Onward.{core_ahead}
 use Rattle.bfs_core.proofs.Times.{recovers_less}
 use Rattle.bfs_core.proofs.Together.{device_recovers}
-use Rattle.bfs_device_blocks.specs.Lent.{HasBeenRead, HasCore}
+use Rattle.bfs_device_blocks.specs.Lent.{HasBeenRead, HasCore, HasImages}
 use Rattle.bfs_device_blocks.proofs.Going.{right_rested, steady_rested}
 
 -- ---- what a crash since each mark might have left
@@ -103,6 +104,17 @@ both_halves : (t0 : Mounted) (sp : SpaceView) (b new : Books) (told told' : Opti
     → Tells told' (λ st. (t : ℕ → Bool) × Core t0 sp new t st × HasKnown t0 sp new st)
 both_halves t0 sp b new told told' rests same core = (core.0, same ∙ core.1, (core.2.0, core_rested t0 sp b new core.2.0 core.0 rests core.2.1, known_rested t0 sp b new core.0 rests core.2.2))
 
+-- and the chain of images and the settled bytes, of which nothing is read but what stays
+settled_rested : (t0 : Mounted) (sp : SpaceView) (b : Books) (m : ℕ) (st : State) → HasSettled t0 sp b st → (let new : Books = record b { moment = m } in HasSettled t0 sp new st)
+settled_rested t0 sp b m st settled = record { contents = settled.contents; versions = settled.versions }
+
+images_later : (t0 : Mounted) (adopted : Adoption) (sp : SpaceView) (b : Books) (m : ℕ) (told : Option State) → HasImages t0 adopted sp b told → (let new : Books = record b { moment = m } in HasImages t0 adopted sp new told)
+images_later t0 adopted sp b m told has = record { chain = has.chain; settled = λ first is st told_is. settled_rested t0 sp b m st (has.settled first is st told_is) }
+
+images_rested : (t0 : Mounted) (adopted : Adoption) (sp : SpaceView) (b new : Books) (told told' : Option State) → IsRested b new → told' ≡ told → HasImages t0 adopted sp b told → HasImages t0 adopted sp new told'
+images_rested t0 adopted sp b new told told' rests same has =
+    subst (λ (o : Option State). HasImages t0 adopted sp new o) (sym same) (subst (λ (x : Books). HasImages t0 adopted sp x told) (sym rests) (images_later t0 adopted sp b new.moment told has))
+
 module _ (t0 : Mounted) (adopted : Adoption) (sp : SpaceView) (b new : Books) (told told' : Option State) (clock later : ℕ) (past since : ℕ → List ℕ → Type 0)
     (only : (c : List ℕ) → past clock c → MayLeave told c) (fewer : (t u : ℕ) (c : List ℕ) → t ≤ u → since u c → since t c) where
   time_half : HasBeenRead b new told told' clock later past since → Tells told (λ st. (t : ℕ → Bool) × Core t0 sp b t st) → Kept t0 sp.history adopted b.marks (durable_of b) b.moment clock past
@@ -117,6 +129,7 @@ module _ (t0 : Mounted) (adopted : Adoption) (sp : SpaceView) (b new : Books) (t
   core_given_back reads rests same core = (
     both_halves t0 sp b new told told' rests same core.0,
     ∥∥₁_elim reads (Prim.hlevel props) (λ read. ∥∥₁_map core.1 (λ kept. time_half read (core_alone t0 sp b told core.0) kept)),
+    images_rested t0 adopted sp b new told told' rests same core.2,
   )
 
 -- ---- a device that fits a story

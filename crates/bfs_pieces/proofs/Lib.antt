@@ -3,3 +3,4 @@ pub mod Parting
 pub mod Writing
 pub mod Spreading
 pub mod Stepping
+pub mod Halting

@@ -2,7 +2,7 @@
 use Rattle.std.proofs.lemmas.Option.{slice_get-get_or}
 use Rattle.bfs_base.specs.Lists.{times}
 use Rattle.bfs_core.proofs.Files.{get_has}
-use Rattle.std.proofs.Common.{◌≡◌, ◌≢◌, None, arith, ◌<◌, ◌≤◌, ◌+◌, ℕ, List, length, Bool, Option, Some, refl, sym, ◌∙◌, ap, subst}
+use Rattle.std.proofs.Common.{◌≡◌, None, arith, ◌<◌, ◌≤◌, ◌+◌, ℕ, List, length, Bool, Option, Some, refl, sym, ◌∙◌, ap, subst}
 use Rattle.std.specs.Prelude.{slice_index}
 use Rattle.bfs_disk.specs.State.{State}
 use Rattle.bfs_disk.specs.Blocks.{contents_of}

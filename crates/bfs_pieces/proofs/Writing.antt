@@ -22,7 +22,7 @@ use Rattle.bfs_core.specs.KnownBytes.{HasKnown, HasKnownIn}
 use Rattle.bfs_core.specs.Moments.{Adoption, DeviceWrites}
 use Rattle.bfs_core.proofs.Halves.{known_half, written_half}
 use Rattle.bfs_core.proofs.Onward.{same_size}
-use Rattle.bfs_device_blocks.specs.Lent.{HasCore}
+use Rattle.bfs_device_blocks.specs.Lent.{AreSized, HasCore, IsBehindEntry, IsWrittenOver}
 use Rattle.bfs_device_blocks.proofs.Facing.{written_newest}
 use Rattle.bfs_device_blocks.proofs.Holding.{hold_written}
 use Rattle.bfs_pieces.specs.Parts.{IsClear, MayWrite, TellsBut, ReadsBut}
@@ -75,7 +75,7 @@ reads_written told after_it r block bytes (Err fault) long ok = tt
 module _ (t0 : Mounted) (adopted : Adoption) (sp : SpaceView) (b new : Books) (told told' : Option State) (clock clock' : ℕ) (past since : ℕ → List ℕ → Type 0) (block : ℕ) (bytes : List ℕ)
     (writes : DeviceWrites block b new told told' clock clock' past since) (filled : (st : State) → told ≡ Some st → Filled st) (on : (st : State) → told ≡ Some st → IsOnDisk (Some st.size) b.sup)
     (long : length bytes ≡ 512 * (layout_of b.sup).sectors) (half : LeavesHalf told told' ((layout_of b.sup).sectors * block) bytes)
-    (core : HasCore t0 adopted sp b told clock past) (may : (st : State) → told ≡ Some st → IsFaceData t0 sp (newest_map b st) block × HasKnownIn t0 sp (newest_map b st) block bytes) where
+    (core : HasCore t0 adopted sp b told clock past) (ends : AreSized new told') (behind : IsBehindEntry adopted sp) (may : (st : State) → told ≡ Some st → IsFaceData t0 sp (newest_map b st) block × HasKnownIn t0 sp (newest_map b st) block bytes) where
   old : Core t0 sp b core.0.2.0 core.0.0
   old = core.0.2.1
 
@@ -95,8 +95,17 @@ module _ (t0 : Mounted) (adopted : Adoption) (sp : SpaceView) (b new : Books) (t
       let here : newest_map new got.0 k ≡ newest_map b core.0.0 k = written_newest b new core.0.0 got.0 block old.steady writes.rests got.2.1 k other in
       ap (λ (s : State). newest_map new s k) (one_told told' next got.0 after_it got.1) ∙ here ∙ ap (λ (s : State). newest_map b s k) (one_told told core.0.0 st core.0.1 is)
 
+  over : IsWrittenOver t0 sp b told told' block bytes
+  over = record {
+    long = long;
+    half = λ st next is after_it.
+        let got = half st is in
+        subst (IsHalfWritten st ((layout_of b.sup).sectors * block) bytes) (one_told told' got.0 next got.1 after_it) got.2;
+    known = λ st is. (may st is).1;
+  }
+
   pub whole_written : HasCore t0 adopted sp new told' clock' since × TellsBut block b new told told'
-  whole_written = (hold_written t0 adopted sp b told clock past block new told' clock' since (λ st is. (may st is).0) in_block writes core, tells_but)
+  whole_written = (hold_written t0 adopted sp b told clock past block new told' clock' since (λ st is. (may st is).0) in_block bytes over ends behind writes core, tells_but)
 
 -- ---- a part of a block
 

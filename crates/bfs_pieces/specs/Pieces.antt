@@ -40,3 +40,8 @@ HasPieceCause stop old_faults faults (Stopped durable count) = stop ≡ Some (re
 abbrev pub TellsStop : Option Stop → DeviceFault → Type 0
 TellsStop stop (Disk before after stops) = stops ≡ is_some stop
 TellsStop stop (Stopped durable count) = Unit {0}
+
+-- where a write of the piece has stopped the device, the stop has the count of faults after it, as the fault does, and the count of stops rose
+abbrev pub HasHalted : Option Stop → ℕ → ℕ → DeviceFault → Type 0
+HasHalted stop old_stops stops (Disk before after stopped) = (s : Stop) → stop ≡ Some s → (s.faults ≡ after) × Rose old_stops stops
+HasHalted stop old_stops stops (Stopped durable count) = Unit {0}

@@ -9,8 +9,8 @@ ghost use Rattle.bfs_core.specs.Spaces.{SpaceView, IsFaceData};
 ghost use Rattle.bfs_core.specs.Cores.{newest_map};
 ghost use Rattle.bfs_core.specs.KnownBytes.{HasKnownIn};
 ghost use Rattle.bfs_core.specs.Moments.{Adoption};
-ghost use Rattle.bfs_device_blocks.specs.Lent.{HasCore};
-ghost use Rattle.bfs_pieces.specs.Pieces.{HasPieceCause, TellsStop};
+ghost use Rattle.bfs_device_blocks.specs.Lent.{HasCore, IsBehindEntry};
+ghost use Rattle.bfs_pieces.specs.Pieces.{HasPieceCause, TellsStop, HasHalted};
 ghost use Rattle.bfs_pieces.specs.Parts.{IsPartOf, MayWrite, TellsBut, ReadsBut};
 
 use bfs_device::{Device, DeviceFault};
@@ -109,7 +109,7 @@ fn write_whole<D: Disk>(device: &mut Device<D>, place: u64, from: &[u8]) -> Resu
     ensures others { ReadsBut (layout_of device.old.books.sup).sectors place (D.state device.old.disk) (D.state device.new.disk) }
     ensures silent { D.state device.old.disk ≡ None → D.state device.new.disk ≡ None }
     ensures core { (t0 : Mounted) (adopted : Adoption) (sp : SpaceView) → HasCore t0 adopted sp device.old.books (D.state device.old.disk) (D.clock device.old.disk) (D.since device.old.disk)
-        → ((st : State) → D.state device.old.disk ≡ Some st → IsFaceData t0 sp (newest_map device.old.books st) place × HasKnownIn t0 sp (newest_map device.old.books st) place from.now)
+        → IsBehindEntry adopted sp → ((st : State) → D.state device.old.disk ≡ Some st → IsFaceData t0 sp (newest_map device.old.books st) place × HasKnownIn t0 sp (newest_map device.old.books st) place from.now)
         → HasCore t0 adopted sp device.new.books (D.state device.new.disk) (D.clock device.new.disk) (D.since device.new.disk)
         × TellsBut place device.old.books device.new.books (D.state device.old.disk) (D.state device.new.disk) }
     ensures rest { device.new.books ≡ record device.old.books { moment = device.new.books.moment; stop = device.new.books.stop } }
@@ -119,6 +119,7 @@ fn write_whole<D: Disk>(device: &mut Device<D>, place: u64, from: &[u8]) -> Resu
     ensures stopped { IfErr result (TellsStop device.new.books.stop) }
     ensures faults { D.faults device.old.disk ≤ D.faults device.new.disk }
     ensures stops { D.stops device.old.disk ≤ D.stops device.new.disk }
+    ensures halted { IfErr result (HasHalted device.new.books.stop (D.stops device.old.disk) (D.stops device.new.disk)) }
 {
     device.steady();
     let result = device.data_write(place, from);
@@ -142,7 +143,7 @@ fn write_some<D: Disk>(
     ensures others { ReadsBut (layout_of device.old.books.sup).sectors place (D.state device.old.disk) (D.state device.new.disk) }
     ensures silent { D.state device.old.disk ≡ None → D.state device.new.disk ≡ None }
     ensures core { (t0 : Mounted) (adopted : Adoption) (sp : SpaceView) → HasCore t0 adopted sp device.old.books (D.state device.old.disk) (D.clock device.old.disk) (D.since device.old.disk)
-        → MayWrite t0 sp device.old.books (D.state device.old.disk) place skip (length from.now)
+        → IsBehindEntry adopted sp → MayWrite t0 sp device.old.books (D.state device.old.disk) place skip (length from.now)
         → HasCore t0 adopted sp device.new.books (D.state device.new.disk) (D.clock device.new.disk) (D.since device.new.disk)
         × TellsBut place device.old.books device.new.books (D.state device.old.disk) (D.state device.new.disk) }
     ensures rest { device.new.books ≡ record device.old.books { moment = device.new.books.moment; stop = device.new.books.stop } }
@@ -152,6 +153,7 @@ fn write_some<D: Disk>(
     ensures stopped { IfErr result (TellsStop device.new.books.stop) }
     ensures faults { D.faults device.old.disk ≤ D.faults device.new.disk }
     ensures stops { D.stops device.old.disk ≤ D.stops device.new.disk }
+    ensures halted { IfErr result (HasHalted device.new.books.stop (D.stops device.old.disk) (D.stops device.new.disk)) }
 {
     match read_block(device, place, block) {
         Ok(()) => {
@@ -179,7 +181,7 @@ pub fn write_part<D: Disk>(
     ensures others { ReadsBut (layout_of device.old.books.sup).sectors place (D.state device.old.disk) (D.state device.new.disk) }
     ensures silent { D.state device.old.disk ≡ None → D.state device.new.disk ≡ None }
     ensures core { (t0 : Mounted) (adopted : Adoption) (sp : SpaceView) → HasCore t0 adopted sp device.old.books (D.state device.old.disk) (D.clock device.old.disk) (D.since device.old.disk)
-        → MayWrite t0 sp device.old.books (D.state device.old.disk) place skip (length from.now)
+        → IsBehindEntry adopted sp → MayWrite t0 sp device.old.books (D.state device.old.disk) place skip (length from.now)
         → HasCore t0 adopted sp device.new.books (D.state device.new.disk) (D.clock device.new.disk) (D.since device.new.disk)
         × TellsBut place device.old.books device.new.books (D.state device.old.disk) (D.state device.new.disk) }
     ensures rest { device.new.books ≡ record device.old.books { moment = device.new.books.moment; stop = device.new.books.stop } }
@@ -189,6 +191,7 @@ pub fn write_part<D: Disk>(
     ensures stopped { IfErr result (TellsStop device.new.books.stop) }
     ensures faults { D.faults device.old.disk ≤ D.faults device.new.disk }
     ensures stops { D.stops device.old.disk ≤ D.stops device.new.disk }
+    ensures halted { IfErr result (HasHalted device.new.books.stop (D.stops device.old.disk) (D.stops device.new.disk)) }
 {
     if from.len() == block.len() {
         return write_whole(device, place, from);

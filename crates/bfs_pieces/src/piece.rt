@@ -9,9 +9,9 @@ ghost use Rattle.bfs_device.specs.Data.{newest_in, IsRested};
 ghost use Rattle.bfs_core.specs.Spaces.{SpaceView};
 ghost use Rattle.bfs_core.specs.Cores.{newest_map};
 ghost use Rattle.bfs_core.specs.Moments.{Adoption};
-ghost use Rattle.bfs_device_blocks.specs.Lent.{HasCore};
+ghost use Rattle.bfs_device_blocks.specs.Lent.{HasCore, IsBehindEntry};
 ghost use Rattle.bfs_pieces.specs.Parts.{KeepsOthers};
-ghost use Rattle.bfs_pieces.specs.Pieces.{HasPieceCause, IsHeldPiece, IsPieceOf, IsUnknown, TellsStop};
+ghost use Rattle.bfs_pieces.specs.Pieces.{HasHalted, HasPieceCause, IsHeldPiece, IsPieceOf, IsUnknown, TellsStop};
 
 use crate::block::{read_part, write_part};
 use bfs_device::{Device, DeviceFault};
@@ -79,8 +79,8 @@ pub fn read_piece<D: Disk>(
 /// Writes a piece into its blocks, which are those at `places`: it begins so many bytes behind the start of the first. A block that the
 /// piece has whole takes one disk call; the first and the last, where it has some of their bytes alone, are read before. `block` is a
 /// buffer of a block's length. A piece of no byte is written without a call, by a device that has stopped too. A write that fails stops
-/// the device, and some of the piece may be on the disk. Core and each known byte of files stay, whether it succeeds or fails. Takes no
-/// memory.
+/// the device, and some of the piece may be on the disk. Core and each known byte of files stay, whether it succeeds or fails, where an
+/// entry stands in front of it. Takes no memory.
 pub fn write_piece<D: Disk>(
     device: &mut Device<D>,
     places: &[u64],
@@ -94,7 +94,7 @@ pub fn write_piece<D: Disk>(
     requires skip { skip < device.old.books.sup.block_size }
     requires covers { skip + length from.now ≤ device.old.books.sup.block_size * length places.now }
     ensures written { (t0 : Mounted) (adopted : Adoption) (sp : SpaceView) (id at : ℕ) → HasCore t0 adopted sp device.old.books (D.state device.old.disk) (D.clock device.old.disk) (D.since device.old.disk)
-        → ((st : State) → D.state device.old.disk ≡ Some st → IsHeldPiece t0 sp (newest_map device.old.books st) id at (length from.now) skip places.now)
+        → IsBehindEntry adopted sp → ((st : State) → D.state device.old.disk ≡ Some st → IsHeldPiece t0 sp (newest_map device.old.books st) id at (length from.now) skip places.now)
         → IsUnknown (state_after t0 sp.history).known id at (length from.now)
         → HasCore t0 adopted sp device.new.books (D.state device.new.disk) (D.clock device.new.disk) (D.since device.new.disk)
         × ((next : State) → D.state device.new.disk ≡ Some next → IsHeldPiece t0 sp (newest_map device.new.books next) id at (length from.now) skip places.now
@@ -110,6 +110,7 @@ pub fn write_piece<D: Disk>(
     ensures stopped { IfErr result (TellsStop device.new.books.stop) }
     ensures faults { D.faults device.old.disk ≤ D.faults device.new.disk }
     ensures stops { D.stops device.old.disk ≤ D.stops device.new.disk }
+    ensures halted { IfErr result (HasHalted device.new.books.stop (D.stops device.old.disk) (D.stops device.new.disk)) }
 {
     let size = block.len();
     let mut index = 0;

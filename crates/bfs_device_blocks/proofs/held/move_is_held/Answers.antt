@@ -1,6 +1,6 @@
-use Rattle.bfs_device_blocks.proofs.Holding.{hold_moved}
+use Rattle.bfs_device_blocks.proofs.Holding.{hold_moved, sized_so}
 use Rattle.bfs_device_blocks.proofs.held.move_is_held.Goals as goal
 
 pub returns : goal.returns
 returns g c =
-    λ t0 adopted sp b next moves core. hold_moved t0 adopted sp b (g.D.Disk.state c.args.old.now) (g.D.Disk.clock c.args.old.now) (g.D.Disk.since c.args.old.now) next (g.D.Disk.state c.args.new.now) (g.D.Disk.clock c.args.new.now) (g.D.Disk.since c.args.new.now) moves core
+    λ t0 adopted sp b next on moves core. hold_moved t0 adopted sp b (g.D.Disk.state c.args.old.now) (g.D.Disk.clock c.args.old.now) (g.D.Disk.since c.args.old.now) next (g.D.Disk.state c.args.new.now) (g.D.Disk.clock c.args.new.now) (g.D.Disk.since c.args.new.now) moves (sized_so next (g.D.Disk.size c.args.new.now) (g.D.Disk.state c.args.new.now) (g.met.D.Disk.filled c.args.new.now) (g.met.D.Disk.sized c.args.new.now) on) core

@@ -1,4 +1,4 @@
-use Rattle.std.proofs.Common.{◌≡◌, ◌≤◌, ◌-◌, ℕ, length, take, Some}
+use Rattle.std.proofs.Common.{◌≡◌, ◌≤◌, ◌-◌, length, take, Some}
 use Rattle.bfs_disk.specs.State.{State}
 use Rattle.bfs_disk.specs.Blocks.{contents_of}
 use Rattle.bfs_tree.specs.Histories.{Mounted}

@@ -10,6 +10,7 @@ use Rattle.bfs_pieces.specs.Parts.{IsPartOf, ReadsBut}
 use Rattle.bfs_pieces.proofs.Parting.{part_length, parts_joined}
 use Rattle.bfs_pieces.proofs.Spreading.{at_next, at_start, index_low, part_inside, piece_more, piece_none}
 use Rattle.bfs_pieces.proofs.Stepping.{others_more, rest_on, step_written}
+use Rattle.bfs_pieces.proofs.Halting.{halted_since}
 use Rattle.bfs_pieces.proofs.piece.write_piece.Goals as goal
 
 pub loop-done-preserved : goal.loop-done-preserved
@@ -34,10 +35,10 @@ loop-done-preserved g c =
     record {
       so = at_next size c.args.skip (length all) l.index l.skipped l.done n v.so left is;
       buffer = omega (arith, c.write_part.auto.block, v.buffer);
-      written = λ t0 adopted sp id at core held unknown.
-          let was = v.written t0 adopted sp id at core held unknown in
+      written = λ t0 adopted sp id at core behind held unknown.
+          let was = v.written t0 adopted sp id at core behind held unknown in
           let got = step_written t0 adopted sp l.device.books (g.D.Disk.state l.device.disk) (g.D.Disk.clock l.device.disk) (g.D.Disk.since l.device.disk) was.0 (layout_of old.books.sup).sectors size id at (length all) c.args.skip c.args.places.now (take l.done all)
-          (ap (λ (s : Super). s.block_size) sup) was.1 l.index l.skipped l.done v.so left front old.books.sup sup refl new.books (g.D.Disk.state new.disk) (g.D.Disk.clock new.disk) (g.D.Disk.since new.disk) n part long inside unknown (e.core t0 adopted sp) e.others in (
+          (ap (λ (s : Super). s.block_size) sup) was.1 l.index l.skipped l.done v.so left front old.books.sup sup refl new.books (g.D.Disk.state new.disk) (g.D.Disk.clock new.disk) (g.D.Disk.since new.disk) n part long inside unknown (λ before. e.core t0 adopted sp before behind) e.others in (
             got.0,
             λ next after.
                 let still = got.1 next after in
@@ -64,7 +65,7 @@ loop-done-init g c =
     record {
       so = at_start size c.args.skip (length c.args.from.now) c.requires.skip;
       buffer = c.requires.buffer;
-      written = λ t0 adopted sp id at core held unknown. (core, λ next is. (held next is, piece_none (contents_of next (layout_of old.books.sup).sectors) size c.args.places.now c.args.skip c.args.from.now));
+      written = λ t0 adopted sp id at core behind held unknown. (core, λ next is. (held next is, piece_none (contents_of next (layout_of old.books.sup).sectors) size c.args.places.now c.args.skip c.args.from.now));
       others = λ next is. (next, is, λ k none. refl);
       unmoved = λ none. refl;
       rest = refl;
@@ -83,7 +84,7 @@ write_part-requires-clause-data g c =
     subst (λ (s : Super). IsData (layout_of s) (slice_index c.args.places.now l.index)) (sym sup) (c.requires.data l.index 0 low)
 
 pub returns-in-Err-clause-written : goal.returns-in-Err-clause-written
-returns-in-Err-clause-written g c = λ t0 adopted sp id at core held unknown.
+returns-in-Err-clause-written g c = λ t0 adopted sp id at core behind held unknown.
     let old = c.args.device.now in
     let l = c.loop-done in
     let v = l.invariant in
@@ -100,19 +101,19 @@ returns-in-Err-clause-written g c = λ t0 adopted sp id at core held unknown.
     let long : length part ≡ n = part_length l.done n all inside in
     let front : length (take l.done all) ≡ l.done = length-take-le l.done all (omega (arith, inside)) in
     let sup : l.device.books.sup ≡ old.books.sup = ap (λ (x : Books). x.sup) v.rest in
-    let was = v.written t0 adopted sp id at core held unknown in
+    let was = v.written t0 adopted sp id at core behind held unknown in
     let got = step_written t0 adopted sp l.device.books (g.D.Disk.state l.device.disk) (g.D.Disk.clock l.device.disk) (g.D.Disk.since l.device.disk) was.0 (layout_of old.books.sup).sectors size id at (length all) c.args.skip c.args.places.now (take l.done all)
-    (ap (λ (s : Super). s.block_size) sup) was.1 l.index l.skipped l.done v.so left front old.books.sup sup refl new.books (g.D.Disk.state new.disk) (g.D.Disk.clock new.disk) (g.D.Disk.since new.disk) n part long inside unknown (e.core t0 adopted sp) e.others in
+    (ap (λ (s : Super). s.block_size) sup) was.1 l.index l.skipped l.done v.so left front old.books.sup sup refl new.books (g.D.Disk.state new.disk) (g.D.Disk.clock new.disk) (g.D.Disk.since new.disk) n part long inside unknown (λ before. e.core t0 adopted sp before behind) e.others in
     (got.0, λ next after. ((got.1 next after).0, tt))
 
 pub returns-clause-written : goal.returns-clause-written
-returns-clause-written g c = λ t0 adopted sp id at core held unknown.
+returns-clause-written g c = λ t0 adopted sp id at core behind held unknown.
     let old = c.args.device.now in
     let l = c.loop-done in
     let v = l.invariant in
     let all = c.args.from.now in
     let le : length all ≤ l.done = omega (arith, c.loop-done-test.false, v.so.low) in
-    let was = v.written t0 adopted sp id at core held unknown in (
+    let was = v.written t0 adopted sp id at core behind held unknown in (
       was.0,
       λ next is.
           let h = was.1 next is in
@@ -135,3 +136,6 @@ returns-in-Err-clause-others g c =
 
 pub returns-clause-others : goal.returns-clause-others
 returns-clause-others g c = c.loop-done.invariant.others
+
+pub returns-in-Err-clause-halted : goal.returns-in-Err-clause-halted
+returns-in-Err-clause-halted g c = halted_since c.write_part.new.device.books.stop (g.D.Disk.stops c.args.device.now.disk) (g.D.Disk.stops c.loop-done.device.disk) (g.D.Disk.stops c.write_part.new.device.disk) c.in-Err.fault c.loop-done.invariant.stops c.in-Err.ensures.halted

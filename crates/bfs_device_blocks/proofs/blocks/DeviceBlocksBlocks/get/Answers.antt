@@ -14,6 +14,7 @@ invariant_of-self-2 g c =
     record {
       rests = rested_twice start.books mid.books new.books u.rests e.rests;
       same = e.state ∙ u.same;
+      unstopped = e.stops ∙ u.unstopped;
       risen = omega (arith, u.risen, e.faults);
       fits = subst (λ (s : Super). s.block_size ≤ 8192) (sym e.sup) u.fits;
       sized = ∥∥₁_map u.sized (λ sized. sized_rested mid.books new.books (g.D.Disk.state mid.disk) (g.D.Disk.state new.disk) e.rests e.state sized);

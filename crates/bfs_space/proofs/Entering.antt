@@ -1,9 +1,9 @@
 -- A call that a space has answered is entered.
-use Rattle.std.proofs.Common.{◌≡◌, ◌≢◌, ◌<◌, inl, inr, ℕ, true, List, [], ◌∷◌, ◌++◌, Option, refl, sym, ap, ◌∙◌, subst}
+use Rattle.std.proofs.Common.{◌≡◌, ◌≢◌, ◌≤◌, ◌<◌, inl, inr, ⊎_elim, ℕ, true, List, [], ◌∷◌, ◌++◌, length, Option, unwrap_or, refl, sym, ap, ◌∙◌, subst, arith}
 use Rattle.std.specs.List.{list_any}
 use Rattle.bfs_super.specs.Geometry.{geometry_of}
 use Rattle.bfs_bitmap.specs.Runs.{Room, Fits}
-use Rattle.bfs_txn.specs.Changed.{over, AreOfSize}
+use Rattle.bfs_txn.specs.Changed.{newest, over, AreOfSize}
 use Rattle.bfs_stream.specs.Sizes.{sizes_of}
 use Rattle.bfs_stream.specs.Grown.{IsOfVolume}
 use Rattle.bfs_device.specs.declared.journal.Stop.{Stop}
@@ -18,6 +18,9 @@ use Rattle.bfs_tree.specs.Steps.{ByTree, Turn}
 use Rattle.bfs_tree.specs.Trees.{Tree}
 use Rattle.bfs_shift.specs.Laws.{lists_of}
 use Rattle.bfs_look.specs.Ready.{IsReady}
+use Rattle.bfs_core.specs.Caused.{IsCausedBy}
+use Rattle.bfs_core.specs.Chains.{IsLinked}
+use Rattle.bfs_core.proofs.Masks.{data_when}
 use Rattle.bfs_core.specs.Spaces.{SpaceView, Entered, HasSet, IsSoundOver, face}
 use Rattle.bfs_space.specs.Answered.{IsKept}
 use Rattle.bfs_space.specs.Books.{SpaceBooks, IsIdle, entry_noted}
@@ -25,7 +28,8 @@ use Rattle.bfs_space.specs.Called.{IsCalled, IsFaceTold, is_changed, with_entry}
 use Rattle.bfs_space.specs.Faces.{IsFaceOf, HasEntered}
 use Rattle.bfs_space.specs.Files.{KeepsBlocks}
 use Rattle.bfs_space.specs.Holds.{holds_after}
-use Rattle.bfs_space.proofs.Called.{face_is_ready, call_entered, call_set, call_told}
+use Rattle.bfs_space.proofs.Called.{face_is_ready, call_entered, call_set, call_told, is_there, some_is}
+use Rattle.bfs_space.proofs.Linking.{outside_wants, own_wants, same_logged, same_need}
 use Rattle.bfs_space.proofs.Following.{follows, tree_after, tree_unsynced}
 use Rattle.bfs_space.proofs.Turned.{outside_for, outside_turn, outside_unsynced}
 use Rattle.bfs_core.proofs.Notes.{note_entered, note_set}
@@ -71,6 +75,35 @@ module _ (t0 : Mounted) (old : SpaceBooks) (m : ℕ → Option (List ℕ)) (face
       entered : Entered t0 old.view since m entry
       entered = call_entered t0 old.view m face_of.sound some old.room kept.room group entry given sized follow called
 
+      -- and is caused between the two volumes
+      caused_by : logged_need (volume_in (geometry_of old.view.sup) (over old.view.group m)) (after t0 old.view.history) call ≡ logged_need (face old.view m) (after t0 old.view.history) call → need (volume_in (geometry_of old.view.sup) (over old.view.group m)) (after t0 old.view.history) call ≡ need (face old.view m) (after t0 old.view.history) call
+          → IsCausedBy (face old.view m) (face since m) (after t0 old.view.history) (after t0 since.history) call reply
+      caused_by logged taken = record {
+        changed = done.within.changed;
+        few = subst (λ (n : ℕ). length done.within.changed ≤ n) logged done.within.few;
+        are = λ k is other. done.within.are k (λ same. other (ap (λ (o : Option (List ℕ)). unwrap_or o []) same));
+        used =
+            let more = done.within.used in
+            let settled : new.tally.used ≡ kept.room.tally.used = ap (λ (x : Room). x.tally.used) kept.kept in
+            omega (arith, more, settled, used, taken);
+        unchanged = λ refused.
+            let none = done.unchanged refused in
+            record {
+              blocks = λ k is. ap (λ (ps : List (ℕ × List ℕ)). unwrap_or (over ps m k) []) none.0;
+              used = (let settled : new.tally.used ≡ kept.room.tally.used = ap (λ (x : Room). x.tally.used) kept.kept in sym settled ∙ none.1 ∙ used);
+            };
+        why = own_wants old.view.sup old.view.used old.room (over old.view.group m) volume used (after t0 old.view.history) call reply done.own;
+      }
+
+      linked : IsLinked t0 old.view since m entry
+      linked = record {
+        caused = caused_by (sym (same_logged old.view.sup old.view.used (face old.view m).blocks (after t0 old.view.history) call)) (sym (same_need old.view.sup old.view.used (face old.view m).blocks (after t0 old.view.history) call));
+        places = λ k some. ⊎_elim
+            (λ was. inl (is_there (newest old.view.group k) was))
+            (λ now_is. inr (data_when old.view.sup k now_is.0.0 0 now_is.0.1))
+            (called.changed k (some_is (newest group k) some));
+      }
+
       blocks : KeepsBlocks (face old.view m) (face since m) (after t0 old.view.history) (after t0 since.history) call
       blocks = subst (λ (t : Tree). KeepsBlocks (volume_in (geometry_of old.view.sup) (over old.view.group m)) (volume_in (geometry_of old.view.sup) (over group m)) (after t0 old.view.history) t call) tree_is kept.blocks
 
@@ -90,6 +123,7 @@ module _ (t0 : Mounted) (old : SpaceBooks) (m : ℕ → Option (List ℕ)) (face
           within = subst (λ (x : Room). IsWithin logged taken old.room x m old.view.group books.view.group) (sym room) (subst (λ (v : SpaceView). IsWithin logged taken old.room new m old.view.group v.group) (sym view) done.within);
           unchanged = λ no. (ap (λ (v : SpaceView). v.group) view ∙ (done.unchanged no).0, ap (λ (x : Room). x.tally.used) room ∙ (done.unchanged no).1);
         });
+        linked = subst (λ (v : SpaceView). IsLinked t0 old.view v m entry) (sym view) linked;
         blocks = subst (λ (v : SpaceView). KeepsBlocks (face old.view m) (face v m) (after t0 old.view.history) (after t0 v.history) call) (sym view) blocks;
       }
         where
@@ -130,6 +164,19 @@ module _ (t0 : Mounted) (old : SpaceBooks) (m : ℕ → Option (List ℕ)) (face
       away_told : IsFaceTold t0 (noted old.view entry) m
       away_told k meta apart = face_of.told k (away_set.rest k meta refl) apart
 
+      away_linked : IsLinked t0 old.view (noted old.view entry) m entry
+      away_linked = record {
+        caused = record {
+          changed = [];
+          few = omega arith;
+          are = λ k is other. absurd (other refl);
+          used = omega arith;
+          unchanged = λ refused. record { blocks = λ k is. refl; used = refl };
+          why = outside_wants old.view.sup old.view.used old.room (over old.view.group m) volume used (after t0 old.view.history) (holds_after t0 old.view.history) (IsIdle old) call reply (λ idle. idle.given) why;
+        };
+        places = λ k some. inl some;
+      }
+
       turned_away : (books : SpaceBooks) → books.view ≡ noted old.view entry → books.room ≡ old.room → HasEntered t0 old books m session tag now call
       turned_away books view room = record {
         reply = reply;
@@ -142,6 +189,7 @@ module _ (t0 : Mounted) (old : SpaceBooks) (m : ℕ → Option (List ℕ)) (face
           fits = subst (λ (x : Room). Fits x (over books.view.group m)) (sym room) (subst (λ (v : SpaceView). Fits old.room (over v.group m)) (sym view) face_of.fits);
         };
         caused = inr (ap (λ (v : SpaceView). v.group) view, room, why);
+        linked = subst (λ (v : SpaceView). IsLinked t0 old.view v m entry) (sym view) away_linked;
         blocks = subst (λ (v : SpaceView). KeepsBlocks (face old.view m) (face v m) (after t0 old.view.history) (after t0 v.history) call) (sym view) (λ id n x is file later regular. inl refl);
       }
 

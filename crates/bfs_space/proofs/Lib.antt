@@ -18,6 +18,7 @@ pub mod Replaced
 pub mod Counting
 pub mod Plain
 pub mod Following
+pub mod Linking
 pub mod Entering
 pub mod Known
 pub mod Pieced

@@ -29,7 +29,8 @@ use Rattle.bfs_calls.specs.Done.{HasAnswerCause, IsUnanswered}
 use Rattle.bfs_index_make.specs.Written.{HasWriteCause}
 use Rattle.bfs_sound.specs.Need.{need}
 use Rattle.bfs_shift.specs.Shifts.{volume_in}
-use Rattle.bfs_space.specs.Replies.{HasFewRuns, array_run, takes_out, HasReplyCause, IsChange, IsNoReply, IsOutside, IsPutOff, IsReplied, IsThat, IsTooLong, reply_to, reply_to_block}
+use Rattle.bfs_core.specs.Caused.{takes_out}
+use Rattle.bfs_space.specs.Replies.{HasFewRuns, array_run, HasReplyCause, IsChange, IsNoReply, IsOutside, IsPutOff, IsReplied, IsThat, IsTooLong, reply_to, reply_to_block}
 use Rattle.bfs_space.specs.declared.replying.NoReply.{NoReply}
 use Rattle.bfs_space.specs.declared.replying.NoReply.TheVariants.{NoMemory, Drain}
 

@@ -13,6 +13,7 @@ use Rattle.bfs_tree.specs.Steps.{is_done}
 use Rattle.bfs_calls.specs.Refusals.{is_own}
 use Rattle.bfs_sound.specs.Need.{logged_need, need}
 use Rattle.bfs_shift.specs.Shifts.{volume_in}
+use Rattle.bfs_core.specs.Chains.{IsLinked}
 use Rattle.bfs_core.specs.Spaces.{Entered, HasSet, IsSoundOver, SameSeals, face as face_of}
 use Rattle.bfs_space.specs.Answered.{IsWithin}
 use Rattle.bfs_space.specs.Books.{SpaceBooks, IsIdle, entry_noted}
@@ -48,7 +49,8 @@ IsCaused t0 old new m call reply =
     ⊎ ((new.view.group ≡ old.view.group) × (new.room ≡ old.room) × IsOutside (geometry_of old.view.sup) old.room (over old.view.group m) (after t0 old.view.history) (holds_after t0 old.view.history) (IsIdle old) call reply)
 
 -- A call was entered: its entry may follow the history, Face stays sound with the tree after it, and what it set is in the open group; the
--- space still stands over what is told; blocks and reply are as Need and the causes of replies say; and files have kept their blocks.
+-- space still stands over what is told; blocks and reply are as Need and the causes of replies say, and so is Face after it beside Face before it;
+-- and files have kept their blocks.
 pub record HasEntered (t0 : Mounted) (old new : SpaceBooks) (m : ℕ → Option (List ℕ)) (session tag now : ℕ) (call : Call) : Type 0 where
   pub reply : Reply
   pub set : ℕ → Bool
@@ -56,6 +58,7 @@ pub record HasEntered (t0 : Mounted) (old new : SpaceBooks) (m : ℕ → Option 
   pub has_set : HasSet t0 old.view new.view m set
   pub face : IsFaceOf t0 new m
   pub caused : IsCaused t0 old new m call reply
+  pub linked : IsLinked t0 old.view new.view m (entry_noted old session tag now call reply)
   pub blocks : KeepsBlocks (face_of old.view m) (face_of new.view m) (after t0 old.view.history) (after t0 new.view.history) call
 
 -- a hold that was taken promises its session an entry, that of its release

@@ -1,5 +1,5 @@
 -- Why a call is turned away: for want of space or of room in the log, by the disk; or it is put off until the log is empty.
-use Rattle.std.specs.Prelude.{◌≡◌, ◌≤◌, ◌<◌, ◌⊎◌, ◌+◌, ◌-◌, ◌/◌, max, ℕ, ℤ, List, Bool, true, false, Option, Some, None, Result, MatchResult}
+use Rattle.std.specs.Prelude.{◌≡◌, ◌≤◌, ◌<◌, ◌⊎◌, ◌+◌, ◌-◌, ◌/◌, max, ℕ, ℤ, List, true, false, Option, Some, None, Result, MatchResult}
 use Rattle.bfs_super.specs.declared.geometry.Geometry.{Geometry}
 use Rattle.bfs_super.specs.Conditions.{ceil}
 use Rattle.bfs_bitmap.specs.Counted.{NoMoreRuns}
@@ -13,7 +13,6 @@ use Rattle.bfs_stream.specs.declared.fault.GrowFault.TheVariants as grow
 use Rattle.bfs_txn.specs.declared.fault.BlockFault.{BlockFault}
 use Rattle.bfs_txn.specs.declared.fault.BlockFault.TheVariants as block
 use Rattle.bfs_tree.specs.declared.call.Call.{Call}
-use Rattle.bfs_tree.specs.declared.call.Call.TheVariants as calls
 use Rattle.bfs_tree.specs.declared.reply.Reply.{Reply}
 use Rattle.bfs_tree.specs.declared.reply.Reply.TheVariants as replies
 use Rattle.bfs_tree.specs.declared.state.Hold.{Hold}
@@ -22,19 +21,13 @@ use Rattle.bfs_tree.specs.States.{State}
 use Rattle.bfs_tree.specs.Steps.{changes_tree, is_done}
 use Rattle.bfs_tree.specs.Trees.{Tree}
 use Rattle.bfs_calls.specs.Refusals.{is_own}
+use Rattle.bfs_core.specs.Caused.{takes_out}
 use Rattle.bfs_device.specs.declared.journal.Stop.{Stop}
 use Rattle.bfs_sound.specs.Need.{logged_need, need}
 use Rattle.bfs_shift.specs.Shifts.{volume_in}
 use Rattle.bfs_space.specs.Answered.{IsKept, IsWithin}
 use Rattle.bfs_space.specs.declared.replying.NoReply.{NoReply}
 use Rattle.bfs_space.specs.declared.replying.NoReply.TheVariants.{NoMemory, Drain}
-
--- the calls that only take out
-abbrev pub takes_out : Call → Bool
-takes_out (calls.Remove dir name) = true
-takes_out (calls.AttrRemove id name) = true
-takes_out (calls.IndexRemove name) = true
-takes_out _ = false
 
 -- the length of a run of an array, in blocks
 abbrev pub array_run : Room → ℕ

@@ -16,7 +16,8 @@ ghost use Rattle.bfs_sound.specs.Need.{need};
 ghost use Rattle.bfs_shift.specs.Shifts.{volume_in};
 ghost use Rattle.bfs_space.specs.Books.{MayBeSealed};
 ghost use Rattle.bfs_space.specs.declared.replying.NoReply.TheVariants.{NoMemory, Drain};
-ghost use Rattle.bfs_space.specs.Replies.{HasFewRuns, HasReplyCause, IsChange, IsNoReply, IsOutside, IsThat, reply_to_block, takes_out, array_run};
+ghost use Rattle.bfs_core.specs.Caused.{takes_out};
+ghost use Rattle.bfs_space.specs.Replies.{HasFewRuns, HasReplyCause, IsChange, IsNoReply, IsOutside, IsThat, reply_to_block, array_run};
 
 use crate::replying::NoReply;
 use bfs_bitmap::Bitmap;

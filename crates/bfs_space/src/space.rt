@@ -19,7 +19,7 @@ ghost use Rattle.bfs_space.specs.Taken.{ArePlaces, HavePiece};
 ghost use Rattle.bfs_bitmap.specs.Runs.{Fits};
 ghost use Rattle.bfs_stream.specs.Grown.{IsOfVolume};
 ghost use Rattle.bfs_stream.specs.Sizes.{sizes_of};
-ghost use Rattle.bfs_space.specs.Books.{IsIdle, fresh, without, with_note, entry_noted, stop_after, sealed_room, released_room};
+ghost use Rattle.bfs_space.specs.Books.{IsIdle, KnowsStop, fresh, without, with_note, entry_noted, stop_after, sealed_room, released_room};
 
 use crate::Answers;
 use crate::holds::note_holds;
@@ -171,6 +171,13 @@ impl Space {
             nodes: _,
         } = self;
         history
+    }
+
+    /// What is true of the books of every space. Takes no memory.
+    pub fn steady(&self)
+        ensures stop { KnowsStop self.now.view.history self.now.stop }
+    {
+        let _stop = self.stop;
     }
 
     /// Promises a session room for one entry, and for a hold that it may leave, which every other call keeps.

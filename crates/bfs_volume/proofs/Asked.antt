@@ -28,7 +28,8 @@ use Rattle.bfs_core.specs.Moments.{Adoption, IsLessTouched}
 use Rattle.bfs_core.proofs.Calls.{read_ahead, read_stops}
 use Rattle.bfs_core.proofs.Knowing.{known_ahead, known_entered}
 use Rattle.bfs_core.proofs.Onward.{core_ahead, core_entered, same_size}
-use Rattle.bfs_device_blocks.specs.Lent.{HasCore}
+use Rattle.bfs_core.specs.Chains.{IsLinked}
+use Rattle.bfs_device_blocks.specs.Lent.{AreSized, HasCore}
 use Rattle.bfs_device_blocks.proofs.Facing.{core_stands}
 use Rattle.bfs_device_blocks.proofs.Going.{right_rested, steady_rested}
 use Rattle.bfs_device_blocks.proofs.Holding.{hold_entered}
@@ -167,8 +168,8 @@ module _ (sp space : SpaceBooks) (b new : Books) (told told' : Option State) (se
           }
 
   -- Core, where it held once the device was given back
-  pub core_asked : (t0 : Mounted) (adopted : Adoption) (clock : ℕ) (since : ℕ → List ℕ → Type 0) → AreJoined sp b told → HasCore t0 adopted sp.view new told' clock since → HasCore t0 adopted space.view new told' clock since
-  core_asked t0 adopted clock since joined core = by_result result noted unchanged entered
+  pub core_asked : (t0 : Mounted) (adopted : Adoption) (clock : ℕ) (since : ℕ → List ℕ → Type 0) → AreJoined sp b told → AreSized new told' → HasCore t0 adopted sp.view new told' clock since → HasCore t0 adopted space.view new told' clock since
+  core_asked t0 adopted clock since joined sized core = by_result result noted unchanged entered
     where
       by_result : (r : Result Outcome AllocError) → IfOk r (HasOutcome old_counts counts sp space session tag now call) → OnErr r (space ≡ sp)
           → ((t0 : Mounted) (m : ℕ → Option (List ℕ)) → option_map (newest_map b) told ≡ Some m → IsFaceOf t0 sp m → IfOk r (IsOutcome t0 sp space m session tag now call)) → HasCore t0 adopted space.view new told' clock since
@@ -190,7 +191,9 @@ module _ (sp space : SpaceBooks) (b new : Books) (told told' : Option State) (se
           hold_entered t0 adopted sp.view new told' clock since space.view entry
           (λ x is. subst (λ (m : ℕ → Option (List ℕ)). Entered t0 sp.view space.view m entry) (sym map_is ∙ ap (newest_map new) (let q : Some st ≡ Some x = sym now_is ∙ is in let d : st ≡ x = cc in d)) e.entered)
           (entered_known t0 sp.view space.view new (newest_map b st) entry no_sync e.entered fitted.going)
-          (λ x is. subst (λ (y : State). KeepsFiles t0 sp.view space.view (newest_map new y) (contents_of y (layout_of new.sup).sectors)) (let q : Some st ≡ Some x = sym now_is ∙ is in let d : st ≡ x = cc in d) keeps) core
+          (λ x is. subst (λ (y : State). KeepsFiles t0 sp.view space.view (newest_map new y) (contents_of y (layout_of new.sup).sectors)) (let q : Some st ≡ Some x = sym now_is ∙ is in let d : st ≡ x = cc in d) keeps)
+          sized
+          (λ x is. subst (λ (m : ℕ → Option (List ℕ)). IsLinked t0 sp.view space.view m entry) (sym map_is ∙ ap (newest_map new) (let q : Some st ≡ Some x = sym now_is ∙ is in let d : st ≡ x = cc in d)) e.linked) core
 
 -- ---- what a reply says of the call
 

@@ -1,7 +1,7 @@
 -- What the disk reads as, once nothing waits, is whole with the tree after the entries, and has the bytes that are known.
-use Rattle.std.proofs.Common.{◌≡◌, ◌≤◌, ◌<◌, ◌+◌, ◌*◌, ◌/◌, ◌%◌, ⊎_elim, ℕ, List, [], length, drop, Bool, Option, Some, None, IfSome, Result, Ok, Err, IfErr, OnOk, unwrap_or, sym, ◌∙◌, ap, subst, arith, length-drop}
+use Rattle.std.proofs.Common.{◌≡◌, ◌≤◌, ◌<◌, ◌+◌, ◌*◌, ◌/◌, ◌%◌, ⊎_elim, ℕ, List, [], length, drop, Bool, true, false, Option, Some, None, IfSome, Result, Ok, Err, IfErr, OnOk, unwrap_or, refl, sym, ◌∙◌, ap, subst, arith, length-drop}
 use Rattle.std.specs.Prelude.{slice_get}
-use Rattle.std.proofs.lemmas.Bool.{cond-true}
+use Rattle.std.proofs.lemmas.Bool.{cond-false, cond-true}
 use Rattle.std.proofs.lemmas.List.{length-take-le, take_all}
 use Rattle.bfs_base.specs.Images.{block}
 use Rattle.bfs_base.specs.Lists.{times}
@@ -35,19 +35,20 @@ use Rattle.bfs_device.specs.Ahead.{geometry_with}
 use Rattle.bfs_device.proofs.Sizes.{good, fits_sectors}
 use Rattle.bfs_device.proofs.Stepping.{filled_state, on_state}
 use Rattle.bfs_core.specs.Spaces.{SpaceView, IsFaceMetadata, face, face_over}
-use Rattle.bfs_core.specs.Cores.{Core, newest_map}
+use Rattle.bfs_core.specs.Cores.{Core, masked, newest_map}
+use Rattle.bfs_core.specs.Chains.{Image, IsChain, bare, image_in}
 use Rattle.bfs_core.specs.KnownBytes.{HasByte, HasBytesOf, HasKnown}
 use Rattle.bfs_core.specs.Moments.{Adoption}
 use Rattle.bfs_core.proofs.Files.{stream_stays}
 use Rattle.bfs_core.proofs.Images.{numbers_of, recovers_now}
 use Rattle.bfs_core.proofs.Knowing.{file_data_of}
-use Rattle.bfs_core.proofs.Masks.{metadata_data, of_data}
+use Rattle.bfs_core.proofs.Masks.{data_of, masked_at, metadata_data, of_data}
 use Rattle.bfs_core.proofs.Onward.{same_layout}
 use Rattle.bfs_core.proofs.Openings.{whole_of}
 use Rattle.bfs_core.proofs.Pieces.{piece_is_data}
 use Rattle.bfs_device_blocks.specs.Lent.{HasCore}
 use Rattle.bfs_volume.specs.Causes.{HasStopCause}
-use Rattle.bfs_volume.specs.Closing.{IsLeft}
+use Rattle.bfs_volume.specs.Closing.{IsChained, IsLeft}
 use Rattle.bfs_volume.specs.Faults.{HasStepCause}
 use Rattle.bfs_volume.specs.Volumes.{AreFitted}
 
@@ -121,6 +122,25 @@ module _ (t0 : Mounted) (sp : SpaceView) (b : Books) (t : ℕ → Bool) (st : St
       } in
       subst (λ (g : Geometry). let v : Volume = record { geometry = g; blocks = blocks_of image } in HasByte v (after t0 sp.history) (blocks_of image) id place byte) (sym geometry) there
 
+  -- Face is what the disk reads, but for block 0 and the log
+  layouts : layout_of (super_of image) ≡ layout_of b.sup
+  layouts = ap layout_of super_is
+
+  bare_at : (k : ℕ) → face_over sp.group (newest_map b st) k ≡ masked (layout_of (super_of image)) (blocks_of image) k
+  bare_at k = by_test (is_data (layout_of b.sup) k) refl
+    where
+      by_test : (d : Bool) → is_data (layout_of b.sup) k ≡ d → face_over sp.group (newest_map b st) k ≡ masked (layout_of (super_of image)) (blocks_of image) k
+      by_test true is =
+          let d : IsData (layout_of b.sup) k = data_of (layout_of b.sup) k is in
+          face_is k d ∙ sym (masked_at (layout_of (super_of image)) (blocks_of image) k (subst (λ (l : Layout). IsData l k) (sym layouts) d))
+      by_test false is =
+          ap (λ (ps : List (ℕ × List ℕ)). face_over ps (newest_map b st) k) group
+          ∙ ap (λ (o : Option (List ℕ)). unwrap_or o []) (cond-false (is_data (layout_of b.sup) k) (Some (version b st (sealed_of b) k)) None is)
+          ∙ sym (cond-false (is_data (layout_of (super_of image)) k) (blocks_of image k) [] (ap (λ (l : Layout). is_data l k) layouts ∙ is))
+
+  pub bare_left : face sp (newest_map b st) ≡ bare (image_in image)
+  bare_left = λ i. record { geometry = sym geometry i; blocks = λ k. bare_at k i }
+
   pub image_left : IsLeft t0 sp.history image
   image_left = record { whole = image_whole; bytes = image_bytes }
 
@@ -142,6 +162,35 @@ all_left t0 adopted sp history b told size clock since same filled sized on fitt
     let read : ReadsAs has.0.0 image = subst (λ (x : State). ReadsAs x image) (same_state reads.0 has.0.0 (sym reads.1 ∙ has.0.1)) reads.2 in
     subst (λ (h : List Entry). IsLeft t0 h image) same
     (image_left t0 sp b has.0.2.0 has.0.0 image has.0.2.1 has.0.2.2 read (filled_state told has.0.0 filled has.0.1) (on_state b.sup size told has.0.0 sized on has.0.1) going empty (none_waits t0 sp b has.0.2.0 has.0.0 has.0.2.1 fitted all) all)
+
+-- one image behind each entry, of which the last is what the disk reads where nothing waits
+pub all_chained : (t0 : Mounted) (adopted : Adoption) (first : Image) (sp : SpaceView) (history : List Entry) (b : Books) (told : Option State) (size : Option ℕ) (clock : ℕ) (since : ℕ → List ℕ → Type 0) (Well : Type 0) → sp.history ≡ history → IfSome told Filled → IfSome told (λ x. size ≡ Some x.size) → IsOnDisk size b.sup
+    → AreFitted sp b → (Well → (b.stop ≡ None) × (b.groups ≡ []) × (length history ≤ durable_of b)) → HasCore t0 adopted sp b told clock since → adopted.first ≡ Some first → IsChained t0 first history told Well
+all_chained t0 adopted first sp history b told size clock since Well same filled sized on fitted well has begins =
+    let c = has.2.chain first begins has.0.0 has.0.1 in
+    record {
+      images = c.images;
+      chain = subst (λ (h : List Entry). IsChain t0 first h c.images) same c.chain;
+      last = λ so image reads.
+          let w = well so in
+          let low : length sp.history ≤ durable_of b = let e = ap length same in let l = w.2 in omega (arith, e, l) in
+          let read : ReadsAs has.0.0 image = subst (λ (x : State). ReadsAs x image) (same_state reads.0 has.0.0 (sym reads.1 ∙ has.0.1)) reads.2 in
+          let going : b.stop ≡ None = w.0 in
+          ap (λ (h : List Entry). bare (c.images (length h))) (sym same)
+          ∙ c.now
+          ∙ bare_left t0 sp b has.0.2.0 has.0.0 image has.0.2.1 has.0.2.2 read (filled_state told has.0.0 filled has.0.1) (on_state b.sup size told has.0.0 sized on has.0.1) going w.1 (none_waits t0 sp b has.0.2.0 has.0.0 has.0.2.1 fitted low) low;
+    }
+
+-- and of a volume that is given up, one behind each entry
+pub some_chained : (t0 : Mounted) (adopted : Adoption) (first : Image) (sp : SpaceView) (history : List Entry) (b : Books) (told after_it : Option State) (clock : ℕ) (since : ℕ → List ℕ → Type 0) → sp.history ≡ history → HasCore t0 adopted sp b told clock since → adopted.first ≡ Some first → IsChained t0 first history after_it ⊥
+some_chained t0 adopted first sp history b told after_it clock since same has begins =
+    let c = has.2.chain first begins has.0.0 has.0.1 in
+    record { images = c.images; chain = subst (λ (h : List Entry). IsChain t0 first h c.images) same c.chain; last = λ bad. absurd bad }
+
+-- what holds on an Ok
+pub on_that : {A E : Type 0} (r : Result A E) (P : Type 0) (x : A) → OnOk r P → r ≡ Ok x → P
+on_that (Ok y) P x on is = on
+on_that (Err e) P x on is = absurd (cc)
 
 -- where two things are so on an Ok, what follows of them is too
 pub on_both : {A E : Type 0} (r : Result A E) (P Q R : Type 0) → (P → Q → R) → OnOk r P → OnOk r Q → OnOk r R

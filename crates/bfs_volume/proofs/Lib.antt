@@ -2,6 +2,7 @@ pub mod Told
 pub mod Stays
 pub mod Bytes
 pub mod Bare
+pub mod Hindered
 pub mod Taken
 pub mod Pieced
 pub mod Released
@@ -21,6 +22,7 @@ pub mod Ends
 pub mod Happens
 pub mod Mounting
 pub mod Drawn
+pub mod Failed
 pub use Rattle.bfs_check.proofs.Reading
 pub use Rattle.bfs_space.proofs.Groups
 pub use Rattle.bfs_space.proofs.Stamps

@@ -16,8 +16,8 @@ use Rattle.bfs_replay.specs.Recover.{GoesOn, IsRecovered, IsShort}
 use Rattle.bfs_replay.specs.Steps.{sectors_of}
 use Rattle.bfs_replay.proofs.Homes.{image_of_reads}
 use Rattle.bfs_replay.proofs.Sizes.{has_two}
-use Rattle.bfs_core.specs.Cores.{RecoversFrom}
-use Rattle.bfs_core.specs.Moments.{KeptSince}
+use Rattle.bfs_core.specs.Cores.{RecoversFrom, newest_map}
+use Rattle.bfs_core.specs.Moments.{KeptSince, adopted_from}
 use Rattle.bfs_check.specs.Checked.{IsCheckFault, IsFound, IsVerdict, IsWholeWith, HasCauseIn}
 use Rattle.bfs_check.specs.declared.checking.Verdict.{Verdict}
 use Rattle.bfs_check.specs.declared.checking.Verdict.TheVariants as verdicts
@@ -26,6 +26,12 @@ use Rattle.bfs_check.specs.declared.checking.CheckFault.TheVariants as checking
 use Rattle.bfs_finding.specs.declared.finding.Finding.{Finding}
 use Rattle.bfs_check.specs.Summary.{Summary}
 use Rattle.bfs_device.proofs.Stepping.{filled_state, on_state}
+use Rattle.bfs_core.specs.Chains.{Image, HasChain, image_in}
+use Rattle.bfs_core.proofs.Chains.{chain_opened}
+use Rattle.bfs_core.proofs.Openings.{core_opened}
+use Rattle.bfs_core.proofs.Settling.{settled_opened}
+use Rattle.bfs_device.specs.Phases.{none}
+use Rattle.bfs_device_blocks.specs.Lent.{HasImages}
 use Rattle.bfs_core.specs.KnownBytes.{HasBytesOf, HasKnown}
 use Rattle.bfs_core.specs.Spaces.{opened}
 use Rattle.bfs_core.proofs.Knowing.{known_opened}
@@ -135,6 +141,24 @@ pub known_held : (t0 : Mounted) (image : List ℕ) (told : Option State) (size :
     → HasKnown t0 (opened (super_of image)) (adopted (super_of image)) st
 known_held t0 image told size st whole bytes held filled sized on is =
     known_opened t0 image st whole (subst (Holds image) (same_state held.0 st (sym held.1 ∙ is)) held.2) (filled_state told st filled is) (on_state (super_of image) size told st sized on is) bytes
+
+-- and the image that begins its chain
+pub images_held : (t0 : Mounted) (begun clock : ℕ) (image : List ℕ) (told : Option State) (size : Option ℕ) → IsWhole image t0.tree → Tells told (Holds image) → IfSome told Filled → IfSome told (λ x. size ≡ Some x.size) → IsOnDisk size (super_of image) → HasBytesOf image t0
+    → HasImages t0 (adopted_from begun clock (Some (image_in image))) (opened (super_of image)) (adopted (super_of image)) told
+images_held t0 begun clock image told size whole held filled sized on bytes = record {
+  chain = λ first begins st is.
+      let same : image_in image ≡ first = same_image (image_in image) first begins in
+      subst (λ (i : Image). HasChain t0 i (opened (super_of image)) (newest_map (adopted (super_of image)) st)) same
+      (chain_opened t0 image st whole (subst (Holds image) (same_state held.0 st (sym held.1 ∙ is)) held.2) (filled_state told st filled is) (on_state (super_of image) size told st sized on is));
+  settled = λ first begins st is.
+      let here : Holds image st = subst (Holds image) (same_state held.0 st (sym held.1 ∙ is)) held.2 in
+      let all = filled_state told st filled is in
+      let long = on_state (super_of image) size told st sized on is in
+      settled_opened t0 image st none whole here all long (core_opened t0 image st whole here all long) (known_held t0 image told size st whole bytes held filled sized on is);
+}
+  where
+    same_image : (a b : Image) → Some a ≡ Some b → a ≡ b
+    same_image a b e = cc
 
 -- ---- what a crash meanwhile might have left
 

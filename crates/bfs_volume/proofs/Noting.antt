@@ -1,5 +1,5 @@
 -- Entries of a volume: what may follow, and what the device knows of them.
-use Rattle.std.proofs.Common.{◌≡◌, ◌≢◌, ◌≤◌, ◌+◌, ◌++◌, ℕ, ℤ, List, [], ◌∷◌, length, Bool, true, false, cond, ◌==◌, Option, None, refl, sym, ◌∙◌, ap, subst, arith}
+use Rattle.std.proofs.Common.{◌≡◌, inl, ◌≢◌, ◌≤◌, ◌+◌, ◌++◌, ℕ, ℤ, List, [], ◌∷◌, length, Bool, true, false, cond, ◌==◌, Option, None, refl, sym, ◌∙◌, ap, subst, arith}
 use Rattle.std.specs.Prelude.{IsTrue}
 use Rattle.bfs_count.specs.Counts.{nodes_of}
 use Rattle.std.specs.List.{list_any}
@@ -18,7 +18,11 @@ use Rattle.bfs_disk.specs.State as disks
 use Rattle.bfs_disk.specs.Blocks.{contents_of}
 use Rattle.bfs_device.specs.Layouts.{layout_of}
 use Rattle.bfs_device.specs.Books.{Books}
-use Rattle.bfs_core.specs.Spaces.{Entered, IsSoundOver, noted}
+use Rattle.bfs_core.specs.Spaces.{SpaceView, Entered, IsSoundOver, face, noted}
+use Rattle.bfs_core.specs.Caused.{IsWanting}
+use Rattle.bfs_core.specs.Chains.{IsLinked}
+use Rattle.bfs_sound.specs.Volumes.{Volume}
+use Rattle.bfs_tree.specs.Trees.{Tree}
 use Rattle.bfs_core.specs.Cores.{IsKnown, newest_map}
 use Rattle.bfs_core.specs.KnownBytes.{KeepsFiles}
 use Rattle.bfs_core.proofs.Knowing.{known_entered}
@@ -134,3 +138,25 @@ joined_noted law sp space b told session tag now durable call reply other goes t
         counted = s.counted ∙ sym (ap nodes_of ((told_follows s.t0 sp b session tag now call other s.core.space.legal joined.fitted.going reply tells).1));
       };
 })
+
+-- ---- an entry that changes no block is caused
+
+pub noted_linked : (t0 : Mounted) (sp : SpaceView) (m : ℕ → Option (List ℕ)) (e : Entry) → ((v : Volume) (tree : Tree) → IsWanting v tree e.call e.reply) → IsLinked t0 sp (noted sp e) m e
+noted_linked t0 sp m e wants = record {
+  caused = record {
+    changed = [];
+    few = omega arith;
+    are = λ k is other. absurd (other refl);
+    used = omega arith;
+    unchanged = λ refused. record { blocks = λ k is. refl; used = refl };
+    why = wants (face sp m) (after t0 sp.history);
+  };
+  places = λ k some. inl some;
+}
+
+-- and so is one whose reply the device tells
+pub told_wants : (b : Books) (history : List Entry) (call : Call) (reply : Reply) → IsToldBy b history call reply → (v : Volume) (tree : Tree) → IsWanting v tree call reply
+told_wants b history call (replies.Synced upto) told v tree = tt
+told_wants b history call (replies.DiskFault before later stops) told v tree = tt
+told_wants b history call (replies.Stopped durable faults) told v tree = tt
+told_wants b history call _ told v tree = absurd told

@@ -22,7 +22,8 @@ use Rattle.bfs_core.specs.Moments.{Adoption}
 use Rattle.bfs_core.proofs.Knowing.{known_entered}
 use Rattle.bfs_core.proofs.Notes.{note_entered}
 use Rattle.bfs_core.proofs.Onward.{core_entered}
-use Rattle.bfs_device_blocks.specs.Lent.{HasCore}
+use Rattle.bfs_device_blocks.specs.Lent.{AreSized, HasCore}
+use Rattle.bfs_volume.proofs.Noting.{noted_linked}
 use Rattle.bfs_device_blocks.proofs.Holding.{hold_entered}
 use Rattle.bfs_space.specs.Books.{SpaceBooks, entry_noted, with_note}
 use Rattle.bfs_volume.specs.Held.{EndsInHold, IsOnDisk}
@@ -95,8 +96,11 @@ module _ (sp : SpaceBooks) (b : Books) (told : Option disks.State) (session tag 
         let low = slice_get_within bytes new.1.k byte new.1.is in
         let e = get_or_from_slice_get bytes new.1.k byte 0 new.1.is in
         let has = byte_there sp.view b told id at bytes (on new.0) some st is (after t0 (history ++ entry ∷ [])) (file_since new.0) new.1.k low in
-        inr (subst (λ (q : ℕ × ℕ). HasByte (face sp.view (newest_map b st)) (after t0 (history ++ entry ∷ [])) contents q.0 q.1 byte) (sym new.1.place)
-        (subst (λ (x : ℕ). HasByte (face sp.view (newest_map b st)) (after t0 (history ++ entry ∷ [])) contents id (at + new.1.k) x) e has)))
+        inr (
+          subst (λ (q : ℕ × ℕ). HasByte (face sp.view (newest_map b st)) (after t0 (history ++ entry ∷ [])) contents q.0 q.1 byte) (sym new.1.place)
+              (subst (λ (x : ℕ). HasByte (face sp.view (newest_map b st)) (after t0 (history ++ entry ∷ [])) contents id (at + new.1.k) x) e has),
+          refl,
+        ))
         (release_known t0 history session tag id at count w ends sound.legal stamp bytes whole from upto (other_id, place) byte now_is)
 
   -- the two stay joined
@@ -124,9 +128,9 @@ module _ (sp : SpaceBooks) (b : Books) (told : Option disks.State) (session tag 
   })
 
   -- and Core is held
-  pub core_released : (space : SpaceBooks) (durable : ℕ) → space ≡ with_note sp session entry durable → (t0 : Mounted) (adopted : Adoption) (clock : ℕ) (since : ℕ → List ℕ → Type 0) → HasCore t0 adopted sp.view b told clock since → HasCore t0 adopted space.view b told clock since
-  core_released space durable same t0 adopted clock since core = subst (λ (x : SpaceBooks). HasCore t0 adopted x.view b told clock since) (sym same)
+  pub core_released : (space : SpaceBooks) (durable : ℕ) → space ≡ with_note sp session entry durable → (t0 : Mounted) (adopted : Adoption) (clock : ℕ) (since : ℕ → List ℕ → Type 0) → AreSized b told → HasCore t0 adopted sp.view b told clock since → HasCore t0 adopted space.view b told clock since
+  core_released space durable same t0 adopted clock since sized core = subst (λ (x : SpaceBooks). HasCore t0 adopted x.view b told clock since) (sym same)
       (hold_entered t0 adopted sp.view b told clock since (noted sp.view entry) entry
       (λ st is. (let at_it = held_at t0 adopted sp.view b told clock since core st is in entered t0 st is at_it.1.space at_it.2))
       is_known
-      (λ st is. (let at_it = held_at t0 adopted sp.view b told clock since core st is in keeps t0 st is at_it.1.space at_it.2)) core)
+      (λ st is. (let at_it = held_at t0 adopted sp.view b told clock since core st is in keeps t0 st is at_it.1.space at_it.2)) sized (λ st is. noted_linked t0 sp.view (newest_map b st) entry (λ v tree. tt)) core)

@@ -1,10 +1,11 @@
 -- A space and a device stay joined where the bytes of a piece were written beside the groups.
-use Rattle.std.proofs.Common.{◌≡◌, ◌≤◌, ◌<◌, ◌+◌, ◌-◌, ◌*◌, ◌/◌, ◌%◌, ◌∙◌, ℕ, zero, suc, List, [], ◌∷◌, length, Bool, true, false, cond, Option, Some, None, Result, Ok, Err, OnOk, get_or, refl, sym, ap, subst, arith}
+use Rattle.std.proofs.Common.{◌≡◌, inr, ◌≤◌, ◌<◌, ◌+◌, ◌-◌, ◌*◌, ◌/◌, ◌%◌, ◌∙◌, ℕ, zero, suc, List, [], ◌∷◌, length, Bool, true, false, cond, Option, Some, None, Result, Ok, Err, OnOk, get_or, refl, sym, ap, subst, arith}
 use Rattle.std.specs.Prelude.{nat_lt, not, ◌==◌, ◌&&◌, slice_get, slice_index, unwrap_or}
 use Rattle.std.specs.List.{flat_map}
 use Rattle.std.specs.FinMap.{entries}
 use Rattle.std.proofs.Math.Nat.{div-add-mod}
 use Rattle.std.proofs.lemmas.Bool.{eqb-true}
+use Rattle.std.proofs.lemmas.List.{length-append}
 use Rattle.std.proofs.lemmas.Option.{get_or_from_slice_get, slice_get_within}
 use Rattle.bfs_base.specs.Lists.{times}
 use Rattle.bfs_disk.specs.State.{State, Tells}
@@ -40,11 +41,11 @@ use Rattle.bfs_core.specs.KnownBytes.{HasKnown}
 use Rattle.bfs_core.specs.Moments.{Adoption, Kept, KeptSince, adopted_at}
 use Rattle.bfs_core.proofs.Images.{recovers_from}
 use Rattle.bfs_core.proofs.Times.{recovers_less}
-use Rattle.bfs_device_blocks.specs.Lent.{HasCore}
+use Rattle.bfs_device_blocks.specs.Lent.{HasCore, IsBehindEntry}
 use Rattle.bfs_device_blocks.proofs.Holding.{hold}
 use Rattle.bfs_space.specs.Books.{SpaceBooks}
 use Rattle.bfs_pieces.specs.Pieces.{IsHeldPiece, IsPieceOf, IsUnknown}
-use Rattle.bfs_volume.specs.Held.{EndsInHold, HasPlaces, IsOnDisk}
+use Rattle.bfs_volume.specs.Held.{EndsInHold, HasPlaces, IsOnDisk, taken_entry}
 use Rattle.bfs_volume.specs.Volumes.{AreFitted, AreJoined, Stands}
 use Rattle.bfs_volume.proofs.Asked.{same_told}
 use Rattle.bfs_volume.proofs.Pieced.{held_piece}
@@ -78,6 +79,7 @@ module _ (sp : SpaceBooks) (b : Books) (told : Option State) (st : State) (clock
       } in
       hold s.t0 (adopted_at clock clock) sp.view b told clock since ((st, is, (s.touched, s.core)), kept)
       (λ x at. (let e : Some st ≡ Some x = sym is ∙ at in let same : st ≡ x = cc in subst (HasKnown s.t0 sp.view b) same s.known))
+      (record { chain = λ first bad. absurd (cc); settled = λ first bad. absurd (cc) })
 
 -- ---- the bitmap
 
@@ -157,14 +159,17 @@ module _ {E : Type 0} (sp : SpaceBooks) (b new : Books) (told told' : Option Sta
     (rest : new ≡ record b { moment = new.moment; stop = new.stop })
     (only : (c : List ℕ) → since clock c → MayLeave told c) (recovers : (t : ℕ → Bool) (right : Tells told (IsRight b t)) (image : List ℕ) → MayLeave told image → RecoversOne b t right.0 image)
     (others : (next : State) → told' ≡ Some next → (st : State) × (told ≡ Some st) × ((k : ℕ) → times k places ≡ 0 → contents_of next (layout_of b.sup).sectors k ≡ contents_of st (layout_of b.sup).sectors k))
-    (written : (t0 : Mounted) (adopted : Adoption) → HasCore t0 adopted sp.view b told clock since → ((st : State) → told ≡ Some st → IsHeldPiece t0 sp.view (newest_map b st) id at (length bytes) skip places) → IsUnknown (state_after t0 sp.view.history).known id at (length bytes)
+    (written : (t0 : Mounted) (adopted : Adoption) → HasCore t0 adopted sp.view b told clock since → IsBehindEntry adopted sp.view → ((st : State) → told ≡ Some st → IsHeldPiece t0 sp.view (newest_map b st) id at (length bytes) skip places) → IsUnknown (state_after t0 sp.view.history).known id at (length bytes)
     → HasCore t0 adopted sp.view new told' clock' since' × ((next : State) → told' ≡ Some next → IsHeldPiece t0 sp.view (newest_map new next) id at (length bytes) skip places × OnOk result (IsPieceOf (contents_of next (layout_of b.sup).sectors) b.sup.block_size places skip bytes))) where
+  some_entry : 0 < length sp.view.history
+  some_entry = let more = ap length ends.is in let long = length-append ends.before (taken_entry session tag ends.stamp id at (length bytes) true ∷ []) in omega (arith, more, long)
+
   held_here : (t0 : Mounted) (adopted : Adoption) → HasCore t0 adopted sp.view b told clock since → (st : State) → told ≡ Some st → IsHeldPiece t0 sp.view (newest_map b st) id at (length bytes) skip places
   held_here t0 adopted core st is = subst (λ (n : ℕ). IsHeldPiece t0 sp.view (newest_map b st) id at (length bytes) n places) (sym skip_is)
       (held_piece t0 sp.view b told id at (length bytes) places (taken_file t0 sp.view.history session tag id at (length bytes) true ends core.0.2.1.space.legal) has some more st is)
 
   pub core_written : (t0 : Mounted) (adopted : Adoption) → HasCore t0 adopted sp.view b told clock since → HasCore t0 adopted sp.view new told' clock' since'
-  core_written t0 adopted core = (written t0 adopted core (held_here t0 adopted core) (taken_unknown t0 sp.view.history session tag id at (length bytes) true ends core.0.2.1.space.legal refl)).0
+  core_written t0 adopted core = (written t0 adopted core (inr some_entry) (held_here t0 adopted core) (taken_unknown t0 sp.view.history session tag id at (length bytes) true ends core.0.2.1.space.legal refl)).0
 
   pub fitted_written : AreFitted sp.view new
   fitted_written =
@@ -201,7 +206,7 @@ module _ {E : Type 0} (sp : SpaceBooks) (b new : Books) (told told' : Option Sta
       let o = others next is in
       let s = joined.stands o.0 o.1 in
       let core = core_here next is in
-      (written s.t0 (adopted_at clock clock) core (held_here s.t0 (adopted_at clock clock) core) (taken_unknown s.t0 sp.view.history session tag id at (length bytes) true ends core.0.2.1.space.legal refl)).1 next is
+      (written s.t0 (adopted_at clock clock) core (inr some_entry) (held_here s.t0 (adopted_at clock clock) core) (taken_unknown s.t0 sp.view.history session tag id at (length bytes) true ends core.0.2.1.space.legal refl)).1 next is
 
   pub piece_written : OnOk result (IsOnDisk sp.view new told' id at bytes)
   piece_written = by_result result (λ next is. (there next is).1)

@@ -8,6 +8,7 @@ pub mod Pieces
 pub mod Held
 pub mod Stamps
 pub mod Closing
+pub mod Failing
 pub use Rattle.bfs_check.specs.declared.checking.CheckFault.TheVariants as CheckFaultVariants
 pub use Rattle.bfs_check.specs.declared.checking.CheckFault
 pub use Rattle.bfs_check.specs.declared.checking.Verdict

@@ -8,8 +8,10 @@ use Rattle.bfs_tree.specs.Histories.{Mounted}
 use Rattle.bfs_tree.specs.Trees.{Tree}
 use Rattle.bfs_count.specs.Counts.{nodes_of}
 use Rattle.bfs_sound.specs.Whole.{IsWhole, Recovers}
+use Rattle.bfs_core.specs.Chains.{Image, image_in}
 use Rattle.bfs_core.specs.KnownBytes.{HasBytesOf}
 use Rattle.bfs_replay.specs.Recover.{HasCauseIn, IsMountFault}
+use Rattle.bfs_replay.specs.declared.recovery.MountFault.TheVariants as faults
 use Rattle.bfs_check.specs.Checked.{IsFound}
 use Rattle.bfs_check.specs.declared.checking.CheckFault.{CheckFault}
 use Rattle.bfs_check.specs.declared.checking.CheckFault.TheVariants as checking
@@ -38,6 +40,10 @@ pub record IsMountedFrom (image : List ℕ) (t0 : Mounted) : Type 0 where
   pub whole : IsWhole next t0.tree
   pub bytes : HasBytesOf next t0
 
+-- the image that is mounted then: what replay gives
+abbrev pub mounted_image : {image : List ℕ} {t0 : Mounted} → IsMountedFrom image t0 → Image
+mounted_image mounted = image_in mounted.next
+
 -- an image that recovers to a tree is mounted with it, where no byte of a file is known
 abbrev pub MountsBare : Type 0
 MountsBare = (image : List ℕ) (tree : Tree) → Recovers image tree → IsMountedFrom image (record { tree = tree; bytes = empty })
@@ -46,6 +52,16 @@ MountsBare = (image : List ℕ) (tree : Tree) → Recovers image tree → IsMoun
 abbrev pub IsUnmounted : List ℕ → Unmounted → Type 0
 IsUnmounted image (Unread fault) = IsMountFault image fault
 IsUnmounted image (Wrong finding) = (result : List ℕ) × Replayed image result × IsFound result finding
+
+-- the disk failed, or memory was wanting
+abbrev pub IsHindered : Unmounted → Type 0
+IsHindered (Unread (faults.Disk before after)) = Unit {0}
+IsHindered (Unread faults.NoMemory) = Unit {0}
+IsHindered _ = ⊥
+
+-- an image that recovers to a tree is mounted, unless the disk fails or memory is wanting
+abbrev pub RecoversMounted : Type 0
+RecoversMounted = (image : List ℕ) (tree : Tree) (why : Unmounted) → Recovers image tree → IsUnmounted image why → IsHindered why
 
 -- a failed disk has its cause in a count that rose
 abbrev pub HasUnmountedCause : ℕ → ℕ → Unmounted → Type 0

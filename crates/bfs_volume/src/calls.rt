@@ -15,6 +15,7 @@ ghost use Rattle.bfs_space.specs.Holds.{keeps_holds};
 ghost use Rattle.bfs_volume.specs.Volumes.{AreJoined};
 ghost use Rattle.bfs_volume.specs.Causes.{HasSyncCause};
 ghost use Rattle.bfs_volume.specs.Entries.{HasEntry, HasEntryOf, HasFailedSync, HasReplyIn, IsAnsweredIn, IsEnded, IsStoppedEntry, IsStoppedSync, sync_fault_of};
+ghost use Rattle.bfs_volume.specs.Failing.{HasFailures};
 ghost use Rattle.bfs_volume.specs.Stamps.{HasDrawn};
 
 use crate::events::{SyncFault, ask};
@@ -102,6 +103,7 @@ pub fn answer<A: Answers, D: Disk>(
     // And it stays stopped, whatever is answered.
     ensures stays_stopped { (s : stops.Stop) → device.old.books.stop ≡ Some s → device.new.books.stop ≡ Some s }
     ensures stamps { HasDrawn space.old.view.history space.new.view.history now }
+    ensures failures { HasFailures space.old.view.history space.new.view.history device.old.books.stop device.new.books.stop (D.faults device.old.disk) (D.faults device.new.disk) (D.stops device.old.disk) (D.stops device.new.disk) }
     ensures core { (t0 : Mounted) (adopted : Adoption) → HasCore t0 adopted space.old.view device.old.books (D.state device.old.disk) (D.clock device.old.disk) (D.since device.old.disk)
         → HasCore t0 adopted space.new.view device.new.books (D.state device.new.disk) (D.clock device.new.disk) (D.since device.new.disk) }
 {
@@ -179,6 +181,7 @@ pub fn sync<D: Disk>(
     // And it stays stopped, whatever is answered.
     ensures stays_stopped { (s : stops.Stop) → device.old.books.stop ≡ Some s → device.new.books.stop ≡ Some s }
     ensures stamps { HasDrawn space.old.view.history space.new.view.history now }
+    ensures failures { HasFailures space.old.view.history space.new.view.history device.old.books.stop device.new.books.stop (D.faults device.old.disk) (D.faults device.new.disk) (D.stops device.old.disk) (D.stops device.new.disk) }
     ensures core { (t0 : Mounted) (adopted : Adoption) → HasCore t0 adopted space.old.view device.old.books (D.state device.old.disk) (D.clock device.old.disk) (D.since device.old.disk)
         → HasCore t0 adopted space.new.view device.new.books (D.state device.new.disk) (D.clock device.new.disk) (D.since device.new.disk) }
 {

@@ -13,6 +13,7 @@ ghost use Rattle.bfs_space.specs.Holds.{keeps_holds};
 ghost use Rattle.bfs_volume.specs.Volumes.{AreJoined};
 ghost use Rattle.bfs_volume.specs.Entries.{IsEnded};
 ghost use Rattle.bfs_volume.specs.Events.{HasTried, HasOutcomeIn, IsOutcomeIn, IsSealing, IsStoppedTry, happened_by};
+ghost use Rattle.bfs_volume.specs.Failing.{HasFailures};
 ghost use Rattle.bfs_volume.specs.Stamps.{HasDrawn};
 
 use crate::calls::{make_room, prepare};
@@ -82,6 +83,7 @@ pub fn attempt<A: Answers, D: Disk>(
     // And it stays stopped, whatever is answered.
     ensures stays_stopped { (s : stops.Stop) → device.old.books.stop ≡ Some s → device.new.books.stop ≡ Some s }
     ensures stamps { HasDrawn space.old.view.history space.new.view.history now }
+    ensures failures { HasFailures space.old.view.history space.new.view.history device.old.books.stop device.new.books.stop (D.faults device.old.disk) (D.faults device.new.disk) (D.stops device.old.disk) (D.stops device.new.disk) }
     ensures core { (t0 : Mounted) (adopted : Adoption) → HasCore t0 adopted space.old.view device.old.books (D.state device.old.disk) (D.clock device.old.disk) (D.since device.old.disk)
         → HasCore t0 adopted space.new.view device.new.books (D.state device.new.disk) (D.clock device.new.disk) (D.since device.new.disk) }
 {

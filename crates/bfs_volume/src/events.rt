@@ -15,6 +15,7 @@ ghost use Rattle.bfs_space.specs.Faces.{IsFaceOf, IsOutcome, HasOutcome};
 ghost use Rattle.bfs_space.specs.Holds.{keeps_holds};
 ghost use Rattle.bfs_volume.specs.Volumes.{AreJoined};
 ghost use Rattle.bfs_volume.specs.Entries.{counts_of};
+ghost use Rattle.bfs_volume.specs.Failing.{HasFailures, KeepsCounts};
 ghost use Rattle.bfs_volume.specs.Stamps.{HasDrawn};
 
 use bfs_device::{Device, DeviceFault, Progress};
@@ -58,6 +59,7 @@ pub fn step<D: Disk>(space: &mut Space, device: &mut Device<D>) -> Result<Progre
     ensures spare { device.new.books.spare ≡ device.old.books.spare }
     ensures sealed { sealed_of device.new.books ≡ sealed_of device.old.books }
     ensures durable { durable_of device.old.books ≤ durable_of device.new.books }
+    ensures counts { KeepsCounts device.old.books.stop device.new.books.stop (D.faults device.old.disk) (D.faults device.new.disk) (D.stops device.old.disk) (D.stops device.new.disk) }
     ensures core { (t0 : Mounted) (adopted : Adoption) → HasCore t0 adopted space.old.view device.old.books (D.state device.old.disk) (D.clock device.old.disk) (D.since device.old.disk)
         → HasCore t0 adopted space.new.view device.new.books (D.state device.new.disk) (D.clock device.new.disk) (D.since device.new.disk) }
 {
@@ -122,12 +124,15 @@ pub fn ask<A: Answers, D: Disk>(
     // What the disk tells, the call is entered on, or put off.
     ensures entered { (t0 : Mounted) (st : State) → D.state device.old.disk ≡ Some st → IsFaceOf t0 space.old (newest_map device.old.books st) → IfOk result (IsOutcome t0 space.old space.new (newest_map device.old.books st) session tag now call) }
     ensures stamps { HasDrawn space.old.view.history space.new.view.history now }
+    ensures failures { device.old.books.stop ≡ None → HasFailures space.old.view.history space.new.view.history device.old.books.stop device.new.books.stop (D.faults device.old.disk) (D.faults device.new.disk) (D.stops device.old.disk) (D.stops device.new.disk) }
     ensures core { (t0 : Mounted) (adopted : Adoption) → HasCore t0 adopted space.old.view device.old.books (D.state device.old.disk) (D.clock device.old.disk) (D.since device.old.disk)
         → HasCore t0 adopted space.new.view device.new.books (D.state device.new.disk) (D.clock device.new.disk) (D.since device.new.disk) }
 {
     entered_keeps_files();
+    space.steady();
     let mut blocks = DeviceBlocks::over(device);
     let outcome = space.call(answers, &mut blocks, session, tag, now, call);
     blocks.done();
+    device.steady();
     outcome
 }

@@ -18,6 +18,6 @@ pub use bfs_check as check;
 pub use bfs_space as space;
 pub use event::{Event, Happened};
 pub use events::SyncFault;
-pub use laws::mounts_bare;
+pub use laws::{mounts_bare, recovers_mounted};
 pub use mount::Unmounted;
 pub use volume::Volume;

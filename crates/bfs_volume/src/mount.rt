@@ -60,6 +60,7 @@ pub(crate) fn replay_and_check<D: Disk>(
     ensures time { (image : List ℕ) → Tells (D.state disk.old) (Holds image) → ∥ Passed (D.clock disk.old) (D.clock disk.new) (D.since disk.old) (D.since disk.new) (GoesOn image) ∥₁ }
     ensures clock { D.clock disk.old ≤ D.clock disk.new }
     ensures later { D.faults disk.old ≤ D.faults disk.new }
+    ensures stops { D.stops disk.old ≤ D.stops disk.new }
     ensures silent { D.state disk.old ≡ None → D.state disk.new ≡ None }
 {
     let sup = match recover(alloc, disk) {

@@ -55,5 +55,6 @@ pub fn note<D: Disk>(
         → HasCore t0 adopted space.new.view device.now.books (D.state device.now.disk) (D.clock device.now.disk) (D.since device.now.disk) }
 {
     note_keeps_files();
+    device.steady();
     space.note(session, tag, now, call, reply, device.durable());
 }

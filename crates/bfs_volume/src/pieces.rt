@@ -24,6 +24,7 @@ ghost use Rattle.bfs_space.specs.Taken.{ArePlaces, HavePiece};
 ghost use Rattle.bfs_pieces.specs.Pieces.{HasPieceCause};
 ghost use Rattle.bfs_volume.specs.Volumes.{AreJoined};
 ghost use Rattle.bfs_volume.specs.Entries.{HasEntryOf, HasReplyIn, IsAnsweredIn, IsEnded, IsStoppedEntry, IsToldBy, counts_of, reply_of};
+ghost use Rattle.bfs_volume.specs.Failing.{HasFailures, KeepsCounts};
 ghost use Rattle.bfs_volume.specs.Faults.{HasStepCause};
 ghost use Rattle.bfs_volume.specs.Held.{EndsInHold, asked_by, HasAsked, HasGone, HasLetGo, HasPlaces, IsAwaited, IsOnDisk, IsPlain, OnReply, TookHold, counts_round};
 ghost use Rattle.bfs_volume.specs.Pieces.{HasPiece, HasHoldIn, HasReleaseCause, HasUntaken, IsHoldIn};
@@ -90,10 +91,12 @@ fn ask_hold<D: Disk>(
     // What the disk tells, the call is entered on, or put off.
     ensures entered { (t0 : Mounted) (st : State) → D.state device.old.disk ≡ Some st → IsFaceOf t0 space.old (newest_map device.old.books st) → IfOk result (IsOutcome t0 space.old space.new (newest_map device.old.books st) piece.session piece.tag piece.now (Hold piece.id piece.at piece.length piece.write)) }
     ensures stamps { HasDrawn space.old.view.history space.new.view.history piece.now }
+    ensures failures { device.old.books.stop ≡ None → HasFailures space.old.view.history space.new.view.history device.old.books.stop device.new.books.stop (D.faults device.old.disk) (D.faults device.new.disk) (D.stops device.old.disk) (D.stops device.new.disk) }
     ensures core { (t0 : Mounted) (adopted : Adoption) → HasCore t0 adopted space.old.view device.old.books (D.state device.old.disk) (D.clock device.old.disk) (D.since device.old.disk)
         → HasCore t0 adopted space.new.view device.new.books (D.state device.new.disk) (D.clock device.new.disk) (D.since device.new.disk) }
 {
     entered_keeps_files();
+    space.steady();
     let mut blocks = DeviceBlocks::over(device);
     let outcome = space.hold(
         &mut blocks,
@@ -107,6 +110,7 @@ fn ask_hold<D: Disk>(
         places,
     );
     blocks.done();
+    device.steady();
     outcome
 }
 
@@ -170,6 +174,7 @@ fn ask_once<D: Disk>(
     ensures answered { (t0 : Mounted) (adopted : Adoption) → HasCore t0 adopted space.old.view device.old.books (D.state device.old.disk) (D.clock device.old.disk) (D.since device.old.disk)
         → IfOk result (OnReply (IsAnsweredIn t0 space.old space.new device.new.books (D.state device.new.disk) piece.session piece.tag (Hold piece.id piece.at piece.length piece.write))) }
     ensures stamps { HasDrawn space.old.view.history space.new.view.history piece.now }
+    ensures failures { HasFailures space.old.view.history space.new.view.history device.old.books.stop device.new.books.stop (D.faults device.old.disk) (D.faults device.new.disk) (D.stops device.old.disk) (D.stops device.new.disk) }
     ensures core { (t0 : Mounted) (adopted : Adoption) → HasCore t0 adopted space.old.view device.old.books (D.state device.old.disk) (D.clock device.old.disk) (D.since device.old.disk)
         → HasCore t0 adopted space.new.view device.new.books (D.state device.new.disk) (D.clock device.new.disk) (D.since device.new.disk) }
 {
@@ -194,6 +199,7 @@ fn rest_for<D: Disk>(
     ensures stop { OnOk result (device.new.books.stop ≡ None) }
     ensures faults { D.faults device.old.disk ≤ D.faults device.new.disk }
     ensures spare { device.new.books.spare ≡ device.old.books.spare }
+    ensures counts { KeepsCounts device.old.books.stop device.new.books.stop (D.faults device.old.disk) (D.faults device.new.disk) (D.stops device.old.disk) (D.stops device.new.disk) }
     ensures core { (t0 : Mounted) (adopted : Adoption) → HasCore t0 adopted space.old.view device.old.books (D.state device.old.disk) (D.clock device.old.disk) (D.since device.old.disk)
         → HasCore t0 adopted space.new.view device.new.books (D.state device.new.disk) (D.clock device.new.disk) (D.since device.new.disk) }
 {
@@ -253,6 +259,7 @@ fn make_quiet<D: Disk>(
     // And it stays stopped, whatever is answered.
     ensures stays_stopped { (s : stops.Stop) → device.old.books.stop ≡ Some s → device.new.books.stop ≡ Some s }
     ensures stamps { HasDrawn space.old.view.history space.new.view.history piece.now }
+    ensures failures { HasFailures space.old.view.history space.new.view.history device.old.books.stop device.new.books.stop (D.faults device.old.disk) (D.faults device.new.disk) (D.stops device.old.disk) (D.stops device.new.disk) }
     ensures core { (t0 : Mounted) (adopted : Adoption) → HasCore t0 adopted space.old.view device.old.books (D.state device.old.disk) (D.clock device.old.disk) (D.since device.old.disk)
         → HasCore t0 adopted space.new.view device.new.books (D.state device.new.disk) (D.clock device.new.disk) (D.since device.new.disk) }
 {
@@ -300,6 +307,7 @@ fn make_empty<D: Disk>(
     ensures ended { IfOk result (λ ready. ready ≡ false → IsEnded space.old.view.history space.new.view.history piece.session piece.tag (Hold piece.id piece.at piece.length piece.write) device.old.books.stop (D.faults device.old.disk) (D.faults device.new.disk) × (space.new.promised ≡ 0 ∷ [])) }
     ensures no_memory { OnErr result ((space.new.view.history ≡ space.old.view.history) × (space.new.promised ≡ 0 ∷ [])) }
     ensures stamps { HasDrawn space.old.view.history space.new.view.history piece.now }
+    ensures failures { HasFailures space.old.view.history space.new.view.history device.old.books.stop device.new.books.stop (D.faults device.old.disk) (D.faults device.new.disk) (D.stops device.old.disk) (D.stops device.new.disk) }
     ensures core { (t0 : Mounted) (adopted : Adoption) → HasCore t0 adopted space.old.view device.old.books (D.state device.old.disk) (D.clock device.old.disk) (D.since device.old.disk)
         → HasCore t0 adopted space.new.view device.new.books (D.state device.new.disk) (D.clock device.new.disk) (D.since device.new.disk) }
 {
@@ -338,6 +346,7 @@ fn ask_again<D: Disk>(
     ensures answered { (t0 : Mounted) (adopted : Adoption) → HasCore t0 adopted space.old.view device.old.books (D.state device.old.disk) (D.clock device.old.disk) (D.since device.old.disk)
         → OnOk result (IsAnsweredIn t0 space.old space.new device.new.books (D.state device.new.disk) piece.session piece.tag (Hold piece.id piece.at piece.length piece.write) ⊎ IsEnded space.old.view.history space.new.view.history piece.session piece.tag (Hold piece.id piece.at piece.length piece.write) device.old.books.stop (D.faults device.old.disk) (D.faults device.new.disk)) }
     ensures stamps { HasDrawn space.old.view.history space.new.view.history piece.now }
+    ensures failures { HasFailures space.old.view.history space.new.view.history device.old.books.stop device.new.books.stop (D.faults device.old.disk) (D.faults device.new.disk) (D.stops device.old.disk) (D.stops device.new.disk) }
     ensures core { (t0 : Mounted) (adopted : Adoption) → HasCore t0 adopted space.old.view device.old.books (D.state device.old.disk) (D.clock device.old.disk) (D.since device.old.disk)
         → HasCore t0 adopted space.new.view device.new.books (D.state device.new.disk) (D.clock device.new.disk) (D.since device.new.disk) }
 {
@@ -382,6 +391,7 @@ fn hold<D: Disk>(
     // And it stays stopped, whatever is answered.
     ensures stays_stopped { (s : stops.Stop) → device.old.books.stop ≡ Some s → device.new.books.stop ≡ Some s }
     ensures stamps { HasDrawn space.old.view.history space.new.view.history piece.now }
+    ensures failures { HasFailures space.old.view.history space.new.view.history device.old.books.stop device.new.books.stop (D.faults device.old.disk) (D.faults device.new.disk) (D.stops device.old.disk) (D.stops device.new.disk) }
     ensures core { (t0 : Mounted) (adopted : Adoption) → HasCore t0 adopted space.old.view device.old.books (D.state device.old.disk) (D.clock device.old.disk) (D.since device.old.disk)
         → HasCore t0 adopted space.new.view device.new.books (D.state device.new.disk) (D.clock device.new.disk) (D.since device.new.disk) }
 {
@@ -423,6 +433,7 @@ fn write_bytes<D: Disk>(
     ensures joined { (sp : SpaceBooks) (session tag id : ℕ) → AreJoined sp device.old.books (D.state device.old.disk) → IsOfVolume (sizes_of sp.view.sup) sp.room → EndsInHold sp.view.history session tag id at (length bytes.now) true
         → HasPlaces sp.view device.old.books (D.state device.old.disk) id at (length bytes.now) places.now
         → AreJoined sp device.new.books (D.state device.new.disk) × OnOk result (IsOnDisk sp.view device.new.books (D.state device.new.disk) id at bytes.now) }
+    ensures counts { KeepsCounts device.old.books.stop device.new.books.stop (D.faults device.old.disk) (D.faults device.new.disk) (D.stops device.old.disk) (D.stops device.new.disk) }
     ensures core { (t0 : Mounted) (adopted : Adoption) (sp : SpaceBooks) (session tag id : ℕ) → AreJoined sp device.old.books (D.state device.old.disk) → IsOfVolume (sizes_of sp.view.sup) sp.room → EndsInHold sp.view.history session tag id at (length bytes.now) true
         → HasPlaces sp.view device.old.books (D.state device.old.disk) id at (length bytes.now) places.now
         → HasCore t0 adopted sp.view device.old.books (D.state device.old.disk) (D.clock device.old.disk) (D.since device.old.disk)
@@ -454,6 +465,7 @@ fn read_bytes<D: Disk>(
     ensures length { length into.new ≡ length into.old }
     ensures joined { (sp : SpaceBooks) (id : ℕ) → AreJoined sp device.old.books (D.state device.old.disk) → HasPlaces sp.view device.old.books (D.state device.old.disk) id at (length into.old) places.now
         → AreJoined sp device.new.books (D.state device.new.disk) × OnOk result (IsOnDisk sp.view device.new.books (D.state device.new.disk) id at into.new) }
+    ensures counts { KeepsCounts device.old.books.stop device.new.books.stop (D.faults device.old.disk) (D.faults device.new.disk) (D.stops device.old.disk) (D.stops device.new.disk) }
     ensures core { (t0 : Mounted) (adopted : Adoption) (sp : SpaceBooks) → HasCore t0 adopted sp.view device.old.books (D.state device.old.disk) (D.clock device.old.disk) (D.since device.old.disk)
         → HasCore t0 adopted sp.view device.new.books (D.state device.new.disk) (D.clock device.new.disk) (D.since device.new.disk) }
     ensures rests { IsRested device.old.books device.new.books }
@@ -583,6 +595,7 @@ fn write_held<D: Disk>(
     ensures gone { HasGone space.old.view.history space.new.view.history piece.session piece.tag piece.id (D.faults device.old.disk) (D.faults device.new.disk) bytes.now }
     ensures faults { D.faults device.old.disk ≤ D.faults device.new.disk }
     ensures stamps { HasDrawn space.old.view.history space.new.view.history piece.now }
+    ensures failures { HasFailures space.old.view.history space.new.view.history device.old.books.stop device.new.books.stop (D.faults device.old.disk) (D.faults device.new.disk) (D.stops device.old.disk) (D.stops device.new.disk) }
     ensures core { (t0 : Mounted) (adopted : Adoption) → HasCore t0 adopted space.old.view device.old.books (D.state device.old.disk) (D.clock device.old.disk) (D.since device.old.disk)
         → HasCore t0 adopted space.new.view device.new.books (D.state device.new.disk) (D.clock device.new.disk) (D.since device.new.disk) }
 {
@@ -622,6 +635,7 @@ fn read_held<D: Disk>(
     ensures gone { HasGone space.old.view.history space.new.view.history piece.session piece.tag piece.id (D.faults device.old.disk) (D.faults device.new.disk) into.new }
     ensures faults { D.faults device.old.disk ≤ D.faults device.new.disk }
     ensures stamps { HasDrawn space.old.view.history space.new.view.history piece.now }
+    ensures failures { HasFailures space.old.view.history space.new.view.history device.old.books.stop device.new.books.stop (D.faults device.old.disk) (D.faults device.new.disk) (D.stops device.old.disk) (D.stops device.new.disk) }
     ensures core { (t0 : Mounted) (adopted : Adoption) → HasCore t0 adopted space.old.view device.old.books (D.state device.old.disk) (D.clock device.old.disk) (D.since device.old.disk)
         → HasCore t0 adopted space.new.view device.new.books (D.state device.new.disk) (D.clock device.new.disk) (D.since device.new.disk) }
 {
@@ -672,6 +686,7 @@ pub fn write<D: Disk>(
     // And it stays stopped, whatever is answered.
     ensures stays_stopped { (s : stops.Stop) → device.old.books.stop ≡ Some s → device.new.books.stop ≡ Some s }
     ensures stamps { HasDrawn space.old.view.history space.new.view.history piece.now }
+    ensures failures { HasFailures space.old.view.history space.new.view.history device.old.books.stop device.new.books.stop (D.faults device.old.disk) (D.faults device.new.disk) (D.stops device.old.disk) (D.stops device.new.disk) }
     ensures core { (t0 : Mounted) (adopted : Adoption) → HasCore t0 adopted space.old.view device.old.books (D.state device.old.disk) (D.clock device.old.disk) (D.since device.old.disk)
         → HasCore t0 adopted space.new.view device.new.books (D.state device.new.disk) (D.clock device.new.disk) (D.since device.new.disk) }
 {
@@ -734,6 +749,7 @@ pub fn read<D: Disk>(
     // And it stays stopped, whatever is answered.
     ensures stays_stopped { (s : stops.Stop) → device.old.books.stop ≡ Some s → device.new.books.stop ≡ Some s }
     ensures stamps { HasDrawn space.old.view.history space.new.view.history piece.now }
+    ensures failures { HasFailures space.old.view.history space.new.view.history device.old.books.stop device.new.books.stop (D.faults device.old.disk) (D.faults device.new.disk) (D.stops device.old.disk) (D.stops device.new.disk) }
     ensures core { (t0 : Mounted) (adopted : Adoption) → HasCore t0 adopted space.old.view device.old.books (D.state device.old.disk) (D.clock device.old.disk) (D.since device.old.disk)
         → HasCore t0 adopted space.new.view device.new.books (D.state device.new.disk) (D.clock device.new.disk) (D.since device.new.disk) }
 {

@@ -7,6 +7,7 @@ ghost use Rattle.bfs_device_blocks.specs.Lent.{HasCore};
 ghost use Rattle.bfs_core.specs.Moments.{Adoption};
 ghost use Rattle.bfs_volume.specs.Volumes.{AreJoined};
 ghost use Rattle.bfs_volume.specs.Faults.{HasStepCause};
+ghost use Rattle.bfs_volume.specs.Failing.{KeepsCounts};
 
 use crate::events::{seal, step};
 use bfs_device::{Device, DeviceFault, Progress};
@@ -27,6 +28,7 @@ fn push_on<D: Disk>(space: &mut Space, device: &mut Device<D>) -> Result<bool, D
     ensures spare { device.new.books.spare ≡ device.old.books.spare }
     ensures sealed { sealed_of device.new.books ≡ sealed_of device.old.books }
     ensures durable { durable_of device.old.books ≤ durable_of device.new.books }
+    ensures counts { KeepsCounts device.old.books.stop device.new.books.stop (D.faults device.old.disk) (D.faults device.new.disk) (D.stops device.old.disk) (D.stops device.new.disk) }
     ensures core { (t0 : Mounted) (adopted : Adoption) → HasCore t0 adopted space.old.view device.old.books (D.state device.old.disk) (D.clock device.old.disk) (D.since device.old.disk)
         → HasCore t0 adopted space.new.view device.new.books (D.state device.new.disk) (D.clock device.new.disk) (D.since device.new.disk) }
 {
@@ -50,6 +52,7 @@ pub fn rest<D: Disk>(space: &mut Space, device: &mut Device<D>) -> Result<(), De
     ensures spare { device.new.books.spare ≡ device.old.books.spare }
     ensures sealed { sealed_of device.new.books ≡ sealed_of device.old.books }
     ensures durable { durable_of device.old.books ≤ durable_of device.new.books }
+    ensures counts { KeepsCounts device.old.books.stop device.new.books.stop (D.faults device.old.disk) (D.faults device.new.disk) (D.stops device.old.disk) (D.stops device.new.disk) }
     ensures core { (t0 : Mounted) (adopted : Adoption) → HasCore t0 adopted space.old.view device.old.books (D.state device.old.disk) (D.clock device.old.disk) (D.since device.old.disk)
         → HasCore t0 adopted space.new.view device.new.books (D.state device.new.disk) (D.clock device.new.disk) (D.since device.new.disk) }
 {
@@ -82,6 +85,7 @@ fn push_to<D: Disk>(
     ensures spare { device.new.books.spare ≡ device.old.books.spare }
     ensures sealed { sealed_of device.new.books ≡ sealed_of device.old.books }
     ensures durable { durable_of device.old.books ≤ durable_of device.new.books }
+    ensures counts { KeepsCounts device.old.books.stop device.new.books.stop (D.faults device.old.disk) (D.faults device.new.disk) (D.stops device.old.disk) (D.stops device.new.disk) }
     ensures core { (t0 : Mounted) (adopted : Adoption) → HasCore t0 adopted space.old.view device.old.books (D.state device.old.disk) (D.clock device.old.disk) (D.since device.old.disk)
         → HasCore t0 adopted space.new.view device.new.books (D.state device.new.disk) (D.clock device.new.disk) (D.since device.new.disk) }
 {
@@ -112,6 +116,7 @@ pub fn flush<D: Disk>(
     ensures spare { device.new.books.spare ≡ device.old.books.spare }
     ensures sealed { sealed_of device.new.books ≡ sealed_of device.old.books }
     ensures durable { durable_of device.old.books ≤ durable_of device.new.books }
+    ensures counts { KeepsCounts device.old.books.stop device.new.books.stop (D.faults device.old.disk) (D.faults device.new.disk) (D.stops device.old.disk) (D.stops device.new.disk) }
     ensures core { (t0 : Mounted) (adopted : Adoption) → HasCore t0 adopted space.old.view device.old.books (D.state device.old.disk) (D.clock device.old.disk) (D.since device.old.disk)
         → HasCore t0 adopted space.new.view device.new.books (D.state device.new.disk) (D.clock device.new.disk) (D.since device.new.disk) }
 {
@@ -138,6 +143,7 @@ fn make_place<D: Disk>(space: &mut Space, device: &mut Device<D>) -> Result<(), 
     ensures spare { device.new.books.spare ≡ device.old.books.spare }
     ensures sealed { sealed_of device.new.books ≡ sealed_of device.old.books }
     ensures durable { durable_of device.old.books ≤ durable_of device.new.books }
+    ensures counts { KeepsCounts device.old.books.stop device.new.books.stop (D.faults device.old.disk) (D.faults device.new.disk) (D.stops device.old.disk) (D.stops device.new.disk) }
     ensures core { (t0 : Mounted) (adopted : Adoption) → HasCore t0 adopted space.old.view device.old.books (D.state device.old.disk) (D.clock device.old.disk) (D.since device.old.disk)
         → HasCore t0 adopted space.new.view device.new.books (D.state device.new.disk) (D.clock device.new.disk) (D.since device.new.disk) }
 {
@@ -160,6 +166,7 @@ pub fn make_durable<D: Disk>(space: &mut Space, device: &mut Device<D>) -> Resul
     ensures faults { D.faults device.old.disk ≤ D.faults device.new.disk }
     ensures spare { device.old.books.spare ≤ device.new.books.spare + 1 }
     ensures durable { durable_of device.old.books ≤ durable_of device.new.books }
+    ensures counts { KeepsCounts device.old.books.stop device.new.books.stop (D.faults device.old.disk) (D.faults device.new.disk) (D.stops device.old.disk) (D.stops device.new.disk) }
     ensures core { (t0 : Mounted) (adopted : Adoption) → HasCore t0 adopted space.old.view device.old.books (D.state device.old.disk) (D.clock device.old.disk) (D.since device.old.disk)
         → HasCore t0 adopted space.new.view device.new.books (D.state device.new.disk) (D.clock device.new.disk) (D.since device.new.disk) }
 {
@@ -182,6 +189,7 @@ pub fn settle<D: Disk>(space: &mut Space, device: &mut Device<D>) -> Result<(), 
     ensures faults { D.faults device.old.disk ≤ D.faults device.new.disk }
     ensures spare { device.old.books.spare ≤ device.new.books.spare + 1 }
     ensures durable { durable_of device.old.books ≤ durable_of device.new.books }
+    ensures counts { KeepsCounts device.old.books.stop device.new.books.stop (D.faults device.old.disk) (D.faults device.new.disk) (D.stops device.old.disk) (D.stops device.new.disk) }
     ensures core { (t0 : Mounted) (adopted : Adoption) → HasCore t0 adopted space.old.view device.old.books (D.state device.old.disk) (D.clock device.old.disk) (D.since device.old.disk)
         → HasCore t0 adopted space.new.view device.new.books (D.state device.new.disk) (D.clock device.new.disk) (D.since device.new.disk) }
 {

@@ -1,5 +1,5 @@
 // A mounted volume.
-ghost use Rattle.std.specs.Prelude.{◌≡◌, ◌≢◌, ◌≤◌, ◌⊎◌, ℕ, List, [], ◌∷◌, Some, true, false, length, IfOk, IfErr, OnOk, OnErr, MatchResult};
+ghost use Rattle.std.specs.Prelude.{◌≡◌, ◌≢◌, ◌≤◌, ◌⊎◌, ℕ, List, [], ◌∷◌, Ok, Some, true, false, length, IfOk, IfErr, OnOk, OnErr, MatchResult, Option, None};
 ghost use Rattle.bfs_base.specs.Moments.{Passed};
 ghost use Rattle.bfs_disk.specs.State.{Tells, Holds, ReadsAs};
 ghost use Rattle.bfs_disk.specs.Disk.{MayLeave};
@@ -15,7 +15,9 @@ ghost use Rattle.bfs_sound.specs.Whole.{Recovers};
 ghost use Rattle.bfs_device.specs.Books.{IsOnDisk, durable_of};
 ghost use Rattle.bfs_device.specs.declared.journal.Stop as stops;
 ghost use Rattle.bfs_core.specs.Cores.{RecoversFrom};
-ghost use Rattle.bfs_core.specs.Moments.{Adoption, KeptSince, adopted_at};
+ghost use Rattle.bfs_core.specs.Chains.{Image, image_in};
+ghost use Rattle.bfs_core.specs.Settled.{KeepsKnown};
+ghost use Rattle.bfs_core.specs.Moments.{Adoption, KeptSince, adopted_from};
 ghost use Rattle.bfs_device_blocks.specs.Lent.{HasCore};
 ghost use Rattle.bfs_count.specs.Counts.{nodes_of};
 ghost use Rattle.bfs_space.specs.Looks.{is_built};
@@ -23,7 +25,8 @@ ghost use Rattle.bfs_volume.specs.Mounts.{IsHeld, IsHeldWhole, IsMountedFrom, Is
 ghost use Rattle.bfs_volume.specs.Entries.{HasEntry, HasEntryOf, HasFailedSync, HasReplyIn, IsAnsweredIn, IsEnded, IsStoppedEntry, IsStoppedSync};
 ghost use Rattle.bfs_volume.specs.Events.{MayHappen, MayWantMemory, IsHappened, IsStoppedEvent, HasReplied};
 ghost use Rattle.bfs_volume.specs.Causes.{HasSyncCause, HasStopCause};
-ghost use Rattle.bfs_volume.specs.Closing.{IsLeft};
+ghost use Rattle.bfs_volume.specs.Closing.{IsChained, IsLeft};
+ghost use Rattle.bfs_volume.specs.Failing.{HasFailures, KeepsCounts};
 ghost use Rattle.bfs_volume.specs.Pieces.{HasPiece, HasHoldIn, IsHoldIn, HasReleaseCause};
 ghost use Rattle.bfs_volume.specs.Stamps.{HasDrawn};
 
@@ -79,10 +82,11 @@ impl<D: Disk, C: Clock> Volume<D, C> {
         requires on_disk { IsOnDisk (D.size disk) sup }
         requires whole { IsHeldWhole sup nodes (D.state disk) }
         ensures core { (t0 : Mounted) (image : List ℕ) (begun : ℕ) → begun ≤ D.clock disk → ∥ KeptSince t0 [] (D.clock disk) (D.since disk) begun 0 ∥₁ → Tells (D.state disk) (Holds image) → IsMountedFrom image t0
-            → IfOk result (λ v. HasCore t0 (adopted_at begun (D.clock v.device.disk)) v.space.view v.device.books (D.state v.device.disk) (D.clock v.device.disk) (D.since v.device.disk)) }
+            → IfOk result (λ v. HasCore t0 (adopted_from begun (D.clock v.device.disk) (Some (image_in image))) v.space.view v.device.books (D.state v.device.disk) (D.clock v.device.disk) (D.since v.device.disk)) }
         ensures clock { IfOk result (λ v. v.clock ≡ clock) }
         ensures fresh { IfOk result (λ v. v.space.view.history ≡ []) }
         ensures disk { IfOk result (λ v. v.device.disk ≡ disk) }
+        ensures going { IfOk result (λ v. v.device.books.stop ≡ None) }
         ensures back { IfErr result (λ e. e.0 ≡ disk) }
     {
         // (a whole volume has no more blocks in use than there are)
@@ -121,8 +125,8 @@ impl<D: Disk, C: Clock> Volume<D, C> {
         requires held { IsHeld (D.state disk) }
         // It is mounted only where the image recovers, and then to the one tree that it recovers to.
         ensures recovers { (image : List ℕ) → Tells (D.state disk) (Holds image) → OnOk result ((tree : Tree) × Recovers image tree) }
-        ensures core { (t0 : Mounted) (image : List ℕ) (begun : ℕ) → begun ≤ D.clock disk → ∥ KeptSince t0 [] (D.clock disk) (D.since disk) begun 0 ∥₁ → Tells (D.state disk) (Holds image) → IsMountedFrom image t0
-            → IfOk result (λ v. HasCore t0 (adopted_at begun (D.clock v.device.disk)) v.space.view v.device.books (D.state v.device.disk) (D.clock v.device.disk) (D.since v.device.disk)) }
+        ensures core { (t0 : Mounted) (image : List ℕ) (begun : ℕ) → begun ≤ D.clock disk → ∥ KeptSince t0 [] (D.clock disk) (D.since disk) begun 0 ∥₁ → Tells (D.state disk) (Holds image) → (mounted : IsMountedFrom image t0)
+            → IfOk result (λ v. HasCore t0 (adopted_from begun (D.clock v.device.disk) (Some (image_in mounted.next))) v.space.view v.device.books (D.state v.device.disk) (D.clock v.device.disk) (D.since v.device.disk)) }
         ensures clock { IfOk result (λ v. v.clock ≡ clock) }
         ensures fresh { IfOk result (λ v. v.space.view.history ≡ []) }
         // Why it isn't mounted is true of what the disk held, and a failed disk has its cause.
@@ -130,6 +134,8 @@ impl<D: Disk, C: Clock> Volume<D, C> {
         ensures cause { IfErr result (λ e. HasUnmountedCause (D.faults disk) (D.faults e.1) e.0) }
         // And a crash meanwhile left the image, or one that is replayed to the same.
         ensures time { (image : List ℕ) → Tells (D.state disk) (Holds image) → IfErr result (λ e. ∥ Passed (D.clock disk) (D.clock e.1) (D.since disk) (D.since e.1) (GoesOn image) ∥₁) }
+        ensures going { IfOk result (λ v. v.device.books.stop ≡ None) }
+        ensures stops { MatchResult result (λ v. D.stops disk ≤ D.stops v.device.disk) (λ e. D.stops disk ≤ D.stops e.1) }
         ensures later { MatchResult result (λ v. D.faults disk ≤ D.faults v.device.disk) (λ e. D.faults disk ≤ D.faults e.1) }
     {
         let mut disk = disk;
@@ -177,6 +183,8 @@ impl<D: Disk, C: Clock> Volume<D, C> {
         // The clock stands where it stood, and what was appended has its stamps from it.
         ensures clock { C.stands self.new.clock ≡ C.stands self.old.clock }
         ensures stamps { (s : ℕ) → C.stands self.old.clock ≡ Some s → HasDrawn self.old.space.view.history self.new.space.view.history s }
+        // And of each failed entry the disk's counts of faults, and of a stop, are told, whatever the disk tells.
+        ensures failures { HasFailures self.old.space.view.history self.new.space.view.history self.old.device.books.stop self.new.device.books.stop (D.faults self.old.device.disk) (D.faults self.new.device.disk) (D.stops self.old.device.disk) (D.stops self.new.device.disk) }
         ensures core { (t0 : Mounted) (adopted : Adoption) → HasCore t0 adopted self.old.space.view self.old.device.books (D.state self.old.device.disk) (D.clock self.old.device.disk) (D.since self.old.device.disk)
             → HasCore t0 adopted self.new.space.view self.new.device.books (D.state self.new.device.disk) (D.clock self.new.device.disk) (D.since self.new.device.disk) }
     {
@@ -209,6 +217,8 @@ impl<D: Disk, C: Clock> Volume<D, C> {
         // The clock stands where it stood, and what was appended has its stamps from it.
         ensures clock { C.stands self.new.clock ≡ C.stands self.old.clock }
         ensures stamps { (s : ℕ) → C.stands self.old.clock ≡ Some s → HasDrawn self.old.space.view.history self.new.space.view.history s }
+        // And of each failed entry the disk's counts of faults, and of a stop, are told, whatever the disk tells.
+        ensures failures { HasFailures self.old.space.view.history self.new.space.view.history self.old.device.books.stop self.new.device.books.stop (D.faults self.old.device.disk) (D.faults self.new.device.disk) (D.stops self.old.device.disk) (D.stops self.new.device.disk) }
         ensures core { (t0 : Mounted) (adopted : Adoption) → HasCore t0 adopted self.old.space.view self.old.device.books (D.state self.old.device.disk) (D.clock self.old.device.disk) (D.since self.old.device.disk)
             → HasCore t0 adopted self.new.space.view self.new.device.books (D.state self.new.device.disk) (D.clock self.new.device.disk) (D.since self.new.device.disk) }
     {
@@ -244,6 +254,8 @@ impl<D: Disk, C: Clock> Volume<D, C> {
         // The clock stands where it stood, and what was appended has its stamps from it.
         ensures clock { C.stands self.new.clock ≡ C.stands self.old.clock }
         ensures stamps { (s : ℕ) → C.stands self.old.clock ≡ Some s → HasDrawn self.old.space.view.history self.new.space.view.history s }
+        // And of each failed entry the disk's counts of faults, and of a stop, are told, whatever the disk tells.
+        ensures failures { HasFailures self.old.space.view.history self.new.space.view.history self.old.device.books.stop self.new.device.books.stop (D.faults self.old.device.disk) (D.faults self.new.device.disk) (D.stops self.old.device.disk) (D.stops self.new.device.disk) }
         ensures core { (t0 : Mounted) (adopted : Adoption) → HasCore t0 adopted self.old.space.view self.old.device.books (D.state self.old.device.disk) (D.clock self.old.device.disk) (D.since self.old.device.disk)
             → HasCore t0 adopted self.new.space.view self.new.device.books (D.state self.new.device.disk) (D.clock self.new.device.disk) (D.since self.new.device.disk) }
     {
@@ -284,6 +296,8 @@ impl<D: Disk, C: Clock> Volume<D, C> {
         // The clock stands where it stood, and what was appended has its stamps from it.
         ensures clock { C.stands self.new.clock ≡ C.stands self.old.clock }
         ensures stamps { (s : ℕ) → C.stands self.old.clock ≡ Some s → HasDrawn self.old.space.view.history self.new.space.view.history s }
+        // And of each failed entry the disk's counts of faults, and of a stop, are told, whatever the disk tells.
+        ensures failures { HasFailures self.old.space.view.history self.new.space.view.history self.old.device.books.stop self.new.device.books.stop (D.faults self.old.device.disk) (D.faults self.new.device.disk) (D.stops self.old.device.disk) (D.stops self.new.device.disk) }
         ensures core { (t0 : Mounted) (adopted : Adoption) → HasCore t0 adopted self.old.space.view self.old.device.books (D.state self.old.device.disk) (D.clock self.old.device.disk) (D.since self.old.device.disk)
             → HasCore t0 adopted self.new.space.view self.new.device.books (D.state self.new.device.disk) (D.clock self.new.device.disk) (D.since self.new.device.disk) }
     {
@@ -325,6 +339,8 @@ impl<D: Disk, C: Clock> Volume<D, C> {
         // The clock stands where it stood, and what was appended has its stamps from it.
         ensures clock { C.stands self.new.clock ≡ C.stands self.old.clock }
         ensures stamps { (s : ℕ) → C.stands self.old.clock ≡ Some s → HasDrawn self.old.space.view.history self.new.space.view.history s }
+        // And of each failed entry the disk's counts of faults, and of a stop, are told, whatever the disk tells.
+        ensures failures { HasFailures self.old.space.view.history self.new.space.view.history self.old.device.books.stop self.new.device.books.stop (D.faults self.old.device.disk) (D.faults self.new.device.disk) (D.stops self.old.device.disk) (D.stops self.new.device.disk) }
         ensures core { (t0 : Mounted) (adopted : Adoption) → HasCore t0 adopted self.old.space.view self.old.device.books (D.state self.old.device.disk) (D.clock self.old.device.disk) (D.since self.old.device.disk)
             → HasCore t0 adopted self.new.space.view self.new.device.books (D.state self.new.device.disk) (D.clock self.new.device.disk) (D.since self.new.device.disk) }
     {
@@ -349,6 +365,12 @@ impl<D: Disk, C: Clock> Volume<D, C> {
         // And since what led to mounting began, a crash might have left only what recovers to the tree after a prefix of the entries.
         ensures since { (t0 : Mounted) (adopted : Adoption) → HasCore t0 adopted self.space.view self.device.books (D.state self.device.disk) (D.clock self.device.disk) (D.since self.device.disk)
             → (c : List ℕ) → D.since result.0 adopted.begun c → ∥ RecoversFrom t0 self.space.view.history 0 c ∥₁ }
+        // A crash now leaves files with the bytes that were known since the durable entries.
+        ensures keeps { (t0 : Mounted) (adopted : Adoption) → HasCore t0 adopted self.space.view self.device.books (D.state self.device.disk) (D.clock self.device.disk) (D.since self.device.disk)
+            → (first : Image) → adopted.first ≡ Some first → (image : List ℕ) → MayLeave (D.state result.0) image → KeepsKnown t0 self.space.view.history (durable_of self.device.books) image }
+        // Where the image is there that was mounted, there is one behind each entry.
+        ensures chained { (t0 : Mounted) (adopted : Adoption) → HasCore t0 adopted self.space.view self.device.books (D.state self.device.disk) (D.clock self.device.disk) (D.since self.device.disk)
+            → (first : Image) → adopted.first ≡ Some first → IsChained t0 first self.space.view.history (D.state result.0) ⊥ }
     {
         let Volume {
             alloc: _,
@@ -357,6 +379,7 @@ impl<D: Disk, C: Clock> Volume<D, C> {
             clock,
         } = self;
         let _durable = device.durable();
+        device.steady();
         (device.into_disk(), clock, space.into_history())
     }
 
@@ -375,7 +398,16 @@ impl<D: Disk, C: Clock> Volume<D, C> {
         // The disk as it reads is whole with that tree then, and its files have the bytes that are known.
         ensures left { (t0 : Mounted) (adopted : Adoption) → HasCore t0 adopted self.space.view self.device.books (D.state self.device.disk) (D.clock self.device.disk) (D.since self.device.disk)
             → OnOk result.3 ((image : List ℕ) → Tells (D.state result.0) (λ st. ReadsAs st image) → IsLeft t0 self.space.view.history image) }
+        // Files keep the bytes that were known since the durable entries, and at Ok all that are known.
+        ensures keeps { (t0 : Mounted) (adopted : Adoption) → HasCore t0 adopted self.space.view self.device.books (D.state self.device.disk) (D.clock self.device.disk) (D.since self.device.disk)
+            → (first : Image) → adopted.first ≡ Some first → (image : List ℕ) → MayLeave (D.state result.0) image → KeepsKnown t0 self.space.view.history (durable_of self.device.books) image }
+        ensures keeps_all { (t0 : Mounted) (adopted : Adoption) → HasCore t0 adopted self.space.view self.device.books (D.state self.device.disk) (D.clock self.device.disk) (D.since self.device.disk)
+            → (first : Image) → adopted.first ≡ Some first → OnOk result.3 ((image : List ℕ) → MayLeave (D.state result.0) image → KeepsKnown t0 self.space.view.history (length self.space.view.history) image) }
+        // Where the image is there that was mounted, there is one behind each entry, and at Ok the last is what the disk reads.
+        ensures chained { (t0 : Mounted) (adopted : Adoption) → HasCore t0 adopted self.space.view self.device.books (D.state self.device.disk) (D.clock self.device.disk) (D.since self.device.disk)
+            → (first : Image) → adopted.first ≡ Some first → IsChained t0 first self.space.view.history (D.state result.0) (result.3 ≡ Ok tt) }
         ensures cause { IfErr result.3 (HasStopCause self.device.books.stop (D.faults self.device.disk) (D.faults result.0)) }
+        ensures counts { (stop : Option stops.Stop) × KeepsCounts self.device.books.stop stop (D.faults self.device.disk) (D.faults result.0) (D.stops self.device.disk) (D.stops result.0) }
         ensures later { D.faults self.device.disk ≤ D.faults result.0 }
     {
         let Volume {

@@ -596,19 +596,29 @@ struct Ran {
     beyond: bool,
 }
 
+/// What came of a run, by its history, how many entries of it were acknowledged, and the answers of what a crash left.
+fn compares(
+    alloc: Global,
+    history: &[Entry],
+    acknowledged: u64,
+    answers: &[Entry],
+) -> Result<Ran, AllocError> {
+    let mut model = Model::new(alloc, 66, 65_536_000)?;
+    let (steps, met) = meets(&mut model, history, acknowledged, answers)?;
+    Ok(Ran {
+        good: steps && met.is_some() && answers.len() == 4,
+        acknowledged,
+        beyond: acknowledged < met.unwrap_or(0),
+    })
+}
+
 /// Runs so many events beside the plain tree's program, and mounts what a crash leaves then.
 fn runs_beside(alloc: Global, seed: u64, events: u64) -> Result<Ran, AllocError> {
     let pick = next_number(events);
     let (history, acknowledged, left) = left_by_run(alloc, seed, events, pick)?;
     let id = id_by(&history, 66, pick >> 20);
     let answers = answers_of(alloc, left, id)?;
-    let mut model = Model::new(alloc, 66, 65_536_000)?;
-    let (steps, met) = meets(&mut model, &history, acknowledged, &answers)?;
-    Ok(Ran {
-        good: steps && met.is_some() && answers.len() == 4,
-        acknowledged,
-        beyond: acknowledged < met.unwrap_or(0),
-    })
+    compares(alloc, &history, acknowledged, &answers)
 }
 
 #[test]

@@ -86,32 +86,47 @@ fn seals(space: &mut Space) -> (u64, u64, u64, usize)
     }
 }
 
+/// Seals four times: before any entry, after two, again, and after two more once the first two have left the log. What is told of each.
+fn seals_between(space: &mut Space) -> Result<[(u64, u64, u64, usize); 4], AllocError>
+    requires none { times 1 space.old.promised ≡ 0 }
+{
+    let before = seals(space);
+    notes(space, 7, 1000, Reply::Synced { upto: 0 }, 0)?;
+    notes(space, 8, 1000, Reply::Synced { upto: 1 }, 1)?;
+    let first = seals(space);
+    let again = seals(space);
+    space.released(2);
+    notes(space, 9, 999, Reply::Synced { upto: 2 }, 2)?;
+    notes(space, 10, 1001, Reply::Synced { upto: 3 }, 3)?;
+    Ok([before, first, again, seals(space)])
+}
+
+/// How many entries there are, and the stamps of the first four.
+fn stamps_of(history: &[Entry]) -> (usize, [i64; 4]) {
+    let mut stamps = [0i64; 4];
+    for i in 0..history.len().min(4) {
+        stamps[i] = history[i].stamp;
+    }
+    (history.len(), stamps)
+}
+
 #[test]
 fn what_is_promised_is_noted_with_rising_stamps_and_sealed_once(
     rt: HostRuntime,
 ) -> Result<(), Fail> {
-    let alloc = rt.alloc();
     let sup = superblock()?;
     assert_eq!(rt; sup.log_start, 0);
     assert_eq!(rt; sup.log_end, 0);
     assert_eq!(rt; sup.used_blocks, 529);
     assert_eq!(rt; sup.num_blocks, 4096);
-    let mut space = Space::open(alloc, sup, 1)?;
-    assert_eq!(rt; seals(&mut space), (0, 0, 0, 0));
-    notes(&mut space, 7, 1000, Reply::Synced { upto: 0 }, 0)?;
-    notes(&mut space, 8, 1000, Reply::Synced { upto: 1 }, 1)?;
-    assert_eq!(rt; seals(&mut space), (1, 2, 529, 0));
-    assert_eq!(rt; seals(&mut space), (0, 0, 0, 0));
-    space.released(2);
-    notes(&mut space, 9, 999, Reply::Synced { upto: 2 }, 2)?;
-    notes(&mut space, 10, 1001, Reply::Synced { upto: 3 }, 3)?;
-    assert_eq!(rt; seals(&mut space), (3, 4, 529, 0));
-    let history = space.into_history();
-    let mut stamps = [0i64; 4];
-    for i in 0..history.len().min(4) {
-        stamps[i] = history[i].stamp;
-    }
-    assert_eq!(rt; history.len(), 4);
+    let mut space = Space::open(rt.alloc(), sup, 1)?;
+    let sealed = seals_between(&mut space)?;
+    let (count, stamps) = stamps_of(&space.into_history());
+    assert_eq!(rt;
+        sealed,
+        [(0, 0, 0, 0), (1, 2, 529, 0), (0, 0, 0, 0), (3, 4, 529, 0)]
+    );
+    assert_eq!(rt; count, 4);
     assert_eq!(rt; stamps, [65536000, 65536001, 65536002, 65601536]);
     Ok(())
 }
@@ -199,6 +214,15 @@ fn is_refused(answer: &Result<Reply, CallFault>) -> bool {
     matches!(answer, Err(CallFault::Map(TreeFault::NoMemory)))
 }
 
+/// A hold of another session.
+const HELD: Hold = Hold {
+    session: 2,
+    id: 600,
+    at: 0,
+    length: 1,
+    write: true,
+};
+
 #[test]
 fn what_a_failed_call_changed_is_given_up(rt: HostRuntime) -> Result<(), Fail> {
     let alloc = rt.alloc();
@@ -206,38 +230,34 @@ fn what_a_failed_call_changed_is_given_up(rt: HostRuntime) -> Result<(), Fail> {
     let size = sup.block_size;
     assert_eq!(rt; size, 1024);
     assert_eq!(rt; sup.log_blocks.len, 512);
-    let bytes = vec![in alloc; 0u8; 8192]?;
-    let mut under = Silent {
-        blocks: MemBlocks::new(bytes, size),
-    };
-    let mut bitmap = Bitmap::of(alloc, &sup);
-    let mut group = Changed::new(alloc);
     let answers = Failing { block: 600 };
-    let holds = [Hold {
-        session: 2,
-        id: 600,
-        at: 0,
-        length: 1,
-        write: true,
-    }];
-    let answer = answer_call(
-        alloc,
-        &sup,
-        &answers,
-        &mut bitmap,
-        &mut group,
-        &mut under,
-        &holds,
-        &Call::IndexList,
-        0,
-        Allowance {
-            logged: 1,
-            taken: 1,
-        },
-    );
-    assert!(rt; is_refused(&answer));
-    assert_eq!(rt; group.len(), 0);
-    assert_eq!(rt; bitmap.used(), 529);
+    let holds = [HELD];
+    let (refused, changed, used) = {
+        let mut under = Silent {
+            blocks: MemBlocks::new(vec![in alloc; 0u8; 8192]?, size),
+        };
+        let mut bitmap = Bitmap::of(alloc, &sup);
+        let mut group = Changed::new(alloc);
+        let answer = answer_call(
+            alloc,
+            &sup,
+            &answers,
+            &mut bitmap,
+            &mut group,
+            &mut under,
+            &holds,
+            &Call::IndexList,
+            0,
+            Allowance {
+                logged: 1,
+                taken: 1,
+            },
+        );
+        (is_refused(&answer), group.len(), bitmap.used())
+    };
+    assert!(rt; refused);
+    assert_eq!(rt; changed, 0);
+    assert_eq!(rt; used, 529);
     Ok(())
 }
 
@@ -334,6 +354,31 @@ fn told_by(reply: &Reply) -> (u8, u64, u64) {
     }
 }
 
+/// What the last reply says.
+fn last_told(space: &Space) -> (u8, u64, u64) {
+    match space.history().last() {
+        Some(entry) => told_by(&entry.reply),
+        None => (0, 0, 0),
+    }
+}
+
+/// The reply to a call; or that it is put off.
+fn replies(mount: &mut Mount, tag: u32, call: Call) -> Result<(u8, u64, u64), AllocError>
+    requires serves { is_served call ≡ true }
+    requires stays { keeps_holds call ≡ true }
+    requires ranges { KeepsRanges call }
+    requires other { call ≢ Sync }
+{
+    let answers = Calls {};
+    match mount
+        .space
+        .call(&answers, &mut mount.under, 1, tag, 1000, call)?
+    {
+        Outcome::Replied => Ok(last_told(&mount.space)),
+        Outcome::Drain(_) => Ok((5, 0, 0)),
+    }
+}
+
 /// What becomes of the call for a node with a name of one letter in a directory: its reply, or that it is put off.
 fn asks(
     alloc: Global,
@@ -350,17 +395,7 @@ fn asks(
         kind,
         mode: 0o755,
     };
-    let answers = Calls {};
-    match mount
-        .space
-        .call(&answers, &mut mount.under, 1, 1, 1000, call)?
-    {
-        Outcome::Replied => match mount.space.history().last() {
-            Some(entry) => Ok(told_by(&entry.reply)),
-            None => Ok((0, 0, 0)),
-        },
-        Outcome::Drain(_) => Ok((5, 0, 0)),
-    }
+    replies(mount, 1, call)
 }
 
 /// The reply to a call that is answered in any case: a mode is set, a record is read, or a directory's list, or a link's target.
@@ -376,17 +411,7 @@ fn asks_of(mount: &mut Mount, which: u8, id: u64) -> Result<(u8, u64, u64), Allo
         2 => Call::List { dir: id },
         _ => Call::ReadLink { id },
     };
-    let answers = Calls {};
-    match mount
-        .space
-        .call(&answers, &mut mount.under, 1, 2, 1000, call)?
-    {
-        Outcome::Replied => match mount.space.history().last() {
-            Some(entry) => Ok(told_by(&entry.reply)),
-            None => Ok((0, 0, 0)),
-        },
-        Outcome::Drain(_) => Ok((5, 0, 0)),
-    }
+    replies(mount, 2, call)
 }
 
 /// Do all of these blocks lie in a memory of so many bytes?
@@ -433,28 +458,47 @@ fn new_volume(alloc: Global, blocks: u64, log: u16) -> Result<Option<Vec<u8>>, A
     Ok(Some(disk.bytes()))
 }
 
-/// Four calls for nodes in the root of a new volume, two of them after a drain: what has become of each.
+/// A new volume of so many blocks of 1,024 bytes, with a log of so many, mounted.
+fn new_mount(alloc: Global, blocks: u64, log: u16) -> Result<Mount, Fail>
+    requires some { 1 ≤ blocks }
+    requires few { blocks ≤ 4096 }
+    requires low { 2 ≤ log }
+    requires high { log ≤ 2048 }
+{
+    let Some(bytes) = new_volume(alloc, blocks, log)? else {
+        return Err(Fail::from("no volume"));
+    };
+    match mounts(alloc, bytes, blocks as usize)? {
+        Some(mount) => Ok(mount),
+        None => Err(Fail::from("no mount")),
+    }
+}
+
+/// Four calls for nodes in a directory, two of them after a drain: what has become of each. Nothing is told where the drain didn't go well.
+fn makes_twice(
+    alloc: Global,
+    mount: &mut Mount,
+    dir: u64,
+) -> Result<[(u8, u64, u64); 4], AllocError> {
+    let first = asks(alloc, mount, dir, b'a', MakeKind::File)?;
+    let second = asks(alloc, mount, dir, b'b', MakeKind::Dir)?;
+    if drains(mount) == 0 {
+        return Ok([(9, 0, 0); 4]);
+    }
+    let third = asks(alloc, mount, dir, b'b', MakeKind::Dir)?;
+    let fourth = asks(alloc, mount, dir, b'a', MakeKind::File)?;
+    Ok([first, second, third, fourth])
+}
+
+/// These calls in the root of a new volume.
 fn two_calls(alloc: Global, blocks: u64, log: u16, root: u64) -> Result<[(u8, u64, u64); 4], Fail>
     requires some { 1 ≤ blocks }
     requires few { blocks ≤ 4096 }
     requires low { 2 ≤ log }
     requires high { log ≤ 2048 }
 {
-    let nothing = (9, 0, 0);
-    let Some(bytes) = new_volume(alloc, blocks, log)? else {
-        return Ok([nothing; 4]);
-    };
-    let Some(mut mount) = mounts(alloc, bytes, blocks as usize)? else {
-        return Ok([nothing; 4]);
-    };
-    let first = asks(alloc, &mut mount, root, b'a', MakeKind::File)?;
-    let second = asks(alloc, &mut mount, root, b'b', MakeKind::Dir)?;
-    if drains(&mut mount) == 0 {
-        return Ok([nothing; 4]);
-    }
-    let third = asks(alloc, &mut mount, root, b'b', MakeKind::Dir)?;
-    let fourth = asks(alloc, &mut mount, root, b'a', MakeKind::File)?;
-    Ok([first, second, third, fourth])
+    let mut mount = new_mount(alloc, blocks, log)?;
+    Ok(makes_twice(alloc, &mut mount, root)?)
 }
 
 #[test]
@@ -470,32 +514,28 @@ fn a_node_is_made_refused_put_off_or_turned_away_for_want_of_space(
     Ok(())
 }
 
-/// What is read of a file before and after its mode is set, and of the root.
-fn set_and_read(mount: &mut Mount, id: u64) -> Result<[(u8, u64, u64); 6], AllocError> {
-    let before = asks_of(mount, 1, id)?;
-    let set = asks_of(mount, 0, id)?;
-    let after = asks_of(mount, 1, id)?;
-    let names = asks_of(mount, 2, 514)?;
-    let link = asks_of(mount, 3, id)?;
-    let nowhere = asks_of(mount, 0, 4000)?;
-    Ok([before, set, after, names, link, nowhere])
+/// The replies to a file that is made, what is read of it before and after its mode is set, and of the root.
+fn set_and_read(alloc: Global, mount: &mut Mount) -> Result<[(u8, u64, u64); 7], AllocError> {
+    Ok([
+        asks(alloc, mount, 514, b'a', MakeKind::File)?,
+        asks_of(mount, 1, 529)?,
+        asks_of(mount, 0, 529)?,
+        asks_of(mount, 1, 529)?,
+        asks_of(mount, 2, 514)?,
+        asks_of(mount, 3, 529)?,
+        asks_of(mount, 0, 4000)?,
+    ])
 }
 
 #[test]
 fn a_mode_is_set_and_read_back(rt: HostRuntime) -> Result<(), Fail> {
     let alloc = rt.alloc();
-    let Some(bytes) = new_volume(alloc, 4096, 512)? else {
-        return Err(Fail::from("no volume"));
-    };
-    let Some(mut mount) = mounts(alloc, bytes, 4096)? else {
-        return Err(Fail::from("no mount"));
-    };
-    let made = asks(alloc, &mut mount, 514, b'a', MakeKind::File)?;
-    let told = set_and_read(&mut mount, 529)?;
-    assert_eq!(rt; made, (1, 529, 0));
+    let mut mount = new_mount(alloc, 4096, 512)?;
+    let told = set_and_read(alloc, &mut mount)?;
     assert_eq!(rt;
         told,
         [
+            (1, 529, 0),
             (7, 0o755, 514),
             (6, 0, 0),
             (7, 0o600, 514),
@@ -510,12 +550,7 @@ fn a_mode_is_set_and_read_back(rt: HostRuntime) -> Result<(), Fail> {
 #[test]
 fn a_directory_does_not_fit_a_log_of_four_blocks(rt: HostRuntime) -> Result<(), Fail> {
     let alloc = rt.alloc();
-    let Some(bytes) = new_volume(alloc, 4096, 4)? else {
-        return Err(Fail::from("no volume"));
-    };
-    let Some(mut mount) = mounts(alloc, bytes, 4096)? else {
-        return Err(Fail::from("no mount"));
-    };
+    let mut mount = new_mount(alloc, 4096, 4)?;
     // The root's inode stands behind block 0, the bitmap and the log.
     let made = asks(alloc, &mut mount, 6, b'a', MakeKind::Dir)?;
     assert_eq!(rt; made, (4, 7, 3));
@@ -536,6 +571,20 @@ fn put_attribute(bytes: &mut [u8], at: usize) -> bool {
         bytes[at + 232 + i] = item[i];
     }
     true
+}
+
+/// A new volume whose root has the attribute, mounted.
+fn mount_with_attribute(alloc: Global) -> Result<Mount, Fail> {
+    let Some(mut bytes) = new_volume(alloc, 4096, 512)? else {
+        return Err(Fail::from("no volume"));
+    };
+    if !put_attribute(&mut bytes, 514 * 1024) {
+        return Err(Fail::from("no attribute"));
+    }
+    match mounts(alloc, bytes, 4096)? {
+        Some(mount) => Ok(mount),
+        None => Err(Fail::from("no mount")),
+    }
 }
 
 /// The key of a text.
@@ -624,17 +673,7 @@ fn takes(
     index: bool,
 ) -> Result<(u8, u64, u64), AllocError> {
     let call = taking_call(alloc, dir, name, index)?;
-    let answers = Calls {};
-    match mount
-        .space
-        .call(&answers, &mut mount.under, 1, 4, 1000, call)?
-    {
-        Outcome::Replied => match mount.space.history().last() {
-            Some(entry) => Ok(told_by(&entry.reply)),
-            None => Ok((0, 0, 0)),
-        },
-        Outcome::Drain(_) => Ok((5, 0, 0)),
-    }
+    replies(mount, 4, call)
 }
 
 /// The replies around a file that is made in the root and removed.
@@ -683,12 +722,7 @@ fn makes_again(alloc: Global, mount: &mut Mount) -> Result<[(u8, u64, u64); 6], 
 #[test]
 fn what_is_removed_is_gone_and_its_blocks_serve_again(rt: HostRuntime) -> Result<(), Fail> {
     let alloc = rt.alloc();
-    let Some(bytes) = new_volume(alloc, 4096, 512)? else {
-        return Err(Fail::from("no volume"));
-    };
-    let Some(mut mount) = mounts(alloc, bytes, 4096)? else {
-        return Err(Fail::from("no mount"));
-    };
+    let mut mount = new_mount(alloc, 4096, 512)?;
     let first = makes_and_removes_file(alloc, &mut mount)?;
     assert_eq!(rt;
         first,
@@ -724,17 +758,7 @@ fn what_is_removed_is_gone_and_its_blocks_serve_again(rt: HostRuntime) -> Result
 /// The reply to a call that gives a file a size.
 fn sizes(mount: &mut Mount, id: u64, size: u64) -> Result<(u8, u64, u64), AllocError> {
     let call = Call::SetSize { id, size };
-    let answers = Calls {};
-    match mount
-        .space
-        .call(&answers, &mut mount.under, 1, 5, 1000, call)?
-    {
-        Outcome::Replied => match mount.space.history().last() {
-            Some(entry) => Ok(told_by(&entry.reply)),
-            None => Ok((0, 0, 0)),
-        },
-        Outcome::Drain(_) => Ok((5, 0, 0)),
-    }
+    replies(mount, 5, call)
 }
 
 /// The size that is read of a node, or the largest number where none is.
@@ -754,60 +778,92 @@ fn size_in(reply: &Reply) -> u64 {
     }
 }
 
+/// One thing that is done with a volume whose first file is the node 529.
+#[derive(Clone, Copy)]
+enum Step {
+    /// A file with a name of one letter is made in the root.
+    Make(u8),
+    /// The file 529 is given a size.
+    Resize(u64),
+    /// The size of the file 529 is read.
+    Size,
+    /// What is open leaves the log: the used blocks.
+    Drain,
+}
+
+/// What came of a step: the reply to a call, and of a number 0, that number and 0.
+fn comes_of(alloc: Global, mount: &mut Mount, step: Step) -> Result<(u8, u64, u64), AllocError> {
+    match step {
+        Step::Make(name) => asks(alloc, mount, 514, name, MakeKind::File),
+        Step::Resize(size) => sizes(mount, 529, size),
+        Step::Size => Ok((0, size_of(mount, 529)?, 0)),
+        Step::Drain => Ok((0, drains(mount), 0)),
+    }
+}
+
+/// How many of the steps come to what is said, one after another, before the first that doesn't.
+fn come_to(
+    alloc: Global,
+    mount: &mut Mount,
+    table: &[(Step, (u8, u64, u64))],
+) -> Result<usize, AllocError> {
+    for (i, row) in table.iter().enumerate() {
+        if comes_of(alloc, mount, row.0)? != row.1 {
+            return Ok(i);
+        }
+    }
+    Ok(table.len())
+}
+
 #[test]
 fn a_file_grows_and_the_blocks_of_what_is_cut_serve_again(rt: HostRuntime) -> Result<(), Fail> {
     let alloc = rt.alloc();
-    let Some(bytes) = new_volume(alloc, 4096, 512)? else {
-        return Err(Fail::from("no volume"));
-    };
-    let Some(mut mount) = mounts(alloc, bytes, 4096)? else {
-        return Err(Fail::from("no mount"));
-    };
-    let file = asks(alloc, &mut mount, 514, b'a', MakeKind::File)?;
-    assert_eq!(rt; file, (1, 529, 0));
-    // 5,000 bytes have five blocks, those behind the inode: with it six are used beside the 529 of the new volume.
-    assert_eq!(rt; sizes(&mut mount, 529, 5000)?, (6, 0, 0));
-    assert_eq!(rt; size_of(&mut mount, 529)?, 5000);
-    assert_eq!(rt; drains(&mut mount), 535);
-    // Two of them hold 1,025 bytes, and the others wait for the group to leave the log.
-    assert_eq!(rt; sizes(&mut mount, 529, 1025)?, (6, 0, 0));
-    assert_eq!(rt; size_of(&mut mount, 529)?, 1025);
-    let other = asks(alloc, &mut mount, 514, b'b', MakeKind::File)?;
-    assert_eq!(rt; other, (1, 535, 0));
-    assert_eq!(rt; drains(&mut mount), 533);
-    let again = asks(alloc, &mut mount, 514, b'c', MakeKind::File)?;
-    assert_eq!(rt; again, (1, 532, 0));
-    assert_eq!(rt; sizes(&mut mount, 529, 0)?, (6, 0, 0));
-    assert_eq!(rt; size_of(&mut mount, 529)?, 0);
-    // Three inodes, and a page of the index of sizes for the files of one size.
-    assert_eq!(rt; drains(&mut mount), 533);
+    let table: [(Step, (u8, u64, u64)); 12] = [
+        (Step::Make(b'a'), (1, 529, 0)),
+        // 5,000 bytes have five blocks, those behind the inode: with it six are used beside the 529 of the new volume.
+        (Step::Resize(5000), (6, 0, 0)),
+        (Step::Size, (0, 5000, 0)),
+        (Step::Drain, (0, 535, 0)),
+        // Two of them hold 1,025 bytes, and the others wait for the group to leave the log.
+        (Step::Resize(1025), (6, 0, 0)),
+        (Step::Size, (0, 1025, 0)),
+        (Step::Make(b'b'), (1, 535, 0)),
+        (Step::Drain, (0, 533, 0)),
+        (Step::Make(b'c'), (1, 532, 0)),
+        (Step::Resize(0), (6, 0, 0)),
+        (Step::Size, (0, 0, 0)),
+        // Three inodes, and a page of the index of sizes for the files of one size.
+        (Step::Drain, (0, 533, 0)),
+    ];
+    let mut mount = new_mount(alloc, 4096, 512)?;
+    let right = come_to(alloc, &mut mount, &table)?;
+    assert_eq!(rt; right, 12);
     Ok(())
 }
 
 #[test]
 fn a_size_is_put_off_or_turned_away_for_want_of_space(rt: HostRuntime) -> Result<(), Fail> {
     let alloc = rt.alloc();
-    let Some(bytes) = new_volume(alloc, 533, 512)? else {
-        return Err(Fail::from("no volume"));
-    };
-    let Some(mut mount) = mounts(alloc, bytes, 533)? else {
-        return Err(Fail::from("no mount"));
-    };
-    let file = asks(alloc, &mut mount, 514, b'a', MakeKind::File)?;
-    assert_eq!(rt; file, (1, 529, 0));
-    // Three blocks are free, and 5,000 bytes want five; as an array has four, eight count. What the log holds: 28 for each of two rows in the
-    // indices of sizes and of stamps, 1 + 3 * 4 blocks of arrays, 1 of the bitmap, and 8. So 112 + 13 + 1 + 8 = 134, and with the eight 142.
-    assert_eq!(rt; sizes(&mut mount, 529, 5000)?, (5, 0, 0));
-    assert_eq!(rt; drains(&mut mount), 530);
-    assert_eq!(rt; sizes(&mut mount, 529, 5000)?, (3, 3, 142));
-    assert_eq!(rt; size_of(&mut mount, 529)?, 0);
-    // 3,000 bytes take all three; once they are given back they wait for the group to leave the log.
-    assert_eq!(rt; sizes(&mut mount, 529, 3000)?, (6, 0, 0));
-    assert_eq!(rt; sizes(&mut mount, 529, 0)?, (6, 0, 0));
-    assert_eq!(rt; sizes(&mut mount, 529, 3000)?, (5, 0, 0));
-    assert_eq!(rt; drains(&mut mount), 530);
-    assert_eq!(rt; sizes(&mut mount, 529, 3000)?, (6, 0, 0));
-    assert_eq!(rt; drains(&mut mount), 533);
+    let table: [(Step, (u8, u64, u64)); 11] = [
+        (Step::Make(b'a'), (1, 529, 0)),
+        // Three blocks are free, and 5,000 bytes want five; as an array has four, eight count. What the log holds: 28 for each of two rows in
+        // the indices of sizes and of stamps, 1 + 3 * 4 blocks of arrays, 1 of the bitmap, and 8. So 112 + 13 + 1 + 8 = 134, and with the
+        // eight 142.
+        (Step::Resize(5000), (5, 0, 0)),
+        (Step::Drain, (0, 530, 0)),
+        (Step::Resize(5000), (3, 3, 142)),
+        (Step::Size, (0, 0, 0)),
+        // 3,000 bytes take all three; once they are given back they wait for the group to leave the log.
+        (Step::Resize(3000), (6, 0, 0)),
+        (Step::Resize(0), (6, 0, 0)),
+        (Step::Resize(3000), (5, 0, 0)),
+        (Step::Drain, (0, 530, 0)),
+        (Step::Resize(3000), (6, 0, 0)),
+        (Step::Drain, (0, 533, 0)),
+    ];
+    let mut mount = new_mount(alloc, 533, 512)?;
+    let right = come_to(alloc, &mut mount, &table)?;
+    assert_eq!(rt; right, 11);
     Ok(())
 }
 
@@ -843,12 +899,7 @@ fn sizes_held(alloc: Global, mount: &mut Mount) -> Result<[(u8, u64, u64); 3], A
 #[test]
 fn a_size_is_refused_where_it_is_too_big_or_the_file_is_held(rt: HostRuntime) -> Result<(), Fail> {
     let alloc = rt.alloc();
-    let Some(bytes) = new_volume(alloc, 4096, 512)? else {
-        return Err(Fail::from("no volume"));
-    };
-    let Some(mut mount) = mounts(alloc, bytes, 4096)? else {
-        return Err(Fail::from("no mount"));
-    };
+    let mut mount = new_mount(alloc, 4096, 512)?;
     let refused = refuses_sizes(alloc, &mut mount)?;
     assert_eq!(rt; refused, [(1, 529, 0), (22, 0, 0), (23, 0, 0), (11, 0, 0)]);
     let held = sizes_held(alloc, &mut mount)?;
@@ -859,32 +910,25 @@ fn a_size_is_refused_where_it_is_too_big_or_the_file_is_held(rt: HostRuntime) ->
 /// The reply to one of the calls that read attributes or indices.
 fn reads(alloc: Global, mount: &mut Mount, which: u8) -> Result<(u8, u64, u64), AllocError> {
     let call = read_call(alloc, which)?;
-    let answers = Calls {};
-    match mount
-        .space
-        .call(&answers, &mut mount.under, 1, 3, 1000, call)?
-    {
-        Outcome::Replied => match mount.space.history().last() {
-            Some(entry) => Ok(told_by(&entry.reply)),
-            None => Ok((0, 0, 0)),
-        },
-        Outcome::Drain(_) => Ok((5, 0, 0)),
+    replies(mount, 3, call)
+}
+
+/// The reply to a file that is made, and those to each of the first eight of these calls.
+fn makes_and_reads(alloc: Global, mount: &mut Mount) -> Result<[(u8, u64, u64); 9], AllocError> {
+    let made = asks(alloc, mount, 514, b'a', MakeKind::File)?;
+    let mut told = [made; 9];
+    for which in 0..8u8 {
+        told[which as usize + 1] = reads(alloc, mount, which)?;
     }
+    Ok(told)
 }
 
 #[test]
 fn attributes_and_indices_are_read(rt: HostRuntime) -> Result<(), Fail> {
     let alloc = rt.alloc();
-    let Some(mut bytes) = new_volume(alloc, 4096, 512)? else {
-        return Err(Fail::from("no volume"));
-    };
-    assert!(rt; put_attribute(&mut bytes, 514 * 1024));
-    let Some(mut mount) = mounts(alloc, bytes, 4096)? else {
-        return Err(Fail::from("no mount"));
-    };
-    let made = asks(alloc, &mut mount, 514, b'a', MakeKind::File)?;
-    assert_eq!(rt; made, (1, 529, 0));
-    let wanted: [(u8, u64, u64); 8] = [
+    let mut mount = mount_with_attribute(alloc)?;
+    let wanted: [(u8, u64, u64); 9] = [
+        (1, 529, 0),
         (13, 1, 0),
         (12, 0x43535452, 4),
         (14, 0, 0),
@@ -894,9 +938,7 @@ fn attributes_and_indices_are_read(rt: HostRuntime) -> Result<(), Fail> {
         (17, 0, 0),
         (18, 0, 0),
     ];
-    for which in 0..8u8 {
-        assert_eq!(rt; reads(alloc, &mut mount, which)?, wanted[which as usize]);
-    }
+    assert_eq!(rt; makes_and_reads(alloc, &mut mount)?, wanted);
     Ok(())
 }
 
@@ -919,36 +961,39 @@ fn drops(
     name: &[u8],
 ) -> Result<(u8, u64, u64), AllocError> {
     let call = dropping_call(alloc, id, name)?;
-    let answers = Calls {};
-    match mount
-        .space
-        .call(&answers, &mut mount.under, 1, 5, 1000, call)?
-    {
-        Outcome::Replied => match mount.space.history().last() {
-            Some(entry) => Ok(told_by(&entry.reply)),
-            None => Ok((0, 0, 0)),
-        },
-        Outcome::Drain(_) => Ok((5, 0, 0)),
-    }
+    replies(mount, 5, call)
+}
+
+/// The replies around an attribute that is removed.
+fn drops_and_reads(alloc: Global, mount: &mut Mount) -> Result<[(u8, u64, u64); 7], AllocError> {
+    Ok([
+        drops(alloc, mount, 4000, b"k")?,
+        drops(alloc, mount, 514, b"l")?,
+        reads(alloc, mount, 0)?,
+        drops(alloc, mount, 514, b"k")?,
+        reads(alloc, mount, 0)?,
+        reads(alloc, mount, 1)?,
+        drops(alloc, mount, 514, b"k")?,
+    ])
 }
 
 #[test]
 fn an_attribute_that_is_removed_is_gone(rt: HostRuntime) -> Result<(), Fail> {
     let alloc = rt.alloc();
-    let Some(mut bytes) = new_volume(alloc, 4096, 512)? else {
-        return Err(Fail::from("no volume"));
-    };
-    assert!(rt; put_attribute(&mut bytes, 514 * 1024));
-    let Some(mut mount) = mounts(alloc, bytes, 4096)? else {
-        return Err(Fail::from("no mount"));
-    };
-    assert_eq!(rt; drops(alloc, &mut mount, 4000, b"k")?, (11, 0, 0));
-    assert_eq!(rt; drops(alloc, &mut mount, 514, b"l")?, (14, 0, 0));
-    assert_eq!(rt; reads(alloc, &mut mount, 0)?, (13, 1, 0));
-    assert_eq!(rt; drops(alloc, &mut mount, 514, b"k")?, (6, 0, 0));
-    assert_eq!(rt; reads(alloc, &mut mount, 0)?, (13, 0, 0));
-    assert_eq!(rt; reads(alloc, &mut mount, 1)?, (14, 0, 0));
-    assert_eq!(rt; drops(alloc, &mut mount, 514, b"k")?, (14, 0, 0));
+    let mut mount = mount_with_attribute(alloc)?;
+    let told = drops_and_reads(alloc, &mut mount)?;
+    assert_eq!(rt;
+        told,
+        [
+            (11, 0, 0),
+            (14, 0, 0),
+            (13, 1, 0),
+            (6, 0, 0),
+            (13, 0, 0),
+            (14, 0, 0),
+            (14, 0, 0)
+        ]
+    );
     Ok(())
 }
 
@@ -981,17 +1026,7 @@ fn writes(
     requires few { length ≤ 65537 }
 {
     let call = writing_call(alloc, id, name, length)?;
-    let answers = Calls {};
-    match mount
-        .space
-        .call(&answers, &mut mount.under, 1, 6, 1000, call)?
-    {
-        Outcome::Replied => match mount.space.history().last() {
-            Some(entry) => Ok(told_by(&entry.reply)),
-            None => Ok((0, 0, 0)),
-        },
-        Outcome::Drain(_) => Ok((5, 0, 0)),
-    }
+    replies(mount, 6, call)
 }
 
 /// Writes the attribute `k` of the root with so many bytes, reads it, and lets the group leave the log: the reply, what is read, and the used
@@ -1000,32 +1035,58 @@ fn writes_and_drains(
     alloc: Global,
     mount: &mut Mount,
     length: usize,
-) -> Result<((u8, u64, u64), (u8, u64, u64), u64), AllocError>
+) -> Result<[(u8, u64, u64); 3], AllocError>
     requires few { length ≤ 65537 }
 {
     let reply = writes(alloc, mount, 514, b"k", length)?;
     let read = reads(alloc, mount, 1)?;
-    Ok((reply, read, drains(mount)))
+    Ok([reply, read, (0, drains(mount), 0)])
+}
+
+/// How many of these lengths are written and read, and leave so many used blocks, one after another, before the first that doesn't.
+fn are_written(
+    alloc: Global,
+    mount: &mut Mount,
+    table: &[(usize, u64)],
+) -> Result<usize, AllocError> {
+    for (i, row) in table.iter().enumerate() {
+        let (length, used) = *row;
+        if length > 65536 {
+            return Ok(i);
+        }
+        let wanted = [(6, 0, 0), (12, 0x4c4f4e47, length as u64), (0, used, 0)];
+        if writes_and_drains(alloc, mount, length)? != wanted {
+            return Ok(i);
+        }
+    }
+    Ok(table.len())
+}
+
+/// How many lengths are written so; and the replies where there is no node, where the name is bad, and where there are too many bytes.
+fn exchanges(
+    alloc: Global,
+    mount: &mut Mount,
+    table: &[(usize, u64)],
+) -> Result<[(u8, u64, u64); 4], AllocError> {
+    let written = are_written(alloc, mount, table)? as u64;
+    Ok([
+        (0, written, 0),
+        writes(alloc, mount, 4000, b"k", 1)?,
+        writes(alloc, mount, 514, b"", 1)?,
+        writes(alloc, mount, 514, b"k", 65537)?,
+    ])
 }
 
 #[test]
 fn an_attribute_is_written_read_and_exchanged(rt: HostRuntime) -> Result<(), Fail> {
     let alloc = rt.alloc();
-    let Some(bytes) = new_volume(alloc, 4096, 512)? else {
-        return Err(Fail::from("no volume"));
-    };
-    let Some(mut mount) = mounts(alloc, bytes, 4096)? else {
-        return Err(Fail::from("no mount"));
-    };
     // In small data it takes no block. With 3,000 bytes it has an inode and three blocks, and the attribute directory an inode and two.
     let table: [(usize, u64); 3] = [(5, 529), (3000, 536), (4, 529)];
-    for (length, used) in table {
-        let wanted = ((6, 0, 0), (12, 0x4c4f4e47, length as u64), used);
-        assert_eq!(rt; writes_and_drains(alloc, &mut mount, length)?, wanted);
-    }
-    assert_eq!(rt; writes(alloc, &mut mount, 4000, b"k", 1)?, (11, 0, 0));
-    assert_eq!(rt; writes(alloc, &mut mount, 514, b"", 1)?, (25, 0, 0));
-    assert_eq!(rt; writes(alloc, &mut mount, 514, b"k", 65537)?, (22, 0, 0));
+    let told = {
+        let mut mount = new_mount(alloc, 4096, 512)?;
+        exchanges(alloc, &mut mount, &table)?
+    };
+    assert_eq!(rt; told, [(0, 3, 0), (11, 0, 0), (25, 0, 0), (22, 0, 0)]);
     Ok(())
 }
 
@@ -1062,17 +1123,7 @@ fn renames(
     to_name: &[u8],
 ) -> Result<(u8, u64, u64), AllocError> {
     let call = renaming_call(alloc, dir, name, to_dir, to_name)?;
-    let answers = Calls {};
-    match mount
-        .space
-        .call(&answers, &mut mount.under, 1, 8, 1000, call)?
-    {
-        Outcome::Replied => match mount.space.history().last() {
-            Some(entry) => Ok(told_by(&entry.reply)),
-            None => Ok((0, 0, 0)),
-        },
-        Outcome::Drain(_) => Ok((5, 0, 0)),
-    }
+    replies(mount, 8, call)
 }
 
 /// What is read of the file and of both directories after a rename: the file's parent, how many names the directories have, and the file that the
@@ -1085,60 +1136,109 @@ fn places(alloc: Global, mount: &mut Mount) -> Result<[(u8, u64, u64); 4], Alloc
     Ok([file, root, dir, listed])
 }
 
-/// A mount of a new volume with the file `a` and the directory `d` in its root: 529 and 530. None where they can't be made.
-fn mount_of_two(alloc: Global) -> Result<Option<Mount>, Fail> {
-    let Some(bytes) = new_volume(alloc, 4096, 512)? else {
-        return Ok(None);
-    };
-    let Some(mut mount) = mounts(alloc, bytes, 4096)? else {
-        return Ok(None);
-    };
-    let file = asks(alloc, &mut mount, 514, b'a', MakeKind::File)?;
-    let dir = asks(alloc, &mut mount, 514, b'd', MakeKind::Dir)?;
-    if file != (1, 529, 0) || dir != (1, 530, 0) {
-        return Ok(None);
+/// Makes the file `a` and the directory `d` in the root: 529 and 530.
+fn makes_two(alloc: Global, mount: &mut Mount) -> Result<bool, AllocError> {
+    let file = asks(alloc, mount, 514, b'a', MakeKind::File)?;
+    let dir = asks(alloc, mount, 514, b'd', MakeKind::Dir)?;
+    Ok(file == (1, 529, 0) && dir == (1, 530, 0))
+}
+
+/// A mount of a new volume with these two.
+fn mount_of_two(alloc: Global) -> Result<Mount, Fail> {
+    let mut mount = new_mount(alloc, 4096, 512)?;
+    if !makes_two(alloc, &mut mount)? {
+        return Err(Fail::from("no nodes"));
     }
-    Ok(Some(mount))
+    Ok(mount)
+}
+
+/// A directory and a name of one letter in it.
+type Place = (u64, u8);
+
+/// A renaming, and what is read then: the file's parent, the names in the root and in the other directory, and what is listed under `a`.
+type Moved = (Place, Place, u64, u64, u64, (u64, u64));
+
+/// Whether a renaming is done, and leaves what is said.
+fn moves_as_told(alloc: Global, mount: &mut Mount, row: Moved) -> Result<bool, AllocError> {
+    let (from, to, parent, root, dir, (rows, first)) = row;
+    let reply = renames(alloc, mount, from.0, &[from.1], to.0, &[to.1])?;
+    let wanted = [
+        (7, 0o755, parent),
+        (8, root, 0),
+        (8, dir, 0),
+        (16, rows, first),
+    ];
+    Ok(reply == (6, 0, 0) && places(alloc, mount)? == wanted)
+}
+
+/// How many renamings leave what is said, one after another, before the first that doesn't.
+fn move_as_told(alloc: Global, mount: &mut Mount, table: &[Moved]) -> Result<usize, AllocError> {
+    for (i, row) in table.iter().enumerate() {
+        if !moves_as_told(alloc, mount, *row)? {
+            return Ok(i);
+        }
+    }
+    Ok(table.len())
 }
 
 #[test]
 fn a_node_is_renamed_in_its_directory_and_into_another(rt: HostRuntime) -> Result<(), Fail> {
     let alloc = rt.alloc();
-    let Some(mut mount) = mount_of_two(alloc)? else {
-        return Err(Fail::from("no mount"));
-    };
     // From, to, the parent then, the names in the root and in the other directory, and what is listed under `a`.
-    let table: [((u64, u8), (u64, u8), u64, u64, u64, (u64, u64)); 4] = [
+    let table: [Moved; 4] = [
         ((514, b'a'), (530, b'b'), 530, 1, 1, (0, 0)),
         ((530, b'b'), (530, b'a'), 530, 1, 1, (1, 529)),
         ((530, b'a'), (530, b'a'), 530, 1, 1, (1, 529)),
         ((530, b'a'), (514, b'a'), 514, 2, 0, (1, 529)),
     ];
-    for (from, to, parent, root, dir, (rows, first)) in table {
-        let reply = renames(alloc, &mut mount, from.0, &[from.1], to.0, &[to.1])?;
-        assert_eq!(rt; reply, (6, 0, 0));
-        let wanted = [
-            (7, 0o755, parent),
-            (8, root, 0),
-            (8, dir, 0),
-            (16, rows, first),
-        ];
-        assert_eq!(rt; places(alloc, &mut mount)?, wanted);
-    }
+    let mut mount = mount_of_two(alloc)?;
+    let right = move_as_told(alloc, &mut mount, &table)?;
+    assert_eq!(rt; right, 4);
     Ok(())
+}
+
+/// A mount of a new volume with these two, and the file `b` in the directory.
+fn mount_of_three(alloc: Global) -> Result<Mount, Fail> {
+    let mut mount = mount_of_two(alloc)?;
+    if asks(alloc, &mut mount, 530, b'b', MakeKind::File)? != (1, 533, 0) {
+        return Err(Fail::from("no file"));
+    }
+    Ok(mount)
+}
+
+/// How many renamings have the reply that is said, one after another, before the first that hasn't.
+fn are_answered(
+    alloc: Global,
+    mount: &mut Mount,
+    table: &[(Place, Place, u8)],
+) -> Result<usize, AllocError> {
+    for (i, row) in table.iter().enumerate() {
+        let (from, to, reply) = *row;
+        if renames(alloc, mount, from.0, &[from.1], to.0, &[to.1])? != (reply, 0, 0) {
+            return Ok(i);
+        }
+    }
+    Ok(table.len())
+}
+
+/// How many renamings are answered so; what is read of the places then; and how many nodes there are.
+fn renames_each(
+    alloc: Global,
+    mount: &mut Mount,
+    table: &[(Place, Place, u8)],
+) -> Result<[(u8, u64, u64); 6], AllocError> {
+    let answered = are_answered(alloc, mount, table)? as u64;
+    let [file, root, dir, listed] = places(alloc, mount)?;
+    let nodes = mount.space.nodes();
+    Ok([(0, answered, 0), file, root, dir, listed, (0, nodes, 0)])
 }
 
 #[test]
 fn a_node_takes_the_place_of_another_or_its_name_is_refused(rt: HostRuntime) -> Result<(), Fail> {
     let alloc = rt.alloc();
-    let Some(mut mount) = mount_of_two(alloc)? else {
-        return Err(Fail::from("no mount"));
-    };
-    let other = asks(alloc, &mut mount, 530, b'b', MakeKind::File)?;
-    assert_eq!(rt; other, (1, 533, 0));
     // No such name, no directory to leave or to come to, a bad name, a directory into itself, one over a file and the other way round, and
     // at last a file over a file.
-    let table: [((u64, u8), (u64, u8), u8); 8] = [
+    let table: [(Place, Place, u8); 8] = [
         ((514, b'x'), (514, b'y'), 11),
         ((529, b'x'), (514, b'y'), 21),
         ((514, b'a'), (529, b'y'), 21),
@@ -1148,14 +1248,20 @@ fn a_node_takes_the_place_of_another_or_its_name_is_refused(rt: HostRuntime) -> 
         ((514, b'a'), (514, b'd'), 2),
         ((530, b'b'), (514, b'a'), 6),
     ];
-    for (from, to, reply) in table {
-        let said = renames(alloc, &mut mount, from.0, &[from.1], to.0, &[to.1])?;
-        assert_eq!(rt; said, (reply, 0, 0));
-    }
-    let wanted = [(11, 0, 0), (8, 2, 0), (8, 0, 0), (16, 1, 533)];
-    assert_eq!(rt; places(alloc, &mut mount)?, wanted);
-    // The root, the directory and one file: three were made, and one has gone.
-    assert_eq!(rt; mount.space.nodes(), 3);
+    let mut mount = mount_of_three(alloc)?;
+    let told = renames_each(alloc, &mut mount, &table)?;
+    assert_eq!(rt;
+        told,
+        [
+            (0, 8, 0),
+            (11, 0, 0),
+            (8, 2, 0),
+            (8, 0, 0),
+            (16, 1, 533),
+            // The root, the directory and one file: three were made, and one has gone.
+            (0, 3, 0)
+        ]
+    );
     Ok(())
 }
 
@@ -1165,26 +1271,45 @@ fn renames_and_drains(
     mount: &mut Mount,
     name: &[u8],
     to_name: &[u8],
-) -> Result<((u8, u64, u64), (u8, u64, u64), u64), AllocError> {
+) -> Result<[(u8, u64, u64); 3], AllocError> {
     let reply = renames(alloc, mount, 514, name, 514, to_name)?;
     let read = reads(alloc, mount, 9)?;
-    Ok((reply, read, drains(mount)))
+    Ok([reply, read, (0, drains(mount), 0)])
+}
+
+/// Writes an attribute of 600 bytes, gives its file a long name, and then a short one: of each the reply, what is read, and the used blocks.
+fn moves_out(alloc: Global, mount: &mut Mount) -> Result<[(u8, u64, u64); 9], AllocError> {
+    let long = [b'n'; 255];
+    let reply = writes(alloc, mount, 529, b"k", 600)?;
+    let read = reads(alloc, mount, 9)?;
+    let used = drains(mount);
+    let far = renames_and_drains(alloc, mount, b"a", &long)?;
+    let near = renames_and_drains(alloc, mount, &long, b"a")?;
+    Ok([
+        reply,
+        read,
+        (0, used, 0),
+        far[0],
+        far[1],
+        far[2],
+        near[0],
+        near[1],
+        near[2],
+    ])
 }
 
 #[test]
 fn an_attribute_moves_out_of_small_data_for_a_longer_name(rt: HostRuntime) -> Result<(), Fail> {
     let alloc = rt.alloc();
-    let Some(mut mount) = mount_of_two(alloc)? else {
-        return Err(Fail::from("no mount"));
-    };
-    // Of 792 bytes the attribute takes 613, and a name 13 more than its bytes.
-    assert_eq!(rt; writes(alloc, &mut mount, 529, b"k", 600)?, (6, 0, 0));
-    assert_eq!(rt; drains(&mut mount), 533);
-    // The attribute has an inode and a block then, and the attribute directory an inode and two.
-    let long = [b'n'; 255];
-    let wanted = ((6, 0, 0), (12, 0x4c4f4e47, 600), 538);
-    assert_eq!(rt; renames_and_drains(alloc, &mut mount, b"a", &long)?, wanted);
-    assert_eq!(rt; renames_and_drains(alloc, &mut mount, &long, b"a")?, wanted);
+    let mut mount = mount_of_two(alloc)?;
+    let told = moves_out(alloc, &mut mount)?;
+    let done = (6, 0, 0);
+    let read = (12, 0x4c4f4e47, 600);
+    // Of 792 bytes the attribute takes 613, and a name 13 more than its bytes. With the long name the attribute has an inode and a block, and the
+    // attribute directory an inode and two.
+    let near = (0, 533, 0);
+    let far = (0, 538, 0);
+    assert_eq!(rt; told, [done, read, near, done, read, far, done, read, far]);
     Ok(())
 }
 
@@ -1207,17 +1332,7 @@ fn indexes(
     kind: KeyKind,
 ) -> Result<(u8, u64, u64), AllocError> {
     let call = indexing_call(alloc, name, kind)?;
-    let answers = Calls {};
-    match mount
-        .space
-        .call(&answers, &mut mount.under, 1, 7, 1000, call)?
-    {
-        Outcome::Replied => match mount.space.history().last() {
-            Some(entry) => Ok(told_by(&entry.reply)),
-            None => Ok((0, 0, 0)),
-        },
-        Outcome::Drain(_) => Ok((5, 0, 0)),
-    }
+    replies(mount, 7, call)
 }
 
 /// The replies to an index that is made over three nodes with an attribute. Five bytes are no number, so that the third node has no row.
@@ -1256,12 +1371,7 @@ fn keeps_index_of_attribute(
 #[test]
 fn an_index_lists_the_nodes_that_have_its_attribute(rt: HostRuntime) -> Result<(), Fail> {
     let alloc = rt.alloc();
-    let Some(bytes) = new_volume(alloc, 4096, 512)? else {
-        return Err(Fail::from("no volume"));
-    };
-    let Some(mut mount) = mounts(alloc, bytes, 4096)? else {
-        return Err(Fail::from("no mount"));
-    };
+    let mut mount = new_mount(alloc, 4096, 512)?;
     let done = (6, 0, 0);
     let made = makes_index_of_attribute(alloc, &mut mount)?;
     assert_eq!(rt;
@@ -1310,41 +1420,63 @@ fn without_indices(bytes: &mut [u8]) -> bool {
     true
 }
 
+/// The replies to an index that is there, to two of floating-point numbers, and to one with a bad name; and once 29 more are made how many there
+/// are, and the replies to one that is there and to a new one. Nothing is told where they aren't made.
+fn refuses_indices(alloc: Global, mount: &mut Mount) -> Result<[(u8, u64, u64); 7], AllocError> {
+    let there = indexes(alloc, mount, b"name", KeyKind::F32)?;
+    let float = indexes(alloc, mount, b"k", KeyKind::F32)?;
+    let double = indexes(alloc, mount, b"k", KeyKind::F64)?;
+    let unnamed = indexes(alloc, mount, b"", KeyKind::I32)?;
+    if !make_letters(alloc, mount, 29)? {
+        return Ok([(9, 0, 0); 7]);
+    }
+    let count = reads(alloc, mount, 4)?;
+    let letter = indexes(alloc, mount, b"A", KeyKind::I32)?;
+    let more = indexes(alloc, mount, b"k", KeyKind::I32)?;
+    Ok([there, float, double, unnamed, count, letter, more])
+}
+
 #[test]
 fn an_index_is_refused(rt: HostRuntime) -> Result<(), Fail> {
     let alloc = rt.alloc();
-    let Some(bytes) = new_volume(alloc, 4096, 512)? else {
+    let mut mount = new_mount(alloc, 4096, 512)?;
+    let told = refuses_indices(alloc, &mut mount)?;
+    assert_eq!(rt;
+        told,
+        [
+            (2, 0, 0),
+            (26, 0, 0),
+            (26, 0, 0),
+            (25, 0, 0),
+            (15, 32, 0),
+            (2, 0, 0),
+            (27, 0, 0)
+        ]
+    );
+    Ok(())
+}
+
+/// A new volume without an index directory, mounted.
+fn mount_without_indices(alloc: Global) -> Result<Mount, Fail> {
+    let Some(mut bytes) = new_volume(alloc, 4096, 512)? else {
         return Err(Fail::from("no volume"));
     };
-    let Some(mut mount) = mounts(alloc, bytes, 4096)? else {
-        return Err(Fail::from("no mount"));
-    };
-    assert_eq!(rt;
-        indexes(alloc, &mut mount, b"name", KeyKind::F32)?,
-        (2, 0, 0)
-    );
-    assert_eq!(rt; indexes(alloc, &mut mount, b"k", KeyKind::F32)?, (26, 0, 0));
-    assert_eq!(rt; indexes(alloc, &mut mount, b"k", KeyKind::F64)?, (26, 0, 0));
-    assert_eq!(rt; indexes(alloc, &mut mount, b"", KeyKind::I32)?, (25, 0, 0));
-    assert!(rt; make_letters(alloc, &mut mount, 29)?);
-    assert_eq!(rt; reads(alloc, &mut mount, 4)?, (15, 32, 0));
-    assert_eq!(rt; indexes(alloc, &mut mount, b"A", KeyKind::I32)?, (2, 0, 0));
-    assert_eq!(rt; indexes(alloc, &mut mount, b"k", KeyKind::I32)?, (27, 0, 0));
-    Ok(())
+    if !without_indices(&mut bytes) {
+        return Err(Fail::from("no superblock"));
+    }
+    match mounts(alloc, bytes, 4096)? {
+        Some(mount) => Ok(mount),
+        None => Err(Fail::from("no mount")),
+    }
 }
 
 #[test]
 fn no_index_is_made_where_there_is_no_index_directory(rt: HostRuntime) -> Result<(), Fail> {
     let alloc = rt.alloc();
-    let Some(mut bytes) = new_volume(alloc, 4096, 512)? else {
-        return Err(Fail::from("no volume"));
-    };
-    assert!(rt; without_indices(&mut bytes));
-    let Some(mut mount) = mounts(alloc, bytes, 4096)? else {
-        return Err(Fail::from("no mount"));
-    };
-    assert_eq!(rt; indexes(alloc, &mut mount, b"k", KeyKind::I32)?, (18, 0, 0));
-    assert_eq!(rt; indexes(alloc, &mut mount, b"k", KeyKind::F32)?, (18, 0, 0));
+    let mut mount = mount_without_indices(alloc)?;
+    let number = indexes(alloc, &mut mount, b"k", KeyKind::I32)?;
+    let float = indexes(alloc, &mut mount, b"k", KeyKind::F32)?;
+    assert_eq!(rt; [number, float], [(18, 0, 0), (18, 0, 0)]);
     Ok(())
 }
 
@@ -1396,21 +1528,25 @@ fn held_at(holds: &[Hold], i: usize) -> (u32, u64) {
 #[test]
 fn holds_are_those_that_done_entries_leave(rt: HostRuntime) -> Result<(), Fail> {
     let alloc = rt.alloc();
-    let mut holds = Vec::with_capacity(alloc, 8)?;
-    holds_since(&mut holds, 1, hold_of(600, 0), Reply::Done);
-    holds_since(&mut holds, 2, hold_of(600, 8), Reply::Done);
-    holds_since(&mut holds, 1, hold_of(600, 16), Reply::Done);
-    holds_since(&mut holds, 1, hold_of(601, 24), Reply::NotFound);
-    assert_eq!(rt; holds.len(), 3);
-    holds_since(&mut holds, 1, release_of(alloc, 600), Reply::Done);
-    assert_eq!(rt; holds.len(), 2);
-    assert_eq!(rt; held_at(&holds, 0), (1, 0));
-    assert_eq!(rt; held_at(&holds, 1), (2, 8));
-    holds_since(&mut holds, 1, release_of(alloc, 601), Reply::Done);
-    assert_eq!(rt; holds.len(), 2);
-    holds_since(&mut holds, 1, release_of(alloc, 600), Reply::Done);
-    assert_eq!(rt; holds.len(), 1);
-    assert_eq!(rt; held_at(&holds, 0), (2, 8));
+    let (counts, held) = {
+        let mut holds = Vec::with_capacity(alloc, 8)?;
+        holds_since(&mut holds, 1, hold_of(600, 0), Reply::Done);
+        holds_since(&mut holds, 2, hold_of(600, 8), Reply::Done);
+        holds_since(&mut holds, 1, hold_of(600, 16), Reply::Done);
+        holds_since(&mut holds, 1, hold_of(601, 24), Reply::NotFound);
+        let all = holds.len();
+        holds_since(&mut holds, 1, release_of(alloc, 600), Reply::Done);
+        let two = holds.len();
+        let first = held_at(&holds, 0);
+        let second = held_at(&holds, 1);
+        holds_since(&mut holds, 1, release_of(alloc, 601), Reply::Done);
+        let same = holds.len();
+        holds_since(&mut holds, 1, release_of(alloc, 600), Reply::Done);
+        let last = held_at(&holds, 0);
+        ([all, two, same, holds.len()], [first, second, last])
+    };
+    assert_eq!(rt; counts, [3, 2, 2, 1]);
+    assert_eq!(rt; held, [(1, 0), (2, 8), (2, 8)]);
     Ok(())
 }
 
@@ -1471,31 +1607,44 @@ fn takes_hold(
     }
 }
 
-/// A mount of a new volume with the file `a` of 5,000 bytes, whose inode is block 529, and whose blocks are those behind it. None where it can't be
-/// made.
-fn mount_of_file(alloc: Global) -> Result<Option<Mount>, Fail> {
-    let Some(bytes) = new_volume(alloc, 4096, 512)? else {
-        return Ok(None);
-    };
-    let Some(mut mount) = mounts(alloc, bytes, 4096)? else {
-        return Ok(None);
-    };
-    let file = asks(alloc, &mut mount, 514, b'a', MakeKind::File)?;
-    if file != (1, 529, 0) || sizes(&mut mount, 529, 5000)? != (6, 0, 0) {
-        return Ok(None);
+/// Makes the file `a` of 5,000 bytes in the root, whose inode is block 529, and whose blocks are those behind it.
+fn makes_file(alloc: Global, mount: &mut Mount) -> Result<bool, AllocError> {
+    let made = asks(alloc, mount, 514, b'a', MakeKind::File)?;
+    let sized = sizes(mount, 529, 5000)?;
+    Ok(made == (1, 529, 0) && sized == (6, 0, 0))
+}
+
+/// A mount of a new volume with this file.
+fn mount_of_file(alloc: Global) -> Result<Mount, Fail> {
+    let mut mount = new_mount(alloc, 4096, 512)?;
+    if !makes_file(alloc, &mut mount)? {
+        return Err(Fail::from("no file"));
     }
-    Ok(Some(mount))
+    Ok(mount)
+}
+
+/// A session, a piece that it holds, the reply, and how many blocks have the piece, with the first.
+type Held = (u32, Piece, (u8, u64, u64), (u64, u64));
+
+/// How many holds have the reply and the blocks that are said, one after another, before the first that hasn't.
+fn are_held(mount: &mut Mount, table: &[Held], places: &mut Vec<u64>) -> Result<usize, AllocError> {
+    for (i, row) in table.iter().enumerate() {
+        let (session, piece, reply, found) = *row;
+        if session == 0 {
+            return Ok(i);
+        }
+        if takes_hold(mount, session, piece, places)? != (reply, found) {
+            return Ok(i);
+        }
+    }
+    Ok(table.len())
 }
 
 #[test]
 fn a_piece_of_a_file_is_held_or_refused(rt: HostRuntime) -> Result<(), Fail> {
     let alloc = rt.alloc();
-    let Some(mut mount) = mount_of_file(alloc)? else {
-        return Err(Fail::from("no mount"));
-    };
-    let mut places = Vec::new(alloc);
     // The session, the piece, the reply, and how many blocks have it, with the first.
-    let table: [(u32, Piece, (u8, u64, u64), (u64, u64)); 8] = [
+    let table: [Held; 8] = [
         (1, make_piece(529, 0, 1000, false), (6, 0, 0), (1, 530)),
         (2, make_piece(529, 1000, 100, false), (6, 0, 0), (2, 530)),
         (1, make_piece(529, 1024, 3976, false), (6, 0, 0), (4, 531)),
@@ -1505,13 +1654,10 @@ fn a_piece_of_a_file_is_held_or_refused(rt: HostRuntime) -> Result<(), Fail> {
         (1, make_piece(4000, 0, 1, false), (11, 0, 0), (0, 0)),
         (1, make_piece(529, 0, 65537, false), (22, 0, 0), (0, 0)),
     ];
-    for (session, piece, reply, found) in table {
-        if session == 0 {
-            return Err(Fail::from("no session"));
-        }
-        let told = takes_hold(&mut mount, session, piece, &mut places)?;
-        assert_eq!(rt; told, (reply, found));
-    }
+    let mut mount = mount_of_file(alloc)?;
+    let mut places = Vec::new(alloc);
+    let right = are_held(&mut mount, &table, &mut places)?;
+    assert_eq!(rt; right, 8);
     Ok(())
 }
 
@@ -1523,24 +1669,43 @@ fn changes_file(alloc: Global, mount: &mut Mount) -> Result<[(u8, u64, u64); 2],
     ])
 }
 
+/// Holds a piece of the file to be written, changes the file, lets the piece go, and changes it once more: the reply to the hold, how many blocks
+/// were found and the first of them, and the replies to the changes.
+fn holds_and_changes(
+    alloc: Global,
+    mount: &mut Mount,
+    places: &mut Vec<u64>,
+) -> Result<[(u8, u64, u64); 6], AllocError> {
+    let (reply, found) = takes_hold(mount, 2, make_piece(529, 1024, 2000, true), places)?;
+    let held = changes_file(alloc, mount)?;
+    notes_done(&mut mount.space, release_of(alloc, 529))?;
+    let free = changes_file(alloc, mount)?;
+    Ok([
+        reply,
+        (0, found.0, found.1),
+        held[0],
+        held[1],
+        free[0],
+        free[1],
+    ])
+}
+
 #[test]
 fn a_file_that_is_held_keeps_its_size_and_its_place(rt: HostRuntime) -> Result<(), Fail> {
     let alloc = rt.alloc();
-    let Some(mut mount) = mount_of_file(alloc)? else {
-        return Err(Fail::from("no mount"));
-    };
+    let mut mount = mount_of_file(alloc)?;
     let mut places = Vec::new(alloc);
-    let told = takes_hold(
-        &mut mount,
-        2,
-        make_piece(529, 1024, 2000, true),
-        &mut places,
-    )?;
-    assert_eq!(rt; told, ((6, 0, 0), (2, 531)));
-    let beside = changes_file(alloc, &mut mount)?;
-    assert_eq!(rt; beside, [(24, 2, 0), (24, 2, 0)]);
-    notes_done(&mut mount.space, release_of(alloc, 529))?;
-    let since = changes_file(alloc, &mut mount)?;
-    assert_eq!(rt; since, [(6, 0, 0), (6, 0, 0)]);
+    let told = holds_and_changes(alloc, &mut mount, &mut places)?;
+    assert_eq!(rt;
+        told,
+        [
+            (6, 0, 0),
+            (0, 2, 531),
+            (24, 2, 0),
+            (24, 2, 0),
+            (6, 0, 0),
+            (6, 0, 0)
+        ]
+    );
     Ok(())
 }

@@ -115,6 +115,36 @@ fn is_found<D: Disk>(volume: &Volume<D, Fixed>) -> bool {
     }
 }
 
+/// Makes a file with a name of one letter in a directory, and a sync behind it. Whether it was made, and whether the sync went well.
+fn makes_synced(
+    alloc: Global,
+    volume: &mut Volume<MemDisk, Fixed>,
+    dir: u64,
+    name: u8,
+) -> Result<(bool, bool), AllocError>
+    ensures core { (t0 : Mounted) (adopted : Adoption) → HasCore t0 adopted volume.old.space.view volume.old.device.books (⟦<MemDisk as Disk>⟧.state volume.old.device.disk) (⟦<MemDisk as Disk>⟧.clock volume.old.device.disk) (⟦<MemDisk as Disk>⟧.since volume.old.device.disk)
+        → HasCore t0 adopted volume.new.space.view volume.new.device.books (⟦<MemDisk as Disk>⟧.state volume.new.device.disk) (⟦<MemDisk as Disk>⟧.clock volume.new.device.disk) (⟦<MemDisk as Disk>⟧.since volume.new.device.disk) }
+{
+    make_file(alloc, volume, dir, name)?;
+    let made = is_made(volume);
+    let synced = volume.sync(1, 2).is_ok();
+    Ok((made, synced))
+}
+
+/// Does so with the names `a` and `b`.
+fn makes_two(
+    alloc: Global,
+    volume: &mut Volume<MemDisk, Fixed>,
+    dir: u64,
+) -> Result<[(bool, bool); 2], AllocError>
+    ensures core { (t0 : Mounted) (adopted : Adoption) → HasCore t0 adopted volume.old.space.view volume.old.device.books (⟦<MemDisk as Disk>⟧.state volume.old.device.disk) (⟦<MemDisk as Disk>⟧.clock volume.old.device.disk) (⟦<MemDisk as Disk>⟧.since volume.old.device.disk)
+        → HasCore t0 adopted volume.new.space.view volume.new.device.books (⟦<MemDisk as Disk>⟧.state volume.new.device.disk) (⟦<MemDisk as Disk>⟧.clock volume.new.device.disk) (⟦<MemDisk as Disk>⟧.since volume.new.device.disk) }
+{
+    let first = makes_synced(alloc, volume, dir, b'a')?;
+    let second = makes_synced(alloc, volume, dir, b'b')?;
+    Ok([first, second])
+}
+
 /// Makes two files in a directory of a volume whose disk fails at one call, each with a sync behind it, and then stops. For each file whether it
 /// was made and acknowledged by a sync; and what a crash leaves: sector k is new where bit k mod 64 of the pick is set.
 fn two_files(
@@ -131,15 +161,32 @@ fn two_files(
         Ok(volume) => volume,
         Err(_) => return Ok(None),
     };
-    make_file(alloc, &mut volume, dir, b'a')?;
-    let made = is_made(&volume);
-    let first = volume.sync(1, 2).is_ok();
-    make_file(alloc, &mut volume, dir, b'b')?;
-    let also = is_made(&volume);
-    let second = volume.sync(1, 4).is_ok();
+    let [(made, first), (also, second)] = makes_two(alloc, &mut volume, dir)?;
     let (disk, _clock, _history, _ended) = volume.close();
     let left = disk.crash(pick)?;
     Ok(Some((made && (first || second), also && second, left)))
+}
+
+/// Whether a name of one letter is in a directory.
+fn finds<D: Disk>(
+    alloc: Global,
+    volume: &mut Volume<D, Fixed>,
+    dir: u64,
+    name: u8,
+) -> Result<bool, AllocError> {
+    let name = letter(alloc, name)?;
+    volume.call(1, 1, Call::Lookup { dir, name })?;
+    Ok(is_found(volume))
+}
+
+/// Which of the names `a` and `b` are in a directory.
+fn finds_two(
+    alloc: Global,
+    volume: &mut Volume<MemDisk, Fixed>,
+    dir: u64,
+) -> Result<(bool, bool), AllocError> {
+    let first = finds(alloc, volume, dir, b'a')?;
+    Ok((first, finds(alloc, volume, dir, b'b')?))
 }
 
 /// Which of the two names are there.
@@ -147,12 +194,7 @@ fn names_there(alloc: Global, image: Vec<u8>, dir: u64) -> Result<(bool, bool), 
     requires { HasTree image.items }
 {
     let mut volume = mounts(alloc, image, 0)?;
-    let name = letter(alloc, b'a')?;
-    volume.call(1, 1, Call::Lookup { dir, name })?;
-    let first = is_found(&volume);
-    let name = letter(alloc, b'b')?;
-    volume.call(1, 2, Call::Lookup { dir, name })?;
-    Ok((first, is_found(&volume)))
+    finds_two(alloc, &mut volume, dir)
 }
 
 /// Whether a mount of what a stop at a disk call has left finds each file that a sync has acknowledged; and whether both were.
@@ -311,9 +353,7 @@ pub(crate) fn letters_in<D: Disk>(
 ) -> Result<Option<u8>, AllocError> {
     let mut count = 0u8;
     for i in 0..26u8 {
-        let name = letter(alloc, b'a' + i)?;
-        volume.call(1, 1, Call::Lookup { dir, name })?;
-        if is_found(volume) {
+        if finds(alloc, volume, dir, b'a' + i)? {
             if count != i {
                 return Ok(None);
             }
@@ -454,6 +494,22 @@ fn reads_all(
     Ok(true)
 }
 
+/// Writes a file in two pieces, and once more past its end, and makes a sync. What came of the three pieces; and whether the file is read whole
+/// behind the first two, whether the sync went well, and whether the file is read whole behind that.
+fn writes_and_reads(
+    alloc: Global,
+    volume: &mut Volume<MemDisk, Fixed>,
+) -> Result<([Came; 3], [bool; 3]), AllocError> {
+    let id = make_sized(alloc, volume, 66)?;
+    let first = writes_at(alloc, volume, id, 0, 1700)?;
+    let second = writes_at(alloc, volume, id, 1700, 1300)?;
+    let read = reads_all(alloc, volume, id)?;
+    let past = writes_at(alloc, volume, id, 2990, 11)?;
+    let synced = volume.sync(1, 1).is_ok();
+    let again = reads_all(alloc, volume, id)?;
+    Ok(([first, second, past], [read, synced, again]))
+}
+
 #[test]
 fn a_file_is_written_and_read_in_pieces(rt: HostRuntime) -> Result<(), Fail> {
     let alloc = rt.alloc();
@@ -461,14 +517,30 @@ fn a_file_is_written_and_read_in_pieces(rt: HostRuntime) -> Result<(), Fail> {
         return Err(Fail::from("no volume"));
     };
     let mut volume = mounts(alloc, image, 0)?;
-    let id = make_sized(alloc, &mut volume, 66)?;
-    assert_eq!(rt; writes_at(alloc, &mut volume, id, 0, 1700)?, Came::Whole);
-    assert_eq!(rt; writes_at(alloc, &mut volume, id, 1700, 1300)?, Came::Whole);
-    assert!(rt; reads_all(alloc, &mut volume, id)?);
-    assert_eq!(rt; writes_at(alloc, &mut volume, id, 2990, 11)?, Came::Past);
-    assert!(rt; volume.sync(1, 1).is_ok());
-    assert!(rt; reads_all(alloc, &mut volume, id)?);
+    let (came, good) = writes_and_reads(alloc, &mut volume)?;
+    assert_eq!(rt; came, [Came::Whole, Came::Whole, Came::Past]);
+    assert_eq!(rt; good, [true, true, true]);
     Ok(())
+}
+
+/// Makes a file, writes it and reads it twice. Where the first read is broken, whether the second one has all its bytes.
+fn reads_twice(
+    alloc: Global,
+    volume: &mut Volume<MemDisk, Fixed>,
+) -> Result<Option<bool>, AllocError> {
+    let id = match make_sized(alloc, volume, 66) {
+        Ok(id) => id,
+        Err(_) => return Ok(None),
+    };
+    if writes_at(alloc, volume, id, 0, 3000)? != Came::Whole {
+        return Ok(None);
+    }
+    let (first, _) = reads_at(alloc, volume, id, 0, 3000)?;
+    if first != Came::Broken {
+        return Ok(None);
+    }
+    let again = reads_at(alloc, volume, id, 0, 3000)?;
+    Ok(Some(again == (Came::Whole, true)))
 }
 
 /// Reads a file of a volume whose disk fails at one call. Where that call was one of the piece, whether the next read has all its bytes.
@@ -479,19 +551,7 @@ fn reads_after_fault(alloc: Global, failing: u64) -> Result<Option<bool>, AllocE
     let Ok(mut volume) = mounts(alloc, image, failing) else {
         return Ok(None);
     };
-    let id = match make_sized(alloc, &mut volume, 66) {
-        Ok(id) => id,
-        Err(_) => return Ok(None),
-    };
-    if writes_at(alloc, &mut volume, id, 0, 3000)? != Came::Whole {
-        return Ok(None);
-    }
-    let (first, _) = reads_at(alloc, &mut volume, id, 0, 3000)?;
-    if first != Came::Broken {
-        return Ok(None);
-    }
-    let again = reads_at(alloc, &mut volume, id, 0, 3000)?;
-    Ok(Some(again == (Came::Whole, true)))
+    reads_twice(alloc, &mut volume)
 }
 
 #[test]
@@ -522,14 +582,14 @@ enum Mounting {
 }
 
 /// Why a volume wasn't mounted.
-fn told_by(refusal: Unmounted) -> Mounting {
+fn told_by(refusal: &Unmounted) -> Mounting {
     match refusal {
         Unmounted::Unread(MountFault::Short { sectors, needed }) => {
-            Mounting::Short(sectors, needed)
+            Mounting::Short(*sectors, *needed)
         }
-        Unmounted::Unread(MountFault::Super(fault)) => Mounting::Refused(fault),
-        Unmounted::Wrong(Finding::BitExtra { block }) => Mounting::Extra(block),
-        Unmounted::Wrong(Finding::Inode { block, .. }) => Mounting::Inode(block),
+        Unmounted::Unread(MountFault::Super(fault)) => Mounting::Refused(*fault),
+        Unmounted::Wrong(Finding::BitExtra { block }) => Mounting::Extra(*block),
+        Unmounted::Wrong(Finding::Inode { block, .. }) => Mounting::Inode(*block),
         _ => Mounting::Other,
     }
 }
@@ -549,7 +609,7 @@ fn mounts_with(alloc: Global, at: usize, byte: u8, length: usize) -> Result<Moun
     let disk = MemDisk::failing(alloc, image, Vec::new(alloc));
     match Volume::mount(alloc, disk, Fixed::clock(1000), 8) {
         Ok(volume) => Ok(Mounting::Mounted(volume.history().len())),
-        Err((refusal, _, _)) => Ok(told_by(refusal)),
+        Err((refusal, _, _)) => Ok(told_by(&refusal)),
     }
 }
 

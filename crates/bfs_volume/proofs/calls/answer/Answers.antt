@@ -1,4 +1,4 @@
-use Rattle.std.proofs.Common.{rules, ◌≡◌, inl, inr, ◌∙◌, Result, refl, sym, ap, subst, arith, [], ◌∷◌}
+use Rattle.std.proofs.Common.{rules, ◌≡◌, inl, inr, ◌∙◌, Result, refl, sym, ap, subst, arith, [], ◌∷◌, Some, None}
 use Rattle.std.specs.Prelude.{IfOk}
 use Rattle.std.specs.declared.alloc.AllocError.{AllocError}
 use Rattle.bfs_device.specs.Books.{Books}
@@ -15,6 +15,7 @@ use Rattle.bfs_volume.proofs.Ends.{device_end, noted_entry, rest_of, tells_since
 use Rattle.bfs_volume.proofs.Joined.{joined_unpromised}
 use Rattle.bfs_volume.proofs.Drawn.{drawn_both, drawn_noted, drawn_within}
 use Rattle.bfs_volume.proofs.Stays.{promised_alone}
+use Rattle.bfs_volume.proofs.Failed.{counts_same, failed_both, failed_none, failed_step, failed_stopped, failed_within}
 use Rattle.bfs_volume.proofs.calls.answer.Goals as goal
 
 pub returns-in-Some-clause-core : goal.returns-in-Some-clause-core
@@ -192,3 +193,52 @@ returns-in-Ok-Replied-outcome-clause-promised g c =
     let replied = subst (λ (o : Outcome). HasOutcome before after_it sp space session c.args.tag c.args.now c.in-Ok-Drain.call o) is asked in
     let promised : sp.promised ≡ 0 ∷ session ∷ [] = c.settle.ensures.promised ∙ ap (λ (x : SpaceBooks). x.promised) off.1 ∙ c.in_ok-prepare.ensures.ok.0 in
     ap (λ (x : SpaceBooks). x.promised) c.unpromise-2.ensures ∙ ap (without session) (replied.promised ∙ ap (promised_after session c.in-Ok-Drain.call replied.reply) promised) ∙ promised_alone session c.in-Ok-Drain.call replied.reply c.requires.session
+
+-- ---- the disk's counts
+
+pub returns-in_err-prepare-clause-failures : goal.returns-in_err-prepare-clause-failures
+returns-in_err-prepare-clause-failures g c =
+    failed_none c.args.space.now.view.history c.prepare.new.space.view.history c.args.device.now.books.stop c.prepare.new.device.books.stop (g.D.Disk.faults c.args.device.now.disk) (g.D.Disk.faults c.prepare.new.device.disk) (g.D.Disk.stops c.args.device.now.disk) (g.D.Disk.stops c.prepare.new.device.disk) c.prepare.ensures.history (counts_same c.args.device.now.books.stop c.prepare.new.device.books.stop (g.D.Disk.faults c.args.device.now.disk) (g.D.Disk.faults c.prepare.new.device.disk) (g.D.Disk.stops c.args.device.now.disk) (g.D.Disk.stops c.prepare.new.device.disk) c.prepare.ensures.stop (ap g.D.Disk.faults c.prepare.ensures.disk) (ap g.D.Disk.stops c.prepare.ensures.disk))
+
+pub returns-in-Some-clause-failures : goal.returns-in-Some-clause-failures
+returns-in-Some-clause-failures g c =
+    let is : c.prepare.new.device.books.stop ≡ Some (record { durable = c.in-Some.field-0.durable; faults = c.in-Some.field-0.faults }) = search rules in
+    failed_stopped c.args.space.now.view.history c.note.new.space.view.history c.args.session c.args.tag _ c.args.device.now.books.stop c.prepare.new.device.books.stop (g.D.Disk.faults c.args.device.now.disk) (g.D.Disk.faults c.prepare.new.device.disk) (g.D.Disk.stops c.args.device.now.disk) (g.D.Disk.stops c.prepare.new.device.disk) c.in-Some.field-0.durable c.in-Some.field-0.faults (noted_entry c.prepare.new.space c.note.new.space c.args.space.now.view.history c.args.session c.args.tag c.args.now _ _ _ _ _ c.prepare.ensures.history refl refl c.note.ensures.noted) is (counts_same c.args.device.now.books.stop c.prepare.new.device.books.stop (g.D.Disk.faults c.args.device.now.disk) (g.D.Disk.faults c.prepare.new.device.disk) (g.D.Disk.stops c.args.device.now.disk) (g.D.Disk.stops c.prepare.new.device.disk) c.prepare.ensures.stop (ap g.D.Disk.faults c.prepare.ensures.disk) (ap g.D.Disk.stops c.prepare.ensures.disk))
+
+pub returns-in-Ok-Replied-clause-failures : goal.returns-in-Ok-Replied-clause-failures
+returns-in-Ok-Replied-clause-failures g c =
+    let going : c.prepare.new.device.books.stop ≡ None = search rules in
+    failed_within c.args.space.now.view.history c.prepare.new.space.view.history c.ask.new.space.view.history c.unpromise.new.self.view.history c.args.device.now.books.stop c.prepare.new.device.books.stop c.ask.new.device.books.stop (g.D.Disk.faults c.args.device.now.disk) (g.D.Disk.faults c.prepare.new.device.disk) (g.D.Disk.faults c.ask.new.device.disk) (g.D.Disk.stops c.args.device.now.disk) (g.D.Disk.stops c.prepare.new.device.disk) (g.D.Disk.stops c.ask.new.device.disk) (counts_same c.args.device.now.books.stop c.prepare.new.device.books.stop (g.D.Disk.faults c.args.device.now.disk) (g.D.Disk.faults c.prepare.new.device.disk) (g.D.Disk.stops c.args.device.now.disk) (g.D.Disk.stops c.prepare.new.device.disk) c.prepare.ensures.stop (ap g.D.Disk.faults c.prepare.ensures.disk) (ap g.D.Disk.stops c.prepare.ensures.disk)) c.prepare.ensures.history (ap (λ (x : SpaceBooks). x.view.history) c.unpromise.ensures) (c.ask.ensures.failures going)
+
+pub returns-in-Err-clause-failures : goal.returns-in-Err-clause-failures
+returns-in-Err-clause-failures g c =
+    let going : c.prepare.new.device.books.stop ≡ None = search rules in
+    failed_within c.args.space.now.view.history c.prepare.new.space.view.history c.ask.new.space.view.history c.unpromise-in-Err.new.self.view.history c.args.device.now.books.stop c.prepare.new.device.books.stop c.ask.new.device.books.stop (g.D.Disk.faults c.args.device.now.disk) (g.D.Disk.faults c.prepare.new.device.disk) (g.D.Disk.faults c.ask.new.device.disk) (g.D.Disk.stops c.args.device.now.disk) (g.D.Disk.stops c.prepare.new.device.disk) (g.D.Disk.stops c.ask.new.device.disk) (counts_same c.args.device.now.books.stop c.prepare.new.device.books.stop (g.D.Disk.faults c.args.device.now.disk) (g.D.Disk.faults c.prepare.new.device.disk) (g.D.Disk.stops c.args.device.now.disk) (g.D.Disk.stops c.prepare.new.device.disk) c.prepare.ensures.stop (ap g.D.Disk.faults c.prepare.ensures.disk) (ap g.D.Disk.stops c.prepare.ensures.disk)) c.prepare.ensures.history (ap (λ (x : SpaceBooks). x.view.history) c.unpromise-in-Err.ensures) (c.ask.ensures.failures going)
+
+pub returns-in-Err-settle-clause-failures : goal.returns-in-Err-settle-clause-failures
+returns-in-Err-settle-clause-failures g c =
+    let going : c.prepare.new.device.books.stop ≡ None = search rules in
+    let first = failed_within c.args.space.now.view.history c.prepare.new.space.view.history c.ask.new.space.view.history c.ask.new.space.view.history c.args.device.now.books.stop c.prepare.new.device.books.stop c.ask.new.device.books.stop (g.D.Disk.faults c.args.device.now.disk) (g.D.Disk.faults c.prepare.new.device.disk) (g.D.Disk.faults c.ask.new.device.disk) (g.D.Disk.stops c.args.device.now.disk) (g.D.Disk.stops c.prepare.new.device.disk) (g.D.Disk.stops c.ask.new.device.disk) (counts_same c.args.device.now.books.stop c.prepare.new.device.books.stop (g.D.Disk.faults c.args.device.now.disk) (g.D.Disk.faults c.prepare.new.device.disk) (g.D.Disk.stops c.args.device.now.disk) (g.D.Disk.stops c.prepare.new.device.disk) c.prepare.ensures.stop (ap g.D.Disk.faults c.prepare.ensures.disk) (ap g.D.Disk.stops c.prepare.ensures.disk)) c.prepare.ensures.history refl (c.ask.ensures.failures going) in
+    failed_both c.args.space.now.view.history c.ask.new.space.view.history c.note-in-Err-settle.new.space.view.history c.args.device.now.books.stop c.ask.new.device.books.stop c.settle.new.device.books.stop (g.D.Disk.faults c.args.device.now.disk) (g.D.Disk.faults c.ask.new.device.disk) (g.D.Disk.faults c.settle.new.device.disk) (g.D.Disk.stops c.args.device.now.disk) (g.D.Disk.stops c.ask.new.device.disk) (g.D.Disk.stops c.settle.new.device.disk) first
+    (failed_step c.ask.new.space.view.history c.note-in-Err-settle.new.space.view.history c.args.session c.args.tag _ c.ask.new.device.books.stop c.settle.new.device.books.stop (g.D.Disk.faults c.ask.new.device.disk) (g.D.Disk.faults c.settle.new.device.disk) (g.D.Disk.stops c.ask.new.device.disk) (g.D.Disk.stops c.settle.new.device.disk) c.in-Err-settle.fault (noted_entry c.settle.new.space c.note-in-Err-settle.new.space c.ask.new.space.view.history c.args.session c.args.tag c.args.now _ _ _ _ _ c.settle.ensures.history refl c.as_reply.ensures c.note-in-Err-settle.ensures.noted) c.in-Err-settle.ensures.fault c.settle.ensures.counts)
+
+pub returns-in-Ok-Replied-outcome-clause-failures : goal.returns-in-Ok-Replied-outcome-clause-failures
+returns-in-Ok-Replied-outcome-clause-failures g c =
+    let going : c.prepare.new.device.books.stop ≡ None = search rules in
+    let first = failed_within c.args.space.now.view.history c.prepare.new.space.view.history c.ask.new.space.view.history c.ask.new.space.view.history c.args.device.now.books.stop c.prepare.new.device.books.stop c.ask.new.device.books.stop (g.D.Disk.faults c.args.device.now.disk) (g.D.Disk.faults c.prepare.new.device.disk) (g.D.Disk.faults c.ask.new.device.disk) (g.D.Disk.stops c.args.device.now.disk) (g.D.Disk.stops c.prepare.new.device.disk) (g.D.Disk.stops c.ask.new.device.disk) (counts_same c.args.device.now.books.stop c.prepare.new.device.books.stop (g.D.Disk.faults c.args.device.now.disk) (g.D.Disk.faults c.prepare.new.device.disk) (g.D.Disk.stops c.args.device.now.disk) (g.D.Disk.stops c.prepare.new.device.disk) c.prepare.ensures.stop (ap g.D.Disk.faults c.prepare.ensures.disk) (ap g.D.Disk.stops c.prepare.ensures.disk)) c.prepare.ensures.history refl (c.ask.ensures.failures going) in
+    let going2 : c.settle.new.device.books.stop ≡ None = search rules in
+    failed_both c.args.space.now.view.history c.ask.new.space.view.history c.unpromise-2.new.self.view.history c.args.device.now.books.stop c.ask.new.device.books.stop c.ask-outcome.new.device.books.stop (g.D.Disk.faults c.args.device.now.disk) (g.D.Disk.faults c.ask.new.device.disk) (g.D.Disk.faults c.ask-outcome.new.device.disk) (g.D.Disk.stops c.args.device.now.disk) (g.D.Disk.stops c.ask.new.device.disk) (g.D.Disk.stops c.ask-outcome.new.device.disk) first (failed_within c.ask.new.space.view.history c.settle.new.space.view.history c.ask-outcome.new.space.view.history c.unpromise-2.new.self.view.history c.ask.new.device.books.stop c.settle.new.device.books.stop c.ask-outcome.new.device.books.stop (g.D.Disk.faults c.ask.new.device.disk) (g.D.Disk.faults c.settle.new.device.disk) (g.D.Disk.faults c.ask-outcome.new.device.disk) (g.D.Disk.stops c.ask.new.device.disk) (g.D.Disk.stops c.settle.new.device.disk) (g.D.Disk.stops c.ask-outcome.new.device.disk) c.settle.ensures.counts c.settle.ensures.history (ap (λ (x : SpaceBooks). x.view.history) c.unpromise-2.ensures) (c.ask-outcome.ensures.failures going2))
+
+pub returns-in-Ok-Drain-outcome-clause-failures : goal.returns-in-Ok-Drain-outcome-clause-failures
+returns-in-Ok-Drain-outcome-clause-failures g c =
+    let going : c.prepare.new.device.books.stop ≡ None = search rules in
+    let first = failed_within c.args.space.now.view.history c.prepare.new.space.view.history c.ask.new.space.view.history c.ask.new.space.view.history c.args.device.now.books.stop c.prepare.new.device.books.stop c.ask.new.device.books.stop (g.D.Disk.faults c.args.device.now.disk) (g.D.Disk.faults c.prepare.new.device.disk) (g.D.Disk.faults c.ask.new.device.disk) (g.D.Disk.stops c.args.device.now.disk) (g.D.Disk.stops c.prepare.new.device.disk) (g.D.Disk.stops c.ask.new.device.disk) (counts_same c.args.device.now.books.stop c.prepare.new.device.books.stop (g.D.Disk.faults c.args.device.now.disk) (g.D.Disk.faults c.prepare.new.device.disk) (g.D.Disk.stops c.args.device.now.disk) (g.D.Disk.stops c.prepare.new.device.disk) c.prepare.ensures.stop (ap g.D.Disk.faults c.prepare.ensures.disk) (ap g.D.Disk.stops c.prepare.ensures.disk)) c.prepare.ensures.history refl (c.ask.ensures.failures going) in
+    let going2 : c.settle.new.device.books.stop ≡ None = search rules in
+    failed_both c.args.space.now.view.history c.ask.new.space.view.history c.unpromise-2.new.self.view.history c.args.device.now.books.stop c.ask.new.device.books.stop c.ask-outcome.new.device.books.stop (g.D.Disk.faults c.args.device.now.disk) (g.D.Disk.faults c.ask.new.device.disk) (g.D.Disk.faults c.ask-outcome.new.device.disk) (g.D.Disk.stops c.args.device.now.disk) (g.D.Disk.stops c.ask.new.device.disk) (g.D.Disk.stops c.ask-outcome.new.device.disk) first (failed_within c.ask.new.space.view.history c.settle.new.space.view.history c.ask-outcome.new.space.view.history c.unpromise-2.new.self.view.history c.ask.new.device.books.stop c.settle.new.device.books.stop c.ask-outcome.new.device.books.stop (g.D.Disk.faults c.ask.new.device.disk) (g.D.Disk.faults c.settle.new.device.disk) (g.D.Disk.faults c.ask-outcome.new.device.disk) (g.D.Disk.stops c.ask.new.device.disk) (g.D.Disk.stops c.settle.new.device.disk) (g.D.Disk.stops c.ask-outcome.new.device.disk) c.settle.ensures.counts c.settle.ensures.history (ap (λ (x : SpaceBooks). x.view.history) c.unpromise-2.ensures) (c.ask-outcome.ensures.failures going2))
+
+pub returns-clause-failures : goal.returns-clause-failures
+returns-clause-failures g c =
+    let going : c.prepare.new.device.books.stop ≡ None = search rules in
+    let first = failed_within c.args.space.now.view.history c.prepare.new.space.view.history c.ask.new.space.view.history c.ask.new.space.view.history c.args.device.now.books.stop c.prepare.new.device.books.stop c.ask.new.device.books.stop (g.D.Disk.faults c.args.device.now.disk) (g.D.Disk.faults c.prepare.new.device.disk) (g.D.Disk.faults c.ask.new.device.disk) (g.D.Disk.stops c.args.device.now.disk) (g.D.Disk.stops c.prepare.new.device.disk) (g.D.Disk.stops c.ask.new.device.disk) (counts_same c.args.device.now.books.stop c.prepare.new.device.books.stop (g.D.Disk.faults c.args.device.now.disk) (g.D.Disk.faults c.prepare.new.device.disk) (g.D.Disk.stops c.args.device.now.disk) (g.D.Disk.stops c.prepare.new.device.disk) c.prepare.ensures.stop (ap g.D.Disk.faults c.prepare.ensures.disk) (ap g.D.Disk.stops c.prepare.ensures.disk)) c.prepare.ensures.history refl (c.ask.ensures.failures going) in
+    let going2 : c.settle.new.device.books.stop ≡ None = search rules in
+    failed_both c.args.space.now.view.history c.ask.new.space.view.history c.unpromise-2.new.self.view.history c.args.device.now.books.stop c.ask.new.device.books.stop c.ask-outcome.new.device.books.stop (g.D.Disk.faults c.args.device.now.disk) (g.D.Disk.faults c.ask.new.device.disk) (g.D.Disk.faults c.ask-outcome.new.device.disk) (g.D.Disk.stops c.args.device.now.disk) (g.D.Disk.stops c.ask.new.device.disk) (g.D.Disk.stops c.ask-outcome.new.device.disk) first (failed_within c.ask.new.space.view.history c.settle.new.space.view.history c.ask-outcome.new.space.view.history c.unpromise-2.new.self.view.history c.ask.new.device.books.stop c.settle.new.device.books.stop c.ask-outcome.new.device.books.stop (g.D.Disk.faults c.ask.new.device.disk) (g.D.Disk.faults c.settle.new.device.disk) (g.D.Disk.faults c.ask-outcome.new.device.disk) (g.D.Disk.stops c.ask.new.device.disk) (g.D.Disk.stops c.settle.new.device.disk) (g.D.Disk.stops c.ask-outcome.new.device.disk) c.settle.ensures.counts c.settle.ensures.history (ap (λ (x : SpaceBooks). x.view.history) c.unpromise-2.ensures) (c.ask-outcome.ensures.failures going2))

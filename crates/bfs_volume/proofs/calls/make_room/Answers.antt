@@ -1,7 +1,7 @@
 use Rattle.std.proofs.Common.{◌∙◌, sym, ap, subst}
 use Rattle.bfs_core.specs.Moments.{DeviceMoves}
 use Rattle.bfs_core.proofs.Calls.{room_moves, room_rests}
-use Rattle.bfs_device_blocks.proofs.Holding.{hold_moved}
+use Rattle.bfs_device_blocks.proofs.Holding.{hold_moved, sized_so}
 use Rattle.bfs_volume.proofs.Joined.{joined_moved}
 use Rattle.bfs_volume.proofs.calls.make_room.Goals as goal
 
@@ -23,4 +23,5 @@ returns-clause-core g c = λ t0 adopted sp core.
     let rests = room_rests old.books new.books c.room-made.result e.ok e.err in
     let moves = subst (λ d. DeviceMoves old.books new.books (g.D.Disk.state d) (g.D.Disk.state new.disk) (g.D.Disk.clock d) (g.D.Disk.clock new.disk) (g.D.Disk.since d) (g.D.Disk.since new.disk)) e.disk
     (room_moves old.books new.books (g.D.Disk.state new.disk) (g.D.Disk.clock new.disk) (g.D.Disk.since new.disk) rests c.steady.ensures.steady c.durable-durable.ensures.recovers (g.met.D.Disk.only_now new.disk)) in
-    hold_moved t0 adopted sp old.books (g.D.Disk.state old.disk) (g.D.Disk.clock old.disk) (g.D.Disk.since old.disk) new.books (g.D.Disk.state new.disk) (g.D.Disk.clock new.disk) (g.D.Disk.since new.disk) moves core
+    hold_moved t0 adopted sp old.books (g.D.Disk.state old.disk) (g.D.Disk.clock old.disk) (g.D.Disk.since old.disk) new.books (g.D.Disk.state new.disk) (g.D.Disk.clock new.disk) (g.D.Disk.since new.disk) moves
+    (sized_so new.books (g.D.Disk.size new.disk) (g.D.Disk.state new.disk) (g.met.D.Disk.filled new.disk) (g.met.D.Disk.sized new.disk) c.steady.ensures.on_disk) core

@@ -1,5 +1,7 @@
-use Rattle.std.proofs.Common.{◌∙◌}
+use Rattle.std.proofs.Common.{◌∙◌, refl, ap}
 use Rattle.bfs_volume.proofs.Drawn.{drawn_noted}
+use Rattle.bfs_volume.proofs.Failed.{counts_same, counts_twice, failed_step, failed_synced, failed_within}
+use Rattle.bfs_volume.proofs.Ends.{noted_entry}
 use Rattle.bfs_volume.proofs.calls.sync.Goals as goal
 
 pub returns-in-Ok-clause-stamps : goal.returns-in-Ok-clause-stamps
@@ -7,3 +9,18 @@ returns-in-Ok-clause-stamps g c = drawn_noted c.make_durable.new.space c.note.ne
 
 pub returns-in-Err-clause-stamps : goal.returns-in-Err-clause-stamps
 returns-in-Err-clause-stamps g c = drawn_noted c.make_durable.new.space c.note-in-Err.new.space c.args.space.now.view.history c.args.session c.args.tag c.args.now _ _ _ (c.make_durable.ensures.history ∙ c.prepare.ensures.history) c.note-in-Err.ensures.noted
+
+pub returns-in-Ok-clause-failures : goal.returns-in-Ok-clause-failures
+returns-in-Ok-clause-failures g c =
+    failed_synced c.args.space.now.view.history c.note.new.space.view.history c.args.session c.args.tag _ c.args.device.now.books.stop c.make_durable.new.device.books.stop (g.D.Disk.faults c.args.device.now.disk) (g.D.Disk.faults c.make_durable.new.device.disk) (g.D.Disk.stops c.args.device.now.disk) (g.D.Disk.stops c.make_durable.new.device.disk) (noted_entry c.make_durable.new.space c.note.new.space c.args.space.now.view.history c.args.session c.args.tag c.args.now _ _ _ _ _ (c.make_durable.ensures.history ∙ c.prepare.ensures.history) refl refl c.note.ensures.noted) (counts_twice c.args.device.now.books.stop c.prepare.new.device.books.stop c.make_durable.new.device.books.stop (g.D.Disk.faults c.args.device.now.disk) (g.D.Disk.faults c.prepare.new.device.disk) (g.D.Disk.faults c.make_durable.new.device.disk) (g.D.Disk.stops c.args.device.now.disk) (g.D.Disk.stops c.prepare.new.device.disk) (g.D.Disk.stops c.make_durable.new.device.disk) (counts_same c.args.device.now.books.stop c.prepare.new.device.books.stop (g.D.Disk.faults c.args.device.now.disk) (g.D.Disk.faults c.prepare.new.device.disk) (g.D.Disk.stops c.args.device.now.disk) (g.D.Disk.stops c.prepare.new.device.disk) c.prepare.ensures.stop (ap g.D.Disk.faults c.prepare.ensures.disk) (ap g.D.Disk.stops c.prepare.ensures.disk)) c.make_durable.ensures.counts)
+
+pub returns-in-Err-clause-failures : goal.returns-in-Err-clause-failures
+returns-in-Err-clause-failures g c =
+    failed_within c.args.space.now.view.history c.prepare.new.space.view.history c.note-in-Err.new.space.view.history c.note-in-Err.new.space.view.history c.args.device.now.books.stop c.prepare.new.device.books.stop c.make_durable.new.device.books.stop (g.D.Disk.faults c.args.device.now.disk) (g.D.Disk.faults c.prepare.new.device.disk) (g.D.Disk.faults c.make_durable.new.device.disk) (g.D.Disk.stops c.args.device.now.disk) (g.D.Disk.stops c.prepare.new.device.disk) (g.D.Disk.stops c.make_durable.new.device.disk) (counts_same c.args.device.now.books.stop c.prepare.new.device.books.stop (g.D.Disk.faults c.args.device.now.disk) (g.D.Disk.faults c.prepare.new.device.disk) (g.D.Disk.stops c.args.device.now.disk) (g.D.Disk.stops c.prepare.new.device.disk) c.prepare.ensures.stop (ap g.D.Disk.faults c.prepare.ensures.disk) (ap g.D.Disk.stops c.prepare.ensures.disk)) c.prepare.ensures.history refl
+    (failed_step c.prepare.new.space.view.history c.note-in-Err.new.space.view.history c.args.session c.args.tag _ c.prepare.new.device.books.stop c.make_durable.new.device.books.stop (g.D.Disk.faults c.prepare.new.device.disk) (g.D.Disk.faults c.make_durable.new.device.disk) (g.D.Disk.stops c.prepare.new.device.disk) (g.D.Disk.stops c.make_durable.new.device.disk) c.in-Err.fault (noted_entry c.make_durable.new.space c.note-in-Err.new.space c.prepare.new.space.view.history c.args.session c.args.tag c.args.now _ _ _ _ _ c.make_durable.ensures.history refl c.as_reply.ensures c.note-in-Err.ensures.noted) c.in-Err.ensures.fault c.make_durable.ensures.counts)
+
+pub returns-in-Ok-clause-core : goal.returns-in-Ok-clause-core
+returns-in-Ok-clause-core g c = λ t0 adopted core. c.note.ensures.core t0 adopted (c.make_durable.ensures.core t0 adopted (c.prepare.ensures.core t0 adopted core))
+
+pub returns-in-Err-clause-core : goal.returns-in-Err-clause-core
+returns-in-Err-clause-core g c = λ t0 adopted core. c.note-in-Err.ensures.core t0 adopted (c.make_durable.ensures.core t0 adopted (c.prepare.ensures.core t0 adopted core))

@@ -1,4 +1,4 @@
-use Rattle.std.proofs.Common.{◌⊎◌, inl, sym, ap, subst}
+use Rattle.std.proofs.Common.{◌⊎◌, inl, sym, ap, subst, rules, ◌≡◌, Some, None, refl}
 use Rattle.std.proofs.lemmas.Result.{IfOk-weaker}
 use Rattle.bfs_core.specs.Cores.{newest_map}
 use Rattle.bfs_space.specs.Books.{SpaceBooks}
@@ -8,9 +8,10 @@ use Rattle.bfs_device_blocks.specs.Lent.{HasCore}
 use Rattle.bfs_volume.specs.Entries.{IsEnded}
 use Rattle.bfs_volume.specs.Events.{IsOutcomeIn}
 use Rattle.bfs_volume.proofs.Asked.{face_core}
-use Rattle.bfs_volume.proofs.Ends.{rest_of, tells_since}
+use Rattle.bfs_volume.proofs.Ends.{rest_of, tells_since, noted_entry}
 use Rattle.bfs_volume.proofs.Joined.{joined_unpromised}
 use Rattle.bfs_volume.proofs.Drawn.{drawn_noted, drawn_within}
+use Rattle.bfs_volume.proofs.Failed.{counts_same, failed_none, failed_stopped, failed_within}
 use Rattle.bfs_volume.proofs.event.attempt.Goals as goal
 
 pub returns-in-Some-clause-core : goal.returns-in-Some-clause-core
@@ -54,3 +55,19 @@ returns-in-Some-clause-stamps g c = drawn_noted c.prepare.new.space c.note.new.s
 
 pub returns-clause-stamps : goal.returns-clause-stamps
 returns-clause-stamps g c = drawn_within c.args.space.now.view.history c.prepare.new.space.view.history c.ask-outcome.new.space.view.history c.unpromise.new.self.view.history c.args.now c.prepare.ensures.history (ap (λ (x : SpaceBooks). x.view.history) c.unpromise.ensures) c.ask-outcome.ensures.stamps
+
+-- ---- the disk's counts
+
+pub returns-in_err-prepare-clause-failures : goal.returns-in_err-prepare-clause-failures
+returns-in_err-prepare-clause-failures g c =
+    failed_none c.args.space.now.view.history c.prepare.new.space.view.history c.args.device.now.books.stop c.prepare.new.device.books.stop (g.D.Disk.faults c.args.device.now.disk) (g.D.Disk.faults c.prepare.new.device.disk) (g.D.Disk.stops c.args.device.now.disk) (g.D.Disk.stops c.prepare.new.device.disk) c.prepare.ensures.history (counts_same c.args.device.now.books.stop c.prepare.new.device.books.stop (g.D.Disk.faults c.args.device.now.disk) (g.D.Disk.faults c.prepare.new.device.disk) (g.D.Disk.stops c.args.device.now.disk) (g.D.Disk.stops c.prepare.new.device.disk) c.prepare.ensures.stop (ap g.D.Disk.faults c.prepare.ensures.disk) (ap g.D.Disk.stops c.prepare.ensures.disk))
+
+pub returns-in-Some-clause-failures : goal.returns-in-Some-clause-failures
+returns-in-Some-clause-failures g c =
+    let is : c.prepare.new.device.books.stop ≡ Some (record { durable = c.in-Some.field-0.durable; faults = c.in-Some.field-0.faults }) = search rules in
+    failed_stopped c.args.space.now.view.history c.note.new.space.view.history c.args.session c.args.tag _ c.args.device.now.books.stop c.prepare.new.device.books.stop (g.D.Disk.faults c.args.device.now.disk) (g.D.Disk.faults c.prepare.new.device.disk) (g.D.Disk.stops c.args.device.now.disk) (g.D.Disk.stops c.prepare.new.device.disk) c.in-Some.field-0.durable c.in-Some.field-0.faults (noted_entry c.prepare.new.space c.note.new.space c.args.space.now.view.history c.args.session c.args.tag c.args.now _ _ _ _ _ c.prepare.ensures.history refl refl c.note.ensures.noted) is (counts_same c.args.device.now.books.stop c.prepare.new.device.books.stop (g.D.Disk.faults c.args.device.now.disk) (g.D.Disk.faults c.prepare.new.device.disk) (g.D.Disk.stops c.args.device.now.disk) (g.D.Disk.stops c.prepare.new.device.disk) c.prepare.ensures.stop (ap g.D.Disk.faults c.prepare.ensures.disk) (ap g.D.Disk.stops c.prepare.ensures.disk))
+
+pub returns-clause-failures : goal.returns-clause-failures
+returns-clause-failures g c =
+    let going : c.prepare.new.device.books.stop ≡ None = search rules in
+    failed_within c.args.space.now.view.history c.prepare.new.space.view.history c.ask-outcome.new.space.view.history c.unpromise.new.self.view.history c.args.device.now.books.stop c.prepare.new.device.books.stop c.ask-outcome.new.device.books.stop (g.D.Disk.faults c.args.device.now.disk) (g.D.Disk.faults c.prepare.new.device.disk) (g.D.Disk.faults c.ask-outcome.new.device.disk) (g.D.Disk.stops c.args.device.now.disk) (g.D.Disk.stops c.prepare.new.device.disk) (g.D.Disk.stops c.ask-outcome.new.device.disk) (counts_same c.args.device.now.books.stop c.prepare.new.device.books.stop (g.D.Disk.faults c.args.device.now.disk) (g.D.Disk.faults c.prepare.new.device.disk) (g.D.Disk.stops c.args.device.now.disk) (g.D.Disk.stops c.prepare.new.device.disk) c.prepare.ensures.stop (ap g.D.Disk.faults c.prepare.ensures.disk) (ap g.D.Disk.stops c.prepare.ensures.disk)) c.prepare.ensures.history (ap (λ (x : SpaceBooks). x.view.history) c.unpromise.ensures) (c.ask-outcome.ensures.failures going)

@@ -4,10 +4,11 @@ use Rattle.bfs_core.specs.Moments.{DeviceMoves}
 use Rattle.bfs_core.specs.Spaces.{SpaceView, released_space}
 use Rattle.bfs_core.proofs.Calls.{step_marked, step_right, step_stops}
 use Rattle.bfs_device_blocks.specs.Lent.{HasCore}
-use Rattle.bfs_device_blocks.proofs.Holding.{hold_moved, hold_released}
+use Rattle.bfs_device_blocks.proofs.Holding.{hold_moved, hold_released, sized_so}
 use Rattle.bfs_space.specs.Books.{SpaceBooks, released_room}
 use Rattle.bfs_volume.proofs.Joined.{joined_stepped}
 use Rattle.bfs_volume.proofs.Told.{step_spare, step_stop, told_before}
+use Rattle.bfs_volume.proofs.Failed.{counts_stepped}
 use Rattle.bfs_volume.proofs.events.step.Goals as goal
 
 pub returns-clause-joined : goal.returns-clause-joined
@@ -21,6 +22,7 @@ returns-clause-joined g c =
       ahead = e.ahead;
       stops = step_stops old.books new.books _ _ _ _ c.step-result.result e.ok e.fault;
       right = λ t right. step_right old.books new.books (g.D.Disk.state old.disk) (g.D.Disk.state new.disk) t right _ _ _ _ c.step-result.result e.ok e.fault (e.right t right) (e.still_right t right);
+      contents = λ st next is now. e.contents st next is now;
       time = record {
         meanwhile = e.moments;
         now = c.durable-durable.ensures.recovers;
@@ -49,6 +51,7 @@ returns-clause-core g c = λ t0 adopted core.
       ahead = e.ahead;
       stops = step_stops old.books new.books _ _ _ _ c.step-result.result e.ok e.fault;
       right = λ t right. step_right old.books new.books (g.D.Disk.state old.disk) (g.D.Disk.state new.disk) t right _ _ _ _ c.step-result.result e.ok e.fault (e.right t right) (e.still_right t right);
+      contents = λ st next is now. e.contents st next is now;
       time = record {
         meanwhile = e.moments;
         now = c.durable-durable.ensures.recovers;
@@ -60,4 +63,10 @@ returns-clause-core g c = λ t0 adopted core.
     let view : c.released.new.self.view ≡ released_space new.books.left sp.view = ap (λ (x : SpaceBooks). x.view) c.released.ensures.released ∙ ap (λ (n : ℕ). released_space n sp.view) c.left.ensures in
     subst (λ (v : SpaceView). HasCore t0 adopted v new.books (g.D.Disk.state new.disk) (g.D.Disk.clock new.disk) (g.D.Disk.since new.disk)) (sym view)
     (hold_released t0 adopted sp.view new.books (g.D.Disk.state new.disk) (g.D.Disk.clock new.disk) (g.D.Disk.since new.disk)
-    (hold_moved t0 adopted sp.view old.books (g.D.Disk.state old.disk) (g.D.Disk.clock old.disk) (g.D.Disk.since old.disk) new.books (g.D.Disk.state new.disk) (g.D.Disk.clock new.disk) (g.D.Disk.since new.disk) moves core))
+    (hold_moved t0 adopted sp.view old.books (g.D.Disk.state old.disk) (g.D.Disk.clock old.disk) (g.D.Disk.since old.disk) new.books (g.D.Disk.state new.disk) (g.D.Disk.clock new.disk) (g.D.Disk.since new.disk) moves
+    (sized_so new.books (g.D.Disk.size new.disk) (g.D.Disk.state new.disk) (g.met.D.Disk.filled new.disk) (g.met.D.Disk.sized new.disk) c.steady.ensures.on_disk) core))
+
+pub returns-clause-counts : goal.returns-clause-counts
+returns-clause-counts g c =
+    let e = c.step-result.ensures in
+    counts_stepped c.args.device.now.books c.step-result.new.self.books _ _ _ _ c.step-result.result (step_stop c.args.device.now.books c.step-result.new.self.books c.step-result.result e.ok) e.fault e.faults e.stops

@@ -6,6 +6,7 @@ use Rattle.bfs_volume.specs.Held.{HasAsked, IsAwaited, OnReply}
 use Rattle.bfs_volume.specs.declared.pieces.Asked.{Asked}
 use Rattle.bfs_volume.proofs.Asking.{answered_from, ended_untaken, reply_from, took_from, untaken_from}
 use Rattle.bfs_volume.proofs.Drawn.{drawn_both}
+use Rattle.bfs_volume.proofs.Failed.{failed_both}
 use Rattle.bfs_volume.proofs.pieces.ask_again.Goals as goal
 
 pub ask_once-requires-clause-promised : goal.ask_once-requires-clause-promised
@@ -149,3 +150,21 @@ returns-in-Err-ask_once-clause-stamps g c = drawn_both c.args.space.now.view.his
 
 pub returns-in-Ok-PutOff-clause-stamps : goal.returns-in-Ok-PutOff-clause-stamps
 returns-in-Ok-PutOff-clause-stamps g c = drawn_both c.args.space.now.view.history c.make_empty.new.space.view.history c.ask_once.new.space.view.history c.args.piece.now c.make_empty.ensures.stamps c.ask_once.ensures.stamps
+
+-- ---- the disk's counts
+
+pub returns-in-Ok-Taken-clause-failures : goal.returns-in-Ok-Taken-clause-failures
+returns-in-Ok-Taken-clause-failures g c =
+    failed_both c.args.space.now.view.history c.make_empty.new.space.view.history c.ask_once.new.space.view.history c.args.device.now.books.stop c.make_empty.new.device.books.stop c.ask_once.new.device.books.stop (g.D.Disk.faults c.args.device.now.disk) (g.D.Disk.faults c.make_empty.new.device.disk) (g.D.Disk.faults c.ask_once.new.device.disk) (g.D.Disk.stops c.args.device.now.disk) (g.D.Disk.stops c.make_empty.new.device.disk) (g.D.Disk.stops c.ask_once.new.device.disk) c.make_empty.ensures.failures c.ask_once.ensures.failures
+
+pub returns-in-Ok-Refused-clause-failures : goal.returns-in-Ok-Refused-clause-failures
+returns-in-Ok-Refused-clause-failures g c =
+    failed_both c.args.space.now.view.history c.make_empty.new.space.view.history c.ask_once.new.space.view.history c.args.device.now.books.stop c.make_empty.new.device.books.stop c.ask_once.new.device.books.stop (g.D.Disk.faults c.args.device.now.disk) (g.D.Disk.faults c.make_empty.new.device.disk) (g.D.Disk.faults c.ask_once.new.device.disk) (g.D.Disk.stops c.args.device.now.disk) (g.D.Disk.stops c.make_empty.new.device.disk) (g.D.Disk.stops c.ask_once.new.device.disk) c.make_empty.ensures.failures c.ask_once.ensures.failures
+
+pub returns-in-Err-ask_once-clause-failures : goal.returns-in-Err-ask_once-clause-failures
+returns-in-Err-ask_once-clause-failures g c =
+    failed_both c.args.space.now.view.history c.make_empty.new.space.view.history c.ask_once.new.space.view.history c.args.device.now.books.stop c.make_empty.new.device.books.stop c.ask_once.new.device.books.stop (g.D.Disk.faults c.args.device.now.disk) (g.D.Disk.faults c.make_empty.new.device.disk) (g.D.Disk.faults c.ask_once.new.device.disk) (g.D.Disk.stops c.args.device.now.disk) (g.D.Disk.stops c.make_empty.new.device.disk) (g.D.Disk.stops c.ask_once.new.device.disk) c.make_empty.ensures.failures c.ask_once.ensures.failures
+
+pub returns-in-Ok-PutOff-clause-failures : goal.returns-in-Ok-PutOff-clause-failures
+returns-in-Ok-PutOff-clause-failures g c =
+    failed_both c.args.space.now.view.history c.make_empty.new.space.view.history c.ask_once.new.space.view.history c.args.device.now.books.stop c.make_empty.new.device.books.stop c.ask_once.new.device.books.stop (g.D.Disk.faults c.args.device.now.disk) (g.D.Disk.faults c.make_empty.new.device.disk) (g.D.Disk.faults c.ask_once.new.device.disk) (g.D.Disk.stops c.args.device.now.disk) (g.D.Disk.stops c.make_empty.new.device.disk) (g.D.Disk.stops c.ask_once.new.device.disk) c.make_empty.ensures.failures c.ask_once.ensures.failures

@@ -8,6 +8,7 @@ use Rattle.bfs_volume.specs.declared.pieces.Asked.{Asked}
 use Rattle.bfs_volume.proofs.Asking.{answered_from, done_from, ended_from, ended_untaken, err_from, ok_from, reply_from, took_from, untaken_from}
 use Rattle.bfs_volume.proofs.Ends.{not_both}
 use Rattle.bfs_volume.proofs.Drawn.{drawn_both}
+use Rattle.bfs_volume.proofs.Failed.{failed_both}
 use Rattle.bfs_volume.proofs.pieces.hold.Goals as goal
 
 pub ask_once-requires-clause-promised : goal.ask_once-requires-clause-promised
@@ -253,3 +254,22 @@ returns-in-Ok-PutOff-clause-stays_stopped g c = λ s is. absurd (not_both c.args
 
 pub returns-in-Err-ask_once-clause-stays_stopped : goal.returns-in-Err-ask_once-clause-stays_stopped
 returns-in-Err-ask_once-clause-stays_stopped g c = λ s is. absurd (not_both c.args.device.now.books.stop s (c.in-Ok-true.ensures.ready c.in-Ok-true.field-0-test).begun is)
+
+-- ---- the disk's counts
+
+pub returns-in-Ok-Taken-clause-failures : goal.returns-in-Ok-Taken-clause-failures
+returns-in-Ok-Taken-clause-failures g c =
+    failed_both c.args.space.now.view.history c.make_quiet.new.space.view.history c.ask_once.new.space.view.history c.args.device.now.books.stop c.make_quiet.new.device.books.stop c.ask_once.new.device.books.stop (g.D.Disk.faults c.args.device.now.disk) (g.D.Disk.faults c.make_quiet.new.device.disk) (g.D.Disk.faults c.ask_once.new.device.disk) (g.D.Disk.stops c.args.device.now.disk) (g.D.Disk.stops c.make_quiet.new.device.disk) (g.D.Disk.stops c.ask_once.new.device.disk) c.make_quiet.ensures.failures c.ask_once.ensures.failures
+
+pub returns-in-Ok-Refused-clause-failures : goal.returns-in-Ok-Refused-clause-failures
+returns-in-Ok-Refused-clause-failures g c =
+    failed_both c.args.space.now.view.history c.make_quiet.new.space.view.history c.ask_once.new.space.view.history c.args.device.now.books.stop c.make_quiet.new.device.books.stop c.ask_once.new.device.books.stop (g.D.Disk.faults c.args.device.now.disk) (g.D.Disk.faults c.make_quiet.new.device.disk) (g.D.Disk.faults c.ask_once.new.device.disk) (g.D.Disk.stops c.args.device.now.disk) (g.D.Disk.stops c.make_quiet.new.device.disk) (g.D.Disk.stops c.ask_once.new.device.disk) c.make_quiet.ensures.failures c.ask_once.ensures.failures
+
+pub returns-in-Err-ask_once-clause-failures : goal.returns-in-Err-ask_once-clause-failures
+returns-in-Err-ask_once-clause-failures g c =
+    failed_both c.args.space.now.view.history c.make_quiet.new.space.view.history c.ask_once.new.space.view.history c.args.device.now.books.stop c.make_quiet.new.device.books.stop c.ask_once.new.device.books.stop (g.D.Disk.faults c.args.device.now.disk) (g.D.Disk.faults c.make_quiet.new.device.disk) (g.D.Disk.faults c.ask_once.new.device.disk) (g.D.Disk.stops c.args.device.now.disk) (g.D.Disk.stops c.make_quiet.new.device.disk) (g.D.Disk.stops c.ask_once.new.device.disk) c.make_quiet.ensures.failures c.ask_once.ensures.failures
+
+pub returns-in-Ok-PutOff-clause-failures : goal.returns-in-Ok-PutOff-clause-failures
+returns-in-Ok-PutOff-clause-failures g c =
+    failed_both c.args.space.now.view.history c.ask_once.new.space.view.history c.ask_again.new.space.view.history c.args.device.now.books.stop c.ask_once.new.device.books.stop c.ask_again.new.device.books.stop (g.D.Disk.faults c.args.device.now.disk) (g.D.Disk.faults c.ask_once.new.device.disk) (g.D.Disk.faults c.ask_again.new.device.disk) (g.D.Disk.stops c.args.device.now.disk) (g.D.Disk.stops c.ask_once.new.device.disk) (g.D.Disk.stops c.ask_again.new.device.disk)
+    (failed_both c.args.space.now.view.history c.make_quiet.new.space.view.history c.ask_once.new.space.view.history c.args.device.now.books.stop c.make_quiet.new.device.books.stop c.ask_once.new.device.books.stop (g.D.Disk.faults c.args.device.now.disk) (g.D.Disk.faults c.make_quiet.new.device.disk) (g.D.Disk.faults c.ask_once.new.device.disk) (g.D.Disk.stops c.args.device.now.disk) (g.D.Disk.stops c.make_quiet.new.device.disk) (g.D.Disk.stops c.ask_once.new.device.disk) c.make_quiet.ensures.failures c.ask_once.ensures.failures) c.ask_again.ensures.failures

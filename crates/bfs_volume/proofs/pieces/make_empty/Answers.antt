@@ -9,6 +9,7 @@ use Rattle.bfs_volume.specs.Entries.{HasEntryOf, reply_of}
 use Rattle.bfs_volume.proofs.Ends.{device_end, told_of}
 use Rattle.bfs_volume.proofs.Joined.{joined_unpromised}
 use Rattle.bfs_volume.proofs.Drawn.{drawn_none, drawn_within}
+use Rattle.bfs_volume.proofs.Failed.{counts_same, counts_twice, failed_none, failed_step, failed_within}
 use Rattle.bfs_volume.proofs.pieces.make_empty.Goals as goal
 
 pub returns-in-Err-clause-core : goal.returns-in-Err-clause-core
@@ -63,3 +64,14 @@ returns-in-Err-clause-stamps g c =
 pub returns-clause-stamps : goal.returns-clause-stamps
 returns-clause-stamps g c =
     drawn_none c.args.space.now.view.history c.unpromise.new.self.view.history c.args.piece.now (ap (λ (x : SpaceBooks). x.view.history) c.unpromise.ensures ∙ c.settle.ensures.history ∙ c.prepare.ensures.history)
+
+-- ---- the disk's counts
+
+pub returns-in-Err-clause-failures : goal.returns-in-Err-clause-failures
+returns-in-Err-clause-failures g c =
+    failed_within c.args.space.now.view.history c.prepare.new.space.view.history c.end_hold.new.space.view.history c.end_hold.new.space.view.history c.args.device.now.books.stop c.prepare.new.device.books.stop c.settle.new.device.books.stop (g.D.Disk.faults c.args.device.now.disk) (g.D.Disk.faults c.prepare.new.device.disk) (g.D.Disk.faults c.settle.new.device.disk) (g.D.Disk.stops c.args.device.now.disk) (g.D.Disk.stops c.prepare.new.device.disk) (g.D.Disk.stops c.settle.new.device.disk) (counts_same c.args.device.now.books.stop c.prepare.new.device.books.stop (g.D.Disk.faults c.args.device.now.disk) (g.D.Disk.faults c.prepare.new.device.disk) (g.D.Disk.stops c.args.device.now.disk) (g.D.Disk.stops c.prepare.new.device.disk) c.prepare.ensures.stop (ap g.D.Disk.faults c.prepare.ensures.disk) (ap g.D.Disk.stops c.prepare.ensures.disk)) c.prepare.ensures.history refl
+    (failed_step c.prepare.new.space.view.history c.end_hold.new.space.view.history c.args.piece.session c.args.piece.tag _ c.prepare.new.device.books.stop c.settle.new.device.books.stop (g.D.Disk.faults c.prepare.new.device.disk) (g.D.Disk.faults c.settle.new.device.disk) (g.D.Disk.stops c.prepare.new.device.disk) (g.D.Disk.stops c.settle.new.device.disk) c.in-Err.fault (subst (λ (h : List Entry). HasEntryOf h c.end_hold.new.space.view.history c.args.piece.session c.args.piece.tag (Hold c.args.piece.id c.args.piece.at c.args.piece.length c.args.piece.write) (reply_of c.in-Err.fault)) c.settle.ensures.history c.end_hold.ensures.entry) c.in-Err.ensures.fault c.settle.ensures.counts)
+
+pub returns-clause-failures : goal.returns-clause-failures
+returns-clause-failures g c =
+    failed_none c.args.space.now.view.history c.unpromise.new.self.view.history c.args.device.now.books.stop c.settle.new.device.books.stop (g.D.Disk.faults c.args.device.now.disk) (g.D.Disk.faults c.settle.new.device.disk) (g.D.Disk.stops c.args.device.now.disk) (g.D.Disk.stops c.settle.new.device.disk) (ap (λ (x : SpaceBooks). x.view.history) c.unpromise.ensures ∙ c.settle.ensures.history ∙ c.prepare.ensures.history) (counts_twice c.args.device.now.books.stop c.prepare.new.device.books.stop c.settle.new.device.books.stop (g.D.Disk.faults c.args.device.now.disk) (g.D.Disk.faults c.prepare.new.device.disk) (g.D.Disk.faults c.settle.new.device.disk) (g.D.Disk.stops c.args.device.now.disk) (g.D.Disk.stops c.prepare.new.device.disk) (g.D.Disk.stops c.settle.new.device.disk) (counts_same c.args.device.now.books.stop c.prepare.new.device.books.stop (g.D.Disk.faults c.args.device.now.disk) (g.D.Disk.faults c.prepare.new.device.disk) (g.D.Disk.stops c.args.device.now.disk) (g.D.Disk.stops c.prepare.new.device.disk) c.prepare.ensures.stop (ap g.D.Disk.faults c.prepare.ensures.disk) (ap g.D.Disk.stops c.prepare.ensures.disk)) c.settle.ensures.counts)

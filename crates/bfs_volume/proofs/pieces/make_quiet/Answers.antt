@@ -1,4 +1,4 @@
-use Rattle.std.proofs.Common.{rules, ◌≡◌, ◌∙◌, List, false, sym, ap, subst, arith, refl}
+use Rattle.std.proofs.Common.{rules, ◌≡◌, ◌∙◌, List, false, sym, ap, subst, arith, refl, Some}
 use Rattle.std.specs.List.{list_any}
 use Rattle.bfs_device_blocks.specs.Lent.{HasCore}
 use Rattle.bfs_space.specs.Books.{SpaceBooks}
@@ -6,9 +6,10 @@ use Rattle.bfs_tree.specs.declared.call.Call.TheVariants.{Hold}
 use Rattle.bfs_tree.specs.declared.reply.Entry.{Entry}
 use Rattle.bfs_tree.specs.Histories.{is_stop}
 use Rattle.bfs_volume.specs.Entries.{HasEntryOf, reply_of}
-use Rattle.bfs_volume.proofs.Ends.{device_end, told_of}
+use Rattle.bfs_volume.proofs.Ends.{device_end, told_of, noted_entry}
 use Rattle.bfs_volume.proofs.Joined.{joined_unpromised}
 use Rattle.bfs_volume.proofs.Drawn.{drawn_none, drawn_noted, drawn_within}
+use Rattle.bfs_volume.proofs.Failed.{counts_same, counts_twice, failed_none, failed_step, failed_within, failed_stopped}
 use Rattle.bfs_volume.proofs.pieces.make_quiet.Goals as goal
 
 pub returns-in-Some-clause-core : goal.returns-in-Some-clause-core
@@ -71,3 +72,19 @@ returns-in-Err-clause-stamps g c =
 pub returns-clause-stamps : goal.returns-clause-stamps
 returns-clause-stamps g c =
     drawn_none c.args.space.now.view.history c.unpromise.new.self.view.history c.args.piece.now (ap (λ (x : SpaceBooks). x.view.history) c.unpromise.ensures ∙ c.rest_for.ensures.history ∙ c.prepare.ensures.history)
+
+-- ---- the disk's counts
+
+pub returns-in-Some-clause-failures : goal.returns-in-Some-clause-failures
+returns-in-Some-clause-failures g c =
+    let is : c.prepare.new.device.books.stop ≡ Some (record { durable = c.in-Some.field-0.durable; faults = c.in-Some.field-0.faults }) = search rules in
+    failed_stopped c.args.space.now.view.history c.note.new.space.view.history c.args.piece.session c.args.piece.tag _ c.args.device.now.books.stop c.prepare.new.device.books.stop (g.D.Disk.faults c.args.device.now.disk) (g.D.Disk.faults c.prepare.new.device.disk) (g.D.Disk.stops c.args.device.now.disk) (g.D.Disk.stops c.prepare.new.device.disk) c.in-Some.field-0.durable c.in-Some.field-0.faults (noted_entry c.prepare.new.space c.note.new.space c.args.space.now.view.history c.args.piece.session c.args.piece.tag c.args.piece.now _ _ _ _ _ c.prepare.ensures.history refl refl c.note.ensures.noted) is (counts_same c.args.device.now.books.stop c.prepare.new.device.books.stop (g.D.Disk.faults c.args.device.now.disk) (g.D.Disk.faults c.prepare.new.device.disk) (g.D.Disk.stops c.args.device.now.disk) (g.D.Disk.stops c.prepare.new.device.disk) c.prepare.ensures.stop (ap g.D.Disk.faults c.prepare.ensures.disk) (ap g.D.Disk.stops c.prepare.ensures.disk))
+
+pub returns-in-Err-clause-failures : goal.returns-in-Err-clause-failures
+returns-in-Err-clause-failures g c =
+    failed_within c.args.space.now.view.history c.prepare.new.space.view.history c.end_hold.new.space.view.history c.end_hold.new.space.view.history c.args.device.now.books.stop c.prepare.new.device.books.stop c.rest_for.new.device.books.stop (g.D.Disk.faults c.args.device.now.disk) (g.D.Disk.faults c.prepare.new.device.disk) (g.D.Disk.faults c.rest_for.new.device.disk) (g.D.Disk.stops c.args.device.now.disk) (g.D.Disk.stops c.prepare.new.device.disk) (g.D.Disk.stops c.rest_for.new.device.disk) (counts_same c.args.device.now.books.stop c.prepare.new.device.books.stop (g.D.Disk.faults c.args.device.now.disk) (g.D.Disk.faults c.prepare.new.device.disk) (g.D.Disk.stops c.args.device.now.disk) (g.D.Disk.stops c.prepare.new.device.disk) c.prepare.ensures.stop (ap g.D.Disk.faults c.prepare.ensures.disk) (ap g.D.Disk.stops c.prepare.ensures.disk)) c.prepare.ensures.history refl
+    (failed_step c.prepare.new.space.view.history c.end_hold.new.space.view.history c.args.piece.session c.args.piece.tag _ c.prepare.new.device.books.stop c.rest_for.new.device.books.stop (g.D.Disk.faults c.prepare.new.device.disk) (g.D.Disk.faults c.rest_for.new.device.disk) (g.D.Disk.stops c.prepare.new.device.disk) (g.D.Disk.stops c.rest_for.new.device.disk) c.in-Err.fault (subst (λ (h : List Entry). HasEntryOf h c.end_hold.new.space.view.history c.args.piece.session c.args.piece.tag (Hold c.args.piece.id c.args.piece.at c.args.piece.length c.args.piece.write) (reply_of c.in-Err.fault)) c.rest_for.ensures.history c.end_hold.ensures.entry) c.in-Err.ensures.fault c.rest_for.ensures.counts)
+
+pub returns-clause-failures : goal.returns-clause-failures
+returns-clause-failures g c =
+    failed_none c.args.space.now.view.history c.unpromise.new.self.view.history c.args.device.now.books.stop c.rest_for.new.device.books.stop (g.D.Disk.faults c.args.device.now.disk) (g.D.Disk.faults c.rest_for.new.device.disk) (g.D.Disk.stops c.args.device.now.disk) (g.D.Disk.stops c.rest_for.new.device.disk) (ap (λ (x : SpaceBooks). x.view.history) c.unpromise.ensures ∙ c.rest_for.ensures.history ∙ c.prepare.ensures.history) (counts_twice c.args.device.now.books.stop c.prepare.new.device.books.stop c.rest_for.new.device.books.stop (g.D.Disk.faults c.args.device.now.disk) (g.D.Disk.faults c.prepare.new.device.disk) (g.D.Disk.faults c.rest_for.new.device.disk) (g.D.Disk.stops c.args.device.now.disk) (g.D.Disk.stops c.prepare.new.device.disk) (g.D.Disk.stops c.rest_for.new.device.disk) (counts_same c.args.device.now.books.stop c.prepare.new.device.books.stop (g.D.Disk.faults c.args.device.now.disk) (g.D.Disk.faults c.prepare.new.device.disk) (g.D.Disk.stops c.args.device.now.disk) (g.D.Disk.stops c.prepare.new.device.disk) c.prepare.ensures.stop (ap g.D.Disk.faults c.prepare.ensures.disk) (ap g.D.Disk.stops c.prepare.ensures.disk)) c.rest_for.ensures.counts)

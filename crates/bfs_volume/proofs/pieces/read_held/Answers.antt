@@ -5,6 +5,7 @@ use Rattle.bfs_pieces.specs.Pieces.{HasPieceCause}
 use Rattle.bfs_volume.specs.Held.{HasGone, HasPlaces, IsOnDisk}
 use Rattle.bfs_volume.proofs.Asked.{size_is}
 use Rattle.bfs_volume.proofs.Gone.{gone_by}
+use Rattle.bfs_volume.proofs.Failed.{failed_gone}
 use Rattle.bfs_volume.proofs.pieces.read_held.Goals as goal
 
 pub read_bytes-made-requires-clause-many : goal.read_bytes-made-requires-clause-many
@@ -48,3 +49,7 @@ read_bytes-made-requires-clause-buffer g c =
     let size : c.args.device.now.books.sup.block_size ≡ c.args.space.now.view.sup.block_size = size_is c.args.space.now c.args.device.now.books c.requires.joined.fitted in
     let is : c.size_of-size.result ≡ c.args.space.now.view.sup.block_size = c.size_of-size.ensures.value in
     search rules
+
+pub returns-clause-failures : goal.returns-clause-failures
+returns-clause-failures g c =
+    failed_gone c.args.space.now.view.history c.let_go.new.space.view.history c.args.piece.session c.args.piece.tag c.args.piece.id c.read_bytes-made.new.into c.args.device.now.books.stop c.read_bytes-made.new.device.books.stop (g.D.Disk.faults c.args.device.now.disk) (g.D.Disk.faults c.read_bytes-made.new.device.disk) (g.D.Disk.stops c.args.device.now.disk) (g.D.Disk.stops c.read_bytes-made.new.device.disk) (returns-clause-gone g c) c.read_bytes-made.ensures.counts

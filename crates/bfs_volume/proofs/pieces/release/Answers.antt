@@ -1,5 +1,6 @@
 use Rattle.std.proofs.Common.{◌<◌, ℕ, refl, subst}
 use Rattle.bfs_core.proofs.Images.{some_bytes}
+use Rattle.bfs_device_blocks.proofs.Holding.{sized_so}
 use Rattle.bfs_volume.proofs.Asked.{size_is}
 use Rattle.bfs_volume.proofs.Ends.{noted_entry}
 use Rattle.bfs_volume.proofs.Released.{core_released, joined_released}
@@ -22,7 +23,8 @@ returns-clause-core g c = λ t0 adopted core.
     let p = c.args.piece in
     let some : 0 < sp.view.sup.block_size = subst (λ (n : ℕ). 0 < n) (size_is sp d.books c.requires.joined.fitted) (some_bytes d.books.sup c.steady.ensures.steady.valid) in
     core_released sp d.books (g.D.Disk.state d.disk) p.session p.tag p.now p.id p.at p.length p.write c.args.bytes c.args.whole c.args.before c.args.after c.requires.session c.requires.ends c.requires.many c.requires.on some
-    c.note.new.self _ c.note.ensures t0 adopted (g.D.Disk.clock d.disk) (g.D.Disk.since d.disk) core
+    c.note.new.self _ c.note.ensures t0 adopted (g.D.Disk.clock d.disk) (g.D.Disk.since d.disk)
+    (sized_so d.books (g.D.Disk.size d.disk) (g.D.Disk.state d.disk) (g.met.D.Disk.filled d.disk) (g.met.D.Disk.sized d.disk) c.steady.ensures.on_disk) core
 
 pub returns-clause-entry : goal.returns-clause-entry
 returns-clause-entry g c =

@@ -9,6 +9,7 @@ use Rattle.bfs_volume.specs.Held.{HasPlaces}
 use Rattle.bfs_volume.proofs.Ends.{not_both}
 use Rattle.bfs_volume.proofs.Gone.{hold_in, is_hold_in, released_cause, released_entries, untaken_cause}
 use Rattle.bfs_volume.proofs.Drawn.{drawn_both}
+use Rattle.bfs_volume.proofs.Failed.{failed_both}
 use Rattle.bfs_volume.proofs.pieces.write.Goals as goal
 
 pub write_held-requires-clause-promised : goal.write_held-requires-clause-promised
@@ -143,3 +144,9 @@ returns-clause-stopped g c = λ s is. absurd (not_both c.args.device.now.books.s
 
 pub returns-clause-stays_stopped : goal.returns-clause-stays_stopped
 returns-clause-stays_stopped g c = λ s is. absurd (not_both c.args.device.now.books.stop s (c.in-Ok-true.ensures.taken c.in-Ok-true.field-0-test).begun is)
+
+-- ---- the disk's counts
+
+pub returns-clause-failures : goal.returns-clause-failures
+returns-clause-failures g c =
+    failed_both c.args.space.now.view.history c.hold.new.space.view.history c.write_held.new.space.view.history c.args.device.now.books.stop c.hold.new.device.books.stop c.write_held.new.device.books.stop (g.D.Disk.faults c.args.device.now.disk) (g.D.Disk.faults c.hold.new.device.disk) (g.D.Disk.faults c.write_held.new.device.disk) (g.D.Disk.stops c.args.device.now.disk) (g.D.Disk.stops c.hold.new.device.disk) (g.D.Disk.stops c.write_held.new.device.disk) c.hold.ensures.failures c.write_held.ensures.failures

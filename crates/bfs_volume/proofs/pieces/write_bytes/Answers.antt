@@ -14,7 +14,7 @@ returns-clause-joined g c = λ sp session tag id joined volume ends has.
     let skip : c.begin_in-skip.result ≡ c.args.at % sp.view.sup.block_size = c.begin_in-skip.ensures.value ∙ ap (λ (n : ℕ). c.args.at % n) (c.requires.buffer ∙ size) in
     both_written sp old.books new.books (g.D.Disk.state old.disk) (g.D.Disk.state new.disk) (g.D.Disk.clock old.disk) (g.D.Disk.clock new.disk) (g.D.Disk.since old.disk) (g.D.Disk.since new.disk) session tag id c.args.at c.begin_in-skip.result c.args.places.now c.args.bytes.now c.write_piece.result
     joined ends has volume some more skip size c.requires.going c.requires.empty c.steady.ensures.steady c.write_piece.ensures.rest (g.met.D.Disk.only_now old.disk) c.durable-durable.ensures.recovers c.write_piece.ensures.others
-    (λ t0 adopted core held unknown. c.write_piece.ensures.written t0 adopted sp.view id c.args.at core held unknown)
+    (λ t0 adopted core behind held unknown. c.write_piece.ensures.written t0 adopted sp.view id c.args.at core behind held unknown)
 
 pub returns-clause-core : goal.returns-clause-core
 returns-clause-core g c = λ t0 adopted sp session tag id joined volume ends has core.
@@ -26,4 +26,4 @@ returns-clause-core g c = λ t0 adopted sp session tag id joined volume ends has
     let skip : c.begin_in-skip.result ≡ c.args.at % sp.view.sup.block_size = c.begin_in-skip.ensures.value ∙ ap (λ (n : ℕ). c.args.at % n) (c.requires.buffer ∙ size) in
     core_written sp old.books new.books (g.D.Disk.state old.disk) (g.D.Disk.state new.disk) (g.D.Disk.clock old.disk) (g.D.Disk.clock new.disk) (g.D.Disk.since old.disk) (g.D.Disk.since new.disk) session tag id c.args.at c.begin_in-skip.result c.args.places.now c.args.bytes.now c.write_piece.result
     joined ends has volume some more skip size c.requires.going c.requires.empty c.steady.ensures.steady c.write_piece.ensures.rest (g.met.D.Disk.only_now old.disk) c.durable-durable.ensures.recovers c.write_piece.ensures.others
-    (λ t0 adopted core held unknown. c.write_piece.ensures.written t0 adopted sp.view id c.args.at core held unknown) t0 adopted core
+    (λ t0 adopted core behind held unknown. c.write_piece.ensures.written t0 adopted sp.view id c.args.at core behind held unknown) t0 adopted core

@@ -5,6 +5,7 @@ use Rattle.bfs_device.specs.Steps.{calls_left}
 use Rattle.bfs_device_blocks.specs.Lent.{HasCore}
 use Rattle.bfs_core.specs.Moments.{Adoption}
 use Rattle.bfs_volume.specs.Volumes.{AreJoined}
+use Rattle.bfs_volume.specs.Failing.{KeepsCounts}
 use Rattle.bfs_volume.proofs.settle.flush.Given as goal
 
 abbrev pub invariant-loop-fault : goal.invariant-loop-fault
@@ -18,6 +19,7 @@ invariant-loop-fault g l = record {
   spare : l.device.books.spare ≡ l.fn.device.books.spare;
   sealed : sealed_of l.device.books ≡ sealed_of l.fn.device.books;
   durable : durable_of l.fn.device.books ≤ durable_of l.device.books;
+  counts : KeepsCounts l.fn.device.books.stop l.device.books.stop (g.D.Disk.faults l.fn.device.disk) (g.D.Disk.faults l.device.disk) (g.D.Disk.stops l.fn.device.disk) (g.D.Disk.stops l.device.disk);
   core : (t0 : Mounted) (adopted : Adoption) → HasCore t0 adopted l.fn.space.view l.fn.device.books (g.D.Disk.state l.fn.device.disk) (g.D.Disk.clock l.fn.device.disk) (g.D.Disk.since l.fn.device.disk)
       → HasCore t0 adopted l.space.view l.device.books (g.D.Disk.state l.device.disk) (g.D.Disk.clock l.device.disk) (g.D.Disk.since l.device.disk);
 }

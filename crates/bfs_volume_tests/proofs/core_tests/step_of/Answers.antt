@@ -11,6 +11,7 @@ returns g c =
       ahead = e.ahead;
       stops = step_stops old.books new.books _ _ _ _ c.step-result.result e.ok e.fault;
       right = λ t right. step_right old.books new.books (g.D.Disk.state old.disk) (g.D.Disk.state new.disk) t right _ _ _ _ c.step-result.result e.ok e.fault (e.right t right) (e.still_right t right);
+      contents = λ st next is now. e.contents st next is now;
       time = record {
         meanwhile = e.moments;
         now = c.durable-durable.ensures.recovers;

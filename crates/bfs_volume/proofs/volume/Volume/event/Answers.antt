@@ -10,6 +10,8 @@ use Rattle.bfs_volume.proofs.Happens.{replied_by, stopped_by}
 use Rattle.bfs_volume.proofs.Stays.{built_served, stays_goes}
 use Rattle.bfs_volume.specs.Stamps.{HasDrawn}
 use Rattle.bfs_volume.proofs.Drawn.{drawn_none, drawn_told}
+use Rattle.bfs_volume.specs.Failing.{HasFailures}
+use Rattle.bfs_volume.proofs.Failed.{counts_same, failed_none}
 use Rattle.bfs_volume.proofs.volume.Volume.event.Goals as goal
 
 pub returns-in-Call-clause-replied : goal.returns-in-Call-clause-replied
@@ -75,3 +77,24 @@ returns-in-Call-clause-stopped g c = λ s is.
     let here = stopped_by i.space.view.history n.space.view.history c.in-Call.session c.in-Call.tag c.in-Call.call s c.attempt.result c.as_happened.result c.as_happened.ensures.ok c.as_happened.ensures.err (c.attempt.ensures.stopped s inside) in
     let there = subst (λ (v : VolumeView g.row.D.Denot g.row.C.Denot). IfOk c.as_happened.result (IsStoppedEvent v.space.view.history n.space.view.history s event)) c.self.view_is here in
     subst (λ (e : Event). IfOk c.as_happened.result (IsStoppedEvent c.args.self.now.space.view.history n.space.view.history s e)) (sym c.in-Call.is) there
+
+-- ---- the disk's counts
+
+pub returns-in-Call-clause-failures : goal.returns-in-Call-clause-failures
+returns-in-Call-clause-failures g c =
+    let n = c.attempt.new in
+    subst (λ (v : VolumeView g.row.D.Denot g.row.C.Denot). HasFailures v.space.view.history n.space.view.history v.device.books.stop n.device.books.stop (g.D.Disk.faults v.device.disk) (g.D.Disk.faults n.device.disk) (g.D.Disk.stops v.device.disk) (g.D.Disk.stops n.device.disk)) c.self.view_is c.attempt.ensures.failures
+
+pub returns-after-seal_open-clause-failures : goal.returns-after-seal_open-clause-failures
+returns-after-seal_open-clause-failures g c =
+    let i = c.self.inside in
+    let n = c.seal_open.new in
+    subst (λ (v : VolumeView g.row.D.Denot g.row.C.Denot). HasFailures v.space.view.history n.space.view.history v.device.books.stop n.device.books.stop (g.D.Disk.faults v.device.disk) (g.D.Disk.faults n.device.disk) (g.D.Disk.stops v.device.disk) (g.D.Disk.stops n.device.disk)) c.self.view_is
+    (failed_none i.space.view.history n.space.view.history i.device.books.stop n.device.books.stop (g.D.Disk.faults i.device.disk) (g.D.Disk.faults n.device.disk) (g.D.Disk.stops i.device.disk) (g.D.Disk.stops n.device.disk) c.seal_open.ensures.history (counts_same i.device.books.stop n.device.books.stop (g.D.Disk.faults i.device.disk) (g.D.Disk.faults n.device.disk) (g.D.Disk.stops i.device.disk) (g.D.Disk.stops n.device.disk) c.seal_open.ensures.stop (ap g.D.Disk.faults c.seal_open.ensures.disk) (ap g.D.Disk.stops c.seal_open.ensures.disk)))
+
+pub returns-after-step-clause-failures : goal.returns-after-step-clause-failures
+returns-after-step-clause-failures g c =
+    let i = c.self.inside in
+    let n = c.step.new in
+    subst (λ (v : VolumeView g.row.D.Denot g.row.C.Denot). HasFailures v.space.view.history n.space.view.history v.device.books.stop n.device.books.stop (g.D.Disk.faults v.device.disk) (g.D.Disk.faults n.device.disk) (g.D.Disk.stops v.device.disk) (g.D.Disk.stops n.device.disk)) c.self.view_is
+    (failed_none i.space.view.history n.space.view.history i.device.books.stop n.device.books.stop (g.D.Disk.faults i.device.disk) (g.D.Disk.faults n.device.disk) (g.D.Disk.stops i.device.disk) (g.D.Disk.stops n.device.disk) c.step.ensures.history c.step.ensures.counts)

@@ -6,6 +6,7 @@ use Rattle.bfs_tree.specs.declared.call.Call.TheVariants.{Hold}
 use Rattle.bfs_volume.specs.Pieces.{HasReleaseCause, IsHoldIn}
 use Rattle.bfs_volume.specs.Stamps.{HasDrawn}
 use Rattle.bfs_volume.proofs.Drawn.{drawn_told}
+use Rattle.bfs_volume.specs.Failing.{HasFailures}
 use Rattle.bfs_volume.proofs.volume.Volume.write.Goals as goal
 
 pub returns-clause-core : goal.returns-clause-core
@@ -47,3 +48,10 @@ returns-clause-stopped g c = λ s is.
 
 pub returns-clause-stays_stopped : goal.returns-clause-stays_stopped
 returns-clause-stays_stopped g c = λ s is. c.write.ensures.stays_stopped s (ap (λ (v : VolumeView g.row.D.Denot g.row.C.Denot). v.device.books.stop) c.self.view_is ∙ is)
+
+-- ---- the disk's counts
+
+pub returns-clause-failures : goal.returns-clause-failures
+returns-clause-failures g c =
+    let n = c.write.new in
+    subst (λ (v : VolumeView g.row.D.Denot g.row.C.Denot). HasFailures v.space.view.history n.space.view.history v.device.books.stop n.device.books.stop (g.D.Disk.faults v.device.disk) (g.D.Disk.faults n.device.disk) (g.D.Disk.stops v.device.disk) (g.D.Disk.stops n.device.disk)) c.self.view_is c.write.ensures.failures

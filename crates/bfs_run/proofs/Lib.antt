@@ -1,5 +1,9 @@
 pub mod Settling
+pub mod Complete
 pub mod Ends
 pub mod Made
 pub mod Gone
+pub mod Failed
+pub use Rattle.bfs_volume.proofs.Bare
+pub use Rattle.bfs_volume.proofs.Hindered
 pub use Rattle.bfs_volume.proofs.Reading

@@ -1,4 +1,5 @@
 pub mod Sources
+pub mod Complete
 pub mod Runs
 pub mod Scripts
 pub use Rattle.bfs_volume.specs.Mounts

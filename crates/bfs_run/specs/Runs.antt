@@ -1,5 +1,5 @@
 -- How a run of the shell ends, and what it leaves on the disk.
-use Rattle.std.specs.Prelude.{◌≡◌, ◌⊎◌, ℕ, pos, List, [], Option, Some, None, Ok}
+use Rattle.std.specs.Prelude.{◌≡◌, ◌⊎◌, ℕ, pos, List, [], length, Option, Some, None, Ok}
 use Rattle.std.specs.List.{All}
 use Rattle.bfs_disk.specs.State.{State, Tells, ReadsAs}
 use Rattle.bfs_disk.specs.Disk.{MayLeave}
@@ -11,10 +11,16 @@ use Rattle.bfs_command.specs.declared.line.Line.{Line}
 use Rattle.bfs_command.specs.Spelled.{Spelled, SpelledSoFar}
 use Rattle.bfs_script.specs.Scripts.{script_of, bad_line}
 use Rattle.bfs_sound.specs.Whole.{Recovers}
+use Rattle.bfs_core.specs.Chains.{Image}
+use Rattle.bfs_core.specs.Settled.{KeepsKnown}
 use Rattle.bfs_core.specs.Cores.{IsAcknowledged, RecoversFrom}
 use Rattle.bfs_volume.specs.Stamps.{AreDrawn}
-use Rattle.bfs_volume.specs.Closing.{IsLeft}
+use Rattle.bfs_volume.specs.Closing.{IsChained, IsLeft}
+use Rattle.bfs_volume.specs.Failing.{HasFailures}
+use Rattle.bfs_device.specs.declared.journal.Stop.{Stop}
+use Rattle.bfs_base.specs.Counts.{Rose}
 use Rattle.bfs_run.specs.Sources.{IsReadOf}
+use Rattle.bfs_run.specs.Complete.{AreAnswered}
 use Rattle.bfs_run.specs.declared.run.Run.{Run}
 use Rattle.bfs_run.specs.declared.run.Run.TheVariants as runs
 
@@ -66,12 +72,24 @@ HasNoScript (runs.BadLine number) = ⊥
 HasNoScript (runs.Closed closed) = ⊥
 HasNoScript _ = Unit {0}
 
+-- The entries of a run on a volume that was mounted have their failures one behind the other between the disk's counts before and after the run; the device
+-- hadn't stopped at first, and has in the end or hasn't.
+pub record HasRunFailures (run : Run) (faults faults' stops stops' : ℕ) : Type 0 where
+  pub history : List Entry
+  pub is : HasHistory run history
+  pub stop : Option Stop
+  pub failures : HasFailures [] history None stop faults faults' stops stops'
+
 -- A run on a volume with this tree and these bytes at mounting: its entries form one history, which is the plain tree's, and they are those of the
 -- lines. What a crash may leave then recovers to the tree after so many of them at least, which are all that a sync has acknowledged; and where the
 -- volume was closed well, after all of them; the disk as it reads is whole with that tree then, and its files have the bytes that are known. And what a
--- crash might have left at any moment since the run began recovers to the tree after a prefix of them. Where the clock tells at which second it stands,
--- each of them has its stamp of that second. The number of nodes is that of the tree after all of them.
-pub record HasRun (t0 : Mounted) (run : Run) (lines : List Line) (told : Option State) (begun : ℕ) (since : ℕ → List ℕ → Type 0) (stands : Option ℕ) : Type 0 where
+-- crash might have left at any moment since the run began recovers to the tree after a prefix of them. There is one image behind each of them, from the one that
+-- was mounted on: each is whole with its tree, and each entry is caused between the image before it and the one behind it; where the volume was closed
+-- well, the last is what the disk reads, but for block 0 and the log. Where the clock tells at which second it stands, each of them has its stamp of that
+-- second. Of files, what a crash leaves keeps each byte that was known since the durable entries, and where the volume was closed well each that is
+-- known. The number of nodes is that of the tree after all of them. Their failures lie one behind the other between the disk's counts before and after the
+-- run; and where the count of faults didn't rise, each of them is answered by the plain tree, or for want of room.
+pub record HasRun (t0 : Mounted) (first : Image) (run : Run) (lines : List Line) (told : Option State) (begun : ℕ) (since : ℕ → List ℕ → Type 0) (stands : Option ℕ) (faults faults' stops stops' : ℕ) : Type 0 where
   pub history : List Entry
   pub is : HasHistory run history
   pub legal : Legal t0 history
@@ -81,9 +99,15 @@ pub record HasRun (t0 : Mounted) (run : Run) (lines : List Line) (told : Option 
   pub leaves : (image : List ℕ) → MayLeave told image → RecoversFrom t0 history durable image
   pub all : IsClosedWell run → (image : List ℕ) → MayLeave told image → Recovers image (after t0 history)
   pub left : IsClosedWell run → (image : List ℕ) → Tells told (λ st. ReadsAs st image) → IsLeft t0 history image
+  pub keeps : (image : List ℕ) → MayLeave told image → KeepsKnown t0 history durable image
+  pub keeps_all : IsClosedWell run → (image : List ℕ) → MayLeave told image → KeepsKnown t0 history (length history) image
+  pub chained : IsChained t0 first history told (IsClosedWell run)
   pub moments : (c : List ℕ) → since begun c → ∥ RecoversFrom t0 history 0 c ∥₁
   pub counted : IsCounted run (after t0 history)
   pub stamps : (s : ℕ) → stands ≡ Some s → AreDrawn (pos 0) s history
+  pub stop : Option Stop
+  pub failures : HasFailures [] history None stop faults faults' stops stops'
+  pub answered : (Rose faults faults' → ⊥) → AreAnswered t0 history
 
 -- the script that was read of a source, where that tells, is one of which the run says what is true; or none was read
 abbrev pub SaysScript : Option (List ℕ) → Run → Type 0

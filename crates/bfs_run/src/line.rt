@@ -8,6 +8,7 @@ ghost use Rattle.bfs_text.specs.Printed.{is_held};
 ghost use Rattle.bfs_command.specs.Forms.{InForm, IsLineInForm};
 ghost use Rattle.bfs_command.specs.Left.{left, due_of, makes, most_left};
 ghost use Rattle.bfs_volume.specs.Stamps.{HasDrawn};
+ghost use Rattle.bfs_volume.specs.Failing.{HasFailures};
 ghost use Rattle.bfs_run.specs.Scripts.{HasMade, HasGone, HasLine, HasBegun};
 
 use crate::ask::ask;
@@ -75,6 +76,7 @@ fn turn<D: Disk, C: Clock>(
     ensures core { (t0 : Mounted) (adopted : Adoption) → HasCore t0 adopted volume.old.space.view volume.old.device.books (D.state volume.old.device.disk) (D.clock volume.old.device.disk) (D.since volume.old.device.disk)
         → HasCore t0 adopted volume.new.space.view volume.new.device.books (D.state volume.new.device.disk) (D.clock volume.new.device.disk) (D.since volume.new.device.disk) }
     ensures later { D.faults volume.old.device.disk ≤ D.faults volume.new.device.disk }
+    ensures failures { HasFailures volume.old.space.view.history volume.new.space.view.history volume.old.device.books.stop volume.new.device.books.stop (D.faults volume.old.device.disk) (D.faults volume.new.device.disk) (D.stops volume.old.device.disk) (D.stops volume.new.device.disk) }
 {
     let due = match calls.due(alloc) {
         Ok(due) => due,
@@ -107,6 +109,7 @@ pub fn run_line<D: Disk, C: Clock>(
     ensures core { (t0 : Mounted) (adopted : Adoption) → HasCore t0 adopted volume.old.space.view volume.old.device.books (D.state volume.old.device.disk) (D.clock volume.old.device.disk) (D.since volume.old.device.disk)
         → HasCore t0 adopted volume.new.space.view volume.new.device.books (D.state volume.new.device.disk) (D.clock volume.new.device.disk) (D.since volume.new.device.disk) }
     ensures later { D.faults volume.old.device.disk ≤ D.faults volume.new.device.disk }
+    ensures failures { HasFailures volume.old.space.view.history volume.new.space.view.history volume.old.device.books.stop volume.new.device.books.stop (D.faults volume.old.device.disk) (D.faults volume.new.device.disk) (D.stops volume.old.device.disk) (D.stops volume.new.device.disk) }
 {
     let mut calls = Calls::of(root, &line.command);
     let mut holds = 1000;

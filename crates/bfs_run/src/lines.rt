@@ -7,6 +7,7 @@ ghost use Rattle.bfs_core.specs.Moments.{Adoption};
 ghost use Rattle.bfs_command.specs.Forms.{IsLineInForm};
 ghost use Rattle.bfs_command.specs.Spelled.{Spelled, SpelledSoFar};
 ghost use Rattle.bfs_volume.specs.Stamps.{HasDrawn};
+ghost use Rattle.bfs_volume.specs.Failing.{HasFailures};
 
 use crate::line::run_line;
 use bfs_command::{Line, line_is_spelled, nothing_is_spelled, stop_is_spelled};
@@ -35,6 +36,7 @@ fn run_read<D: Disk, C: Clock>(
     ensures core { (t0 : Mounted) (adopted : Adoption) → HasCore t0 adopted volume.old.space.view volume.old.device.books (D.state volume.old.device.disk) (D.clock volume.old.device.disk) (D.since volume.old.device.disk)
         → HasCore t0 adopted volume.new.space.view volume.new.device.books (D.state volume.new.device.disk) (D.clock volume.new.device.disk) (D.since volume.new.device.disk) }
     ensures later { D.faults volume.old.device.disk ≤ D.faults volume.new.device.disk }
+    ensures failures { HasFailures volume.old.space.view.history volume.new.space.view.history volume.old.device.books.stop volume.new.device.books.stop (D.faults volume.old.device.disk) (D.faults volume.new.device.disk) (D.stops volume.old.device.disk) (D.stops volume.new.device.disk) }
 {
     let _ = script;
     let _ = at;
@@ -64,6 +66,7 @@ fn run_next<D: Disk, C: Clock>(
     ensures core { (t0 : Mounted) (adopted : Adoption) → HasCore t0 adopted volume.old.space.view volume.old.device.books (D.state volume.old.device.disk) (D.clock volume.old.device.disk) (D.since volume.old.device.disk)
         → HasCore t0 adopted volume.new.space.view volume.new.device.books (D.state volume.new.device.disk) (D.clock volume.new.device.disk) (D.since volume.new.device.disk) }
     ensures later { D.faults volume.old.device.disk ≤ D.faults volume.new.device.disk }
+    ensures failures { HasFailures volume.old.space.view.history volume.new.space.view.history volume.old.device.books.stop volume.new.device.books.stop (D.faults volume.old.device.disk) (D.faults volume.new.device.disk) (D.stops volume.old.device.disk) (D.stops volume.new.device.disk) }
 {
     stop_is_spelled();
     match script.line(alloc, at) {
@@ -90,6 +93,7 @@ pub fn run_script<D: Disk, C: Clock>(
     ensures core { (t0 : Mounted) (adopted : Adoption) → HasCore t0 adopted volume.old.space.view volume.old.device.books (D.state volume.old.device.disk) (D.clock volume.old.device.disk) (D.since volume.old.device.disk)
         → HasCore t0 adopted volume.new.space.view volume.new.device.books (D.state volume.new.device.disk) (D.clock volume.new.device.disk) (D.since volume.new.device.disk) }
     ensures later { D.faults volume.old.device.disk ≤ D.faults volume.new.device.disk }
+    ensures failures { HasFailures volume.old.space.view.history volume.new.space.view.history volume.old.device.books.stop volume.new.device.books.stop (D.faults volume.old.device.disk) (D.faults volume.new.device.disk) (D.stops volume.old.device.disk) (D.stops volume.new.device.disk) }
 {
     nothing_is_spelled();
     'lines: for at in 0..script.len() {

@@ -16,6 +16,7 @@ pub fn make_quiet<D: Disk>(disk: &mut D) -> Result<(), Failed>
     ensures kept { OnErr result (D.state disk.new ≡ D.state disk.old) }
     ensures cause { OnErr result (Rose (D.faults disk.old) (D.faults disk.new)) }
     ensures later { D.faults disk.old ≤ D.faults disk.new }
+    ensures stops { D.stops disk.old ≤ D.stops disk.new }
 {
     match disk.sectors() {
         Ok(_) => {}

@@ -9,12 +9,13 @@ ghost use Rattle.bfs_command.specs.Forms.{IsLineInForm};
 ghost use Rattle.bfs_replay.specs.Recover.{GoesOn};
 ghost use Rattle.bfs_script.specs.Scripts.{script_of, bad_line};
 ghost use Rattle.bfs_device_blocks.specs.Lent.{HasCore};
-ghost use Rattle.bfs_core.specs.Moments.{Adoption, adopted_at};
-ghost use Rattle.bfs_volume.specs.Mounts.{IsHeld, IsMountedFrom, IsUnmounted, HasUnmountedCause};
+ghost use Rattle.bfs_core.specs.Chains.{Image};
+ghost use Rattle.bfs_core.specs.Moments.{Adoption, adopted_from};
+ghost use Rattle.bfs_volume.specs.Mounts.{IsHeld, IsMountedFrom, IsUnmounted, HasUnmountedCause, mounted_image};
 ghost use Rattle.bfs_volume.specs.declared.mount.Unmounted as mounting;
 ghost use Rattle.bfs_soak.specs.Workload.{workload};
 ghost use Rattle.bfs_run.specs.Sources.{IsReadOf};
-ghost use Rattle.bfs_run.specs.Runs.{AreLinesOf, HasNoScript, HasRun, IsEarly, IsScriptOf, IsUnmountedRun, SaysScript};
+ghost use Rattle.bfs_run.specs.Runs.{AreLinesOf, HasNoScript, HasRun, HasRunFailures, IsEarly, IsScriptOf, IsUnmountedRun, SaysScript};
 
 use crate::lines::run_script;
 use crate::quiet::make_quiet;
@@ -82,7 +83,9 @@ fn run_lines<D: Disk, C: Clock + Drop>(
 ) -> (Run, D)
     requires form { All IsLineInForm script.now }
     requires fresh { volume.space.view.history ≡ [] }
-    ensures run { (t0 : Mounted) (adopted : Adoption) → HasCore t0 adopted volume.space.view volume.device.books (D.state volume.device.disk) (D.clock volume.device.disk) (D.since volume.device.disk) → HasRun t0 result.0 script.now (D.state result.1) adopted.begun (D.since result.1) (C.stands volume.clock) }
+    ensures run { (t0 : Mounted) (adopted : Adoption) (first : Image) → adopted.first ≡ Some first → HasCore t0 adopted volume.space.view volume.device.books (D.state volume.device.disk) (D.clock volume.device.disk) (D.since volume.device.disk) → volume.device.books.stop ≡ None
+        → HasRun t0 first result.0 script.now (D.state result.1) adopted.begun (D.since result.1) (C.stands volume.clock) (D.faults volume.device.disk) (D.faults result.1) (D.stops volume.device.disk) (D.stops result.1) }
+    ensures failures { volume.device.books.stop ≡ None → HasRunFailures result.0 (D.faults volume.device.disk) (D.faults result.1) (D.stops volume.device.disk) (D.stops result.1) }
     ensures script { (read : List ℕ) → bad_line read ≡ None → IsScriptOf result.0 read }
     ensures ended { IsUnmountedRun result.0 → ⊥ }
     ensures read { result.0 ≡ Run.Unread → ⊥ }
@@ -112,7 +115,9 @@ fn give_up<D: Disk, C: Clock + Drop>(volume: Volume<D, C>, end: Run) -> (Run, D)
     requires early { IsEarly end }
     ensures end { result.0 ≡ end }
     ensures disk { result.1 ≡ volume.device.disk }
-    ensures run { (t0 : Mounted) (adopted : Adoption) (lines : List line.Line) → HasCore t0 adopted volume.space.view volume.device.books (D.state volume.device.disk) (D.clock volume.device.disk) (D.since volume.device.disk) → HasRun t0 result.0 lines (D.state result.1) adopted.begun (D.since result.1) (C.stands volume.clock) }
+    ensures run { (t0 : Mounted) (adopted : Adoption) (first : Image) (lines : List line.Line) → adopted.first ≡ Some first → HasCore t0 adopted volume.space.view volume.device.books (D.state volume.device.disk) (D.clock volume.device.disk) (D.since volume.device.disk) → volume.device.books.stop ≡ None
+        → HasRun t0 first result.0 lines (D.state result.1) adopted.begun (D.since result.1) (C.stands volume.clock) (D.faults volume.device.disk) (D.faults result.1) (D.stops volume.device.disk) (D.stops result.1) }
+    ensures failures { volume.device.books.stop ≡ None → HasRunFailures result.0 (D.faults volume.device.disk) (D.faults result.1) (D.stops volume.device.disk) (D.stops result.1) }
 {
     let (disk, _clock, _history) = volume.abandon();
     (end, disk)
@@ -125,13 +130,15 @@ fn mount_quiet<D: Disk, C: Clock + Drop>(
     clock: C,
     cache: u32,
 ) -> Result<Volume<D, C>, (Unmounted, D)>
-    ensures core { (t0 : Mounted) (image : List ℕ) → Tells (D.state disk) (Holds image) → IsMountedFrom image t0
-        → IfOk result (λ v. HasCore t0 (adopted_at (D.clock disk) (D.clock v.device.disk)) v.space.view v.device.books (D.state v.device.disk) (D.clock v.device.disk) (D.since v.device.disk)) }
+    ensures core { (t0 : Mounted) (image : List ℕ) → Tells (D.state disk) (Holds image) → (mounted : IsMountedFrom image t0)
+        → IfOk result (λ v. HasCore t0 (adopted_from (D.clock disk) (D.clock v.device.disk) (Some (mounted_image mounted))) v.space.view v.device.books (D.state v.device.disk) (D.clock v.device.disk) (D.since v.device.disk)) }
     ensures clock { IfOk result (λ v. v.clock ≡ clock) }
     ensures fresh { IfOk result (λ v. v.space.view.history ≡ []) }
     ensures refused { (image : List ℕ) → Tells (D.state disk) (Holds image) → IfErr result (λ e. IsUnmounted image e.0) }
     ensures moments { (image : List ℕ) → Tells (D.state disk) (Holds image) → IfErr result (λ e. (c : List ℕ) → D.since e.1 (D.clock disk) c → ∥ GoesOn image c ∥₁) }
     ensures cause { IfErr result (λ e. HasUnmountedCause (D.faults disk) (D.faults e.1) e.0) }
+    ensures going { IfOk result (λ v. v.device.books.stop ≡ None) }
+    ensures stops { MatchResult result (λ v. D.stops disk ≤ D.stops v.device.disk) (λ e. D.stops disk ≤ D.stops e.1) }
     ensures later { MatchResult result (λ v. D.faults disk ≤ D.faults v.device.disk) (λ e. D.faults disk ≤ D.faults e.1) }
 {
     let before = disk.faults();
@@ -165,11 +172,13 @@ pub fn run_shell<D: Disk, R: Source, C: Clock + Drop>(
     ensures cause { (why : mounting.Unmounted) → result.0 ≡ Run.Unmounted why → HasUnmountedCause (D.faults disk) (D.faults result.1) why }
     ensures unread { result.0 ≡ Run.Unread → Rose (R.faults source.old) (R.faults source.new) }
     ensures later { D.faults disk ≤ D.faults result.1 }
+    // Of each failed entry the disk's counts of faults, and of a stop, are told, whatever the disk tells.
+    ensures failures { IsUnmountedRun result.0 ⊎ HasRunFailures result.0 (D.faults disk) (D.faults result.1) (D.stops disk) (D.stops result.1) }
     // What a script is refused for is true of it, whatever the disk tells.
     ensures script { SaysScript (R.left source.old) result.0 }
     // Over what the disk tells, it is a run of the lines that were read, on the volume that the image recovers to; from the call on.
-    ensures run { (t0 : Mounted) (image : List ℕ) → Tells (D.state disk) (Holds image) → IsMountedFrom image t0
-        → IsUnmountedRun result.0 ⊎ ((lines : List line.Line) × HasRun t0 result.0 lines (D.state result.1) (D.clock disk) (D.since result.1) (C.stands clock) × AreLinesOf (R.left source.old) result.0 lines) }
+    ensures run { (t0 : Mounted) (image : List ℕ) → Tells (D.state disk) (Holds image) → (mounted : IsMountedFrom image t0)
+        → IsUnmountedRun result.0 ⊎ ((lines : List line.Line) × HasRun t0 (mounted_image mounted) result.0 lines (D.state result.1) (D.clock disk) (D.since result.1) (C.stands clock) (D.faults disk) (D.faults result.1) (D.stops disk) (D.stops result.1) × AreLinesOf (R.left source.old) result.0 lines) }
 {
     let volume = match mount_quiet(alloc, disk, clock, cache) {
         Ok(volume) => volume,
@@ -198,9 +207,11 @@ pub fn run_workload<D: Disk, C: Clock + Drop>(
     ensures unread { result.0 ≡ Run.Unread → ⊥ }
     ensures good { (number : ℕ) → result.0 ≡ Run.BadLine number → ⊥ }
     ensures later { D.faults disk ≤ D.faults result.1 }
+    // Of each failed entry the disk's counts of faults, and of a stop, are told, whatever the disk tells.
+    ensures failures { IsUnmountedRun result.0 ⊎ HasRunFailures result.0 (D.faults disk) (D.faults result.1) (D.stops disk) (D.stops result.1) }
     // Over what the disk tells, it is a run of the workload's lines, on the volume that the image recovers to; from the call on.
-    ensures run { (t0 : Mounted) (image : List ℕ) → Tells (D.state disk) (Holds image) → IsMountedFrom image t0
-        → IsUnmountedRun result.0 ⊎ HasRun t0 result.0 (workload seed count) (D.state result.1) (D.clock disk) (D.since result.1) (C.stands clock) }
+    ensures run { (t0 : Mounted) (image : List ℕ) → Tells (D.state disk) (Holds image) → (mounted : IsMountedFrom image t0)
+        → IsUnmountedRun result.0 ⊎ HasRun t0 (mounted_image mounted) result.0 (workload seed count) (D.state result.1) (D.clock disk) (D.since result.1) (C.stands clock) (D.faults disk) (D.faults result.1) (D.stops disk) (D.stops result.1) }
 {
     workload_is_in_form();
     let volume = match mount_quiet(alloc, disk, clock, cache) {

@@ -2,6 +2,8 @@ use Rattle.std.proofs.Common.{◌∙◌, sym, subst, refl, arith}
 use Rattle.bfs_command.specs.Forms.{InForm}
 use Rattle.bfs_command.specs.Left.{Rest}
 use Rattle.bfs_volume.proofs.Drawn.{drawn_both, drawn_none}
+use Rattle.bfs_volume.proofs.Failed.{failed_both}
+use Rattle.bfs_run.proofs.Failed.{unfailed}
 use Rattle.bfs_run.proofs.Gone.{gone_none, gone_twice, line_done, line_begun}
 use Rattle.bfs_run.proofs.line.run_line.Goals as goal
 
@@ -13,6 +15,7 @@ turns-init g c = record {
   clock = refl;
   stamps = λ s is. drawn_none c.args.volume.now.space.view.history c.args.volume.now.space.view.history s refl;
   later = omega arith;
+  failures = unfailed c.args.volume.now.space.view.history c.args.volume.now.device.books.stop (g.D.Disk.faults c.args.volume.now.device.disk) (g.D.Disk.stops c.args.volume.now.device.disk);
 }
 
 pub turn-ended-requires-clause-form : goal.turn-ended-requires-clause-form
@@ -37,6 +40,7 @@ turns-preserved g c = record {
   core = λ t0 adopted core. c.in-Ok-false.ensures.core t0 adopted (c.turns.invariant.core t0 adopted core);
   clock = c.in-Ok-false.ensures.clock ∙ c.turns.invariant.clock;
   stamps = λ s is. drawn_both c.args.volume.now.space.view.history c.turns.volume.space.view.history c.turn-ended.new.volume.space.view.history s (c.turns.invariant.stamps s is) (c.in-Ok-false.ensures.stamps s (c.turns.invariant.clock ∙ is));
+  failures = failed_both c.args.volume.now.space.view.history c.turns.volume.space.view.history c.turn-ended.new.volume.space.view.history c.args.volume.now.device.books.stop c.turns.volume.device.books.stop c.turn-ended.new.volume.device.books.stop (g.D.Disk.faults c.args.volume.now.device.disk) (g.D.Disk.faults c.turns.volume.device.disk) (g.D.Disk.faults c.turn-ended.new.volume.device.disk) (g.D.Disk.stops c.args.volume.now.device.disk) (g.D.Disk.stops c.turns.volume.device.disk) (g.D.Disk.stops c.turn-ended.new.volume.device.disk) c.turns.invariant.failures c.in-Ok-false.ensures.failures;
   later = (let a = c.turns.invariant.later in let b = c.in-Ok-false.ensures.later in omega (arith, a, b));
 }
 
@@ -62,3 +66,11 @@ returns-in-Err-clause-stamps g c = λ s is.
 
 pub returns-in-Err-clause-clock : goal.returns-in-Err-clause-clock
 returns-in-Err-clause-clock g c = c.in-Err.ensures.clock ∙ c.turns.invariant.clock
+
+pub returns-in-Ok-true-clause-failures : goal.returns-in-Ok-true-clause-failures
+returns-in-Ok-true-clause-failures g c =
+    failed_both c.args.volume.now.space.view.history c.turns.volume.space.view.history c.turn-ended.new.volume.space.view.history c.args.volume.now.device.books.stop c.turns.volume.device.books.stop c.turn-ended.new.volume.device.books.stop (g.D.Disk.faults c.args.volume.now.device.disk) (g.D.Disk.faults c.turns.volume.device.disk) (g.D.Disk.faults c.turn-ended.new.volume.device.disk) (g.D.Disk.stops c.args.volume.now.device.disk) (g.D.Disk.stops c.turns.volume.device.disk) (g.D.Disk.stops c.turn-ended.new.volume.device.disk) c.turns.invariant.failures c.in-Ok-true.ensures.failures
+
+pub returns-in-Err-clause-failures : goal.returns-in-Err-clause-failures
+returns-in-Err-clause-failures g c =
+    failed_both c.args.volume.now.space.view.history c.turns.volume.space.view.history c.turn-ended.new.volume.space.view.history c.args.volume.now.device.books.stop c.turns.volume.device.books.stop c.turn-ended.new.volume.device.books.stop (g.D.Disk.faults c.args.volume.now.device.disk) (g.D.Disk.faults c.turns.volume.device.disk) (g.D.Disk.faults c.turn-ended.new.volume.device.disk) (g.D.Disk.stops c.args.volume.now.device.disk) (g.D.Disk.stops c.turns.volume.device.disk) (g.D.Disk.stops c.turn-ended.new.volume.device.disk) c.turns.invariant.failures c.in-Err.ensures.failures

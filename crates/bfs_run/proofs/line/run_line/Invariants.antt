@@ -5,6 +5,7 @@ use Rattle.bfs_core.specs.Moments.{Adoption}
 use Rattle.bfs_command.specs.Forms.{InForm}
 use Rattle.bfs_command.specs.Left.{most_left}
 use Rattle.bfs_volume.specs.Stamps.{HasDrawn}
+use Rattle.bfs_volume.specs.Failing.{HasFailures}
 use Rattle.bfs_run.specs.Scripts.{HasGone}
 use Rattle.bfs_run.proofs.line.run_line.Given as goal
 
@@ -17,6 +18,7 @@ invariant-turns g l = record {
   clock : g.C.Clock.stands l.volume.clock ≡ g.C.Clock.stands l.fn.volume.clock;
   stamps : (s : ℕ) → g.C.Clock.stands l.fn.volume.clock ≡ Some s → HasDrawn l.fn.volume.space.view.history l.volume.space.view.history s;
   later : g.D.Disk.faults l.fn.volume.device.disk ≤ g.D.Disk.faults l.volume.device.disk;
+  failures : HasFailures l.fn.volume.space.view.history l.volume.space.view.history l.fn.volume.device.books.stop l.volume.device.books.stop (g.D.Disk.faults l.fn.volume.device.disk) (g.D.Disk.faults l.volume.device.disk) (g.D.Disk.stops l.fn.volume.device.disk) (g.D.Disk.stops l.volume.device.disk);
 }
 
 abbrev pub decreases-turns : goal.decreases-turns

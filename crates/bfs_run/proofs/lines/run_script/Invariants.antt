@@ -4,6 +4,7 @@ use Rattle.bfs_device_blocks.specs.Lent.{HasCore}
 use Rattle.bfs_core.specs.Moments.{Adoption}
 use Rattle.bfs_command.specs.Spelled.{Spelled}
 use Rattle.bfs_volume.specs.Stamps.{HasDrawn}
+use Rattle.bfs_volume.specs.Failing.{HasFailures}
 use Rattle.bfs_run.proofs.lines.run_script.Given as goal
 
 abbrev pub invariant-lines : goal.invariant-lines
@@ -14,4 +15,5 @@ invariant-lines g l = record {
   clock : g.C.Clock.stands l.volume.clock ≡ g.C.Clock.stands l.fn.volume.clock;
   stamps : (s : ℕ) → g.C.Clock.stands l.fn.volume.clock ≡ Some s → HasDrawn l.fn.volume.space.view.history l.volume.space.view.history s;
   later : g.D.Disk.faults l.fn.volume.device.disk ≤ g.D.Disk.faults l.volume.device.disk;
+  failures : HasFailures l.fn.volume.space.view.history l.volume.space.view.history l.fn.volume.device.books.stop l.volume.device.books.stop (g.D.Disk.faults l.fn.volume.device.disk) (g.D.Disk.faults l.volume.device.disk) (g.D.Disk.stops l.fn.volume.device.disk) (g.D.Disk.stops l.volume.device.disk);
 }

@@ -1,5 +1,7 @@
 mod Changed
 mod Checks
+mod Complete
+mod Undamaged
 mod Held
 mod Made
 mod Pieces

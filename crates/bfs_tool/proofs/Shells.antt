@@ -113,3 +113,7 @@ not_soak words (commands.Faulty complaint) asks other seed count is = asks.no_so
 pub read_otherwise : (words : List (List ℕ)) (read : Result Command AllocError) (command : Command) → read ≡ Ok command → IfOk read (Asks words) → (read ≡ Ok commands.Shell → ⊥) → ((w : Workload) → read ≡ Ok (commands.Soak w) → ⊥) → Runs words → ⊥
 read_otherwise words read command is asks no_shell no_soak (inl shell) = not_shell words command (subst (λ r. IfOk r (Asks words)) is asks) (λ same. no_shell (is ∙ ap Ok same)) shell
 read_otherwise words read command is asks no_shell no_soak (inr soak) = not_soak words command (subst (λ r. IfOk r (Asks words)) is asks) (λ w same. no_soak w (is ∙ ap Ok same)) soak.0 soak.1 soak.2
+
+-- words that were read as `sh` ask for it
+pub shell_asked : (words : List (List ℕ)) (read : Result Command AllocError) → read ≡ Ok commands.Shell → IfOk read (Asks words) → IsShellCommand words
+shell_asked words read is asks = subst (λ r. IfOk r (Asks words)) is asks

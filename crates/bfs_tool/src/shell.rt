@@ -7,8 +7,8 @@ ghost use Rattle.bfs_ports.specs.Ports.{appended};
 ghost use Rattle.bfs_tree.specs.Histories.{Mounted};
 ghost use Rattle.bfs_tree.specs.Steps.{is_by_disk};
 ghost use Rattle.bfs_command.specs.declared.line.Line as line;
-ghost use Rattle.bfs_run.specs.Mounts.{IsMountedFrom};
-ghost use Rattle.bfs_run.specs.Runs.{AreLinesOf, HasRun, IsUnmountedRun, SaysScript};
+ghost use Rattle.bfs_run.specs.Mounts.{IsMountedFrom, mounted_image};
+ghost use Rattle.bfs_run.specs.Runs.{AreLinesOf, HasRun, IsUnmountedRun, SaysScript, HasRunFailures};
 ghost use Rattle.bfs_run.specs.declared.run.Run as runs;
 ghost use Rattle.bfs_tool.specs.Shell.{EndsAs, LeavesUnmounted, RunsBy, closed_status, fault_status, fault_text, has_damage, has_failed, is_broken, is_damage, run_status, run_text, unmounted_status, unmounted_text};
 ghost use Rattle.bfs_tool.specs.Tool.{Prints};
@@ -201,8 +201,9 @@ pub fn shell<D: Disk, R: Source, C: Clock + Drop, W: Sink>(
         × (result.0 ≡ 0 → W.written out.new ≡ appended (W.written out.old) (run_text run))
         × ((image : List ℕ) → Tells (D.state disk) (Holds image) → RunsBy image run × LeavesUnmounted image run (D.clock disk) (D.since result.1))
         × SaysScript (R.left script.old) run
-        × ((t0 : Mounted) (image : List ℕ) → Tells (D.state disk) (Holds image) → IsMountedFrom image t0
-        → IsUnmountedRun run ⊎ ((lines : List line.Line) × HasRun t0 run lines (D.state result.1) (D.clock disk) (D.since result.1) (C.stands clock) × AreLinesOf (R.left script.old) run lines)) }
+        × ((t0 : Mounted) (image : List ℕ) → Tells (D.state disk) (Holds image) → (mounted : IsMountedFrom image t0)
+        → IsUnmountedRun run ⊎ ((lines : List line.Line) × HasRun t0 (mounted_image mounted) run lines (D.state result.1) (D.clock disk) (D.since result.1) (C.stands clock) (D.faults disk) (D.faults result.1) (D.stops disk) (D.stops result.1) × AreLinesOf (R.left script.old) run lines))
+        × (IsUnmountedRun run ⊎ HasRunFailures run (D.faults disk) (D.faults result.1) (D.stops disk) (D.stops result.1)) }
     ensures silent { result.0 ≡ 7 → W.written out.new ≡ appended (W.written out.old) [] }
     ensures disk_failed { result.0 ≡ 4 → Rose (D.faults disk) (D.faults result.1) }
     ensures script_failed { result.0 ≡ 5 → Rose (R.faults script.old) (R.faults script.new) }

@@ -4,8 +4,8 @@ ghost use Rattle.bfs_base.specs.Counts.{Rose};
 ghost use Rattle.bfs_disk.specs.State.{Tells, Holds};
 ghost use Rattle.bfs_ports.specs.Ports.{appended};
 ghost use Rattle.bfs_tree.specs.Histories.{Mounted};
-ghost use Rattle.bfs_run.specs.Mounts.{IsMountedFrom};
-ghost use Rattle.bfs_run.specs.Runs.{HasRun, IsUnmountedRun};
+ghost use Rattle.bfs_run.specs.Mounts.{IsMountedFrom, mounted_image};
+ghost use Rattle.bfs_run.specs.Runs.{HasRun, IsUnmountedRun, HasRunFailures};
 ghost use Rattle.bfs_run.specs.declared.run.Run as runs;
 ghost use Rattle.bfs_soak.specs.Workload.{workload};
 ghost use Rattle.bfs_tool.specs.Shell.{EndsAs, LeavesUnmounted, RunsBy, soak_text};
@@ -48,8 +48,9 @@ pub fn soak<D: Disk, C: Clock + Drop, W: Sink>(
         × (result.0 ≢ 7 → Prints (W.written out.old) (W.written out.new) (W.faults out.old) (W.faults out.new) (soak_text (4 + count) run))
         × (result.0 ≡ 0 → W.written out.new ≡ appended (W.written out.old) (soak_text (4 + count) run))
         × ((image : List ℕ) → Tells (D.state disk) (Holds image) → RunsBy image run × LeavesUnmounted image run (D.clock disk) (D.since result.1))
-        × ((t0 : Mounted) (image : List ℕ) → Tells (D.state disk) (Holds image) → IsMountedFrom image t0
-        → IsUnmountedRun run ⊎ HasRun t0 run (workload seed count) (D.state result.1) (D.clock disk) (D.since result.1) (C.stands clock)) }
+        × ((t0 : Mounted) (image : List ℕ) → Tells (D.state disk) (Holds image) → (mounted : IsMountedFrom image t0)
+        → IsUnmountedRun run ⊎ HasRun t0 (mounted_image mounted) run (workload seed count) (D.state result.1) (D.clock disk) (D.since result.1) (C.stands clock) (D.faults disk) (D.faults result.1) (D.stops disk) (D.stops result.1))
+        × (IsUnmountedRun run ⊎ HasRunFailures run (D.faults disk) (D.faults result.1) (D.stops disk) (D.stops result.1)) }
     ensures silent { result.0 ≡ 7 → W.written out.new ≡ appended (W.written out.old) [] }
     ensures disk_failed { result.0 ≡ 4 → Rose (D.faults disk) (D.faults result.1) }
     ensures output_failed { result.0 ≡ 6 → Rose (W.faults out.old) (W.faults out.new) }

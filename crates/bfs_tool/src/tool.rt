@@ -14,14 +14,15 @@ ghost use Rattle.bfs_tool.specs.declared.label.Ending.{Ending};
 ghost use Rattle.bfs_tool.specs.Label.{EndsBy, LabelsBy, OldOrNew, labelled, label_status, label_text};
 ghost use Rattle.bfs_tool.specs.declared.make.Making.{Making};
 ghost use Rattle.bfs_tool.specs.Make.{IsNewVolume, IsMade, MakesBy, making_status, making_text};
+ghost use Rattle.bfs_tool.specs.Complete.{CanBeDone, IsCompleteStatus};
 ghost use Rattle.bfs_tool.specs.Tool.{Prints, Runs, usage_text};
 ghost use Rattle.bfs_words.specs.declared.command.Command.TheVariants as commands;
 ghost use Rattle.bfs_words.specs.declared.command.Workload.{Workload};
 ghost use Rattle.bfs_words.specs.Words.{Asks, IsLabelCommand, IsMakeCommand, IsCheckCommand, IsFaulty, IsShellCommand, IsSoakCommand};
 ghost use Rattle.bfs_tree.specs.Histories.{Mounted};
 ghost use Rattle.bfs_command.specs.declared.line.Line as line;
-ghost use Rattle.bfs_run.specs.Mounts.{IsMountedFrom};
-ghost use Rattle.bfs_run.specs.Runs.{AreLinesOf, HasRun, IsUnmountedRun, SaysScript};
+ghost use Rattle.bfs_run.specs.Mounts.{IsMountedFrom, mounted_image};
+ghost use Rattle.bfs_run.specs.Runs.{AreLinesOf, HasRun, IsUnmountedRun, SaysScript, HasRunFailures};
 ghost use Rattle.bfs_run.specs.declared.run.Run as runs;
 ghost use Rattle.bfs_soak.specs.Workload.{workload};
 ghost use Rattle.bfs_tool.specs.Shell.{EndsAs, LeavesUnmounted, RunsBy, run_text, soak_text};
@@ -268,13 +269,15 @@ pub fn bfs<
     // history of the plain tree, spelled by the script's lines; and what a crash then leaves recovers to the tree after so many of them that all is
     // there which a sync has acknowledged, and after all of them where the volume was closed well. What a crash at any moment of the call leaves,
     // replay's own writes included, recovers to the tree after a prefix of them; and where the volume isn't mounted, it is replayed to the same.
+    // Whatever the disk tells, the failures of the entries lie one behind the other between its counts of faults before and after the call.
     ensures shell { IsShellCommand words.now → ((result.0 ≡ 7) × (result.1 ≡ disk)) ⊎ ((run : runs.Run) × EndsAs run result.0
         × (result.0 ≢ 7 → Prints (W.written out.old) (W.written out.new) (W.faults out.old) (W.faults out.new) (run_text run))
         × (result.0 ≡ 0 → W.written out.new ≡ appended (W.written out.old) (run_text run))
         × ((image : List ℕ) → Tells (D.state disk) (Holds image) → RunsBy image run × LeavesUnmounted image run (D.clock disk) (D.since result.1))
         × SaysScript (R.left script.old) run
-        × ((t0 : Mounted) (image : List ℕ) → Tells (D.state disk) (Holds image) → IsMountedFrom image t0
-        → IsUnmountedRun run ⊎ ((lines : List line.Line) × HasRun t0 run lines (D.state result.1) (D.clock disk) (D.since result.1) (C.stands clock) × AreLinesOf (R.left script.old) run lines))) }
+        × ((t0 : Mounted) (image : List ℕ) → Tells (D.state disk) (Holds image) → (mounted : IsMountedFrom image t0)
+        → IsUnmountedRun run ⊎ ((lines : List line.Line) × HasRun t0 (mounted_image mounted) run lines (D.state result.1) (D.clock disk) (D.since result.1) (C.stands clock) (D.faults disk) (D.faults result.1) (D.stops disk) (D.stops result.1) × AreLinesOf (R.left script.old) run lines))
+        × (IsUnmountedRun run ⊎ HasRunFailures run (D.faults disk) (D.faults result.1) (D.stops disk) (D.stops result.1))) }
 
     // `soak SEED COUNT` makes a run of that workload as `sh` makes one of a script, on a volume that recovers one of its 4 + COUNT lines, and prints the
     // line of it: how many lines there were, how many of its entries are done and how many refused, and how many nodes the tree has after it. No
@@ -283,8 +286,9 @@ pub fn bfs<
         × (result.0 ≢ 7 → Prints (W.written out.old) (W.written out.new) (W.faults out.old) (W.faults out.new) (soak_text (4 + count) run))
         × (result.0 ≡ 0 → W.written out.new ≡ appended (W.written out.old) (soak_text (4 + count) run))
         × ((image : List ℕ) → Tells (D.state disk) (Holds image) → RunsBy image run × LeavesUnmounted image run (D.clock disk) (D.since result.1))
-        × ((t0 : Mounted) (image : List ℕ) → Tells (D.state disk) (Holds image) → IsMountedFrom image t0
-        → IsUnmountedRun run ⊎ HasRun t0 run (workload seed count) (D.state result.1) (D.clock disk) (D.since result.1) (C.stands clock))) }
+        × ((t0 : Mounted) (image : List ℕ) → Tells (D.state disk) (Holds image) → (mounted : IsMountedFrom image t0)
+        → IsUnmountedRun run ⊎ HasRun t0 (mounted_image mounted) run (workload seed count) (D.state result.1) (D.clock disk) (D.since result.1) (C.stands clock) (D.faults disk) (D.faults result.1) (D.stops disk) (D.stops result.1))
+        × (IsUnmountedRun run ⊎ HasRunFailures run (D.faults disk) (D.faults result.1) (D.stops disk) (D.stops result.1))) }
     ensures no_script { (seed count : ℕ) → IsSoakCommand words.now seed count → (result.0 ≡ 5) ⊎ (result.0 ≡ 9) → ⊥ }
 
     // But for `sh` and `soak`, the disk is as before at the statuses 3, 10 and 11, and so it is at 7, but for `check`. At 0 the label is on the disk, or the
@@ -312,6 +316,10 @@ pub fn bfs<
     ensures disk_later { D.faults disk ≤ D.faults result.1 }
     ensures clock_later { (Runs words.now → ⊥) → D.clock disk ≤ D.clock result.1 }
     ensures output_later { W.faults out.old ≤ W.faults out.new }
+
+    // Where what is asked for can be done and none of these counts rises, it is done, unless memory is wanting.
+    ensures complete { (image : List ℕ) → Tells (D.state disk) (Holds image) → CanBeDone words.now (D.size result.1) image (R.left script.old)
+        → ¬ Rose (D.faults disk) (D.faults result.1) → ¬ Rose (R.faults script.old) (R.faults script.new) → ¬ Rose (W.faults out.old) (W.faults out.new) → IsCompleteStatus result.0 }
 {
     let command = read_words(rt.alloc(), words);
     if let Ok(Command::Shell) = command {

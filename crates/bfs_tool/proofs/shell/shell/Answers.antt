@@ -10,4 +10,5 @@ returns-clause-ends g c = (
   (λ image held. ((λ why is. c.run_shell-run.ensures.unmounted image held why is), (λ not i left. c.run_shell-run.ensures.unmounted_moments image held not i left))),
   c.run_shell-run.ensures.script,
   c.run_shell-run.ensures.run,
+  c.run_shell-run.ensures.failures,
 )

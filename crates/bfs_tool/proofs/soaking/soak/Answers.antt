@@ -15,6 +15,7 @@ returns-clause-ends g c =
       c.print_text-shown.ensures.whole (soak_text (4 + c.args.count) run) text,
       (λ image held. ((λ why is. c.run_workload-run.ensures.unmounted image held why is), (λ not i left. c.run_workload-run.ensures.unmounted_moments image held not i left))),
       c.run_workload-run.ensures.run,
+      c.run_workload-run.ensures.failures,
     )
 
 pub returns-clause-others : goal.returns-clause-others

@@ -143,4 +143,62 @@ if command -v strace >/dev/null 2>&1; then
 else
     skip 'strace is not installed'
 fi
+
+# Killed at a hundred moments, drawn from a seed: the volume has the first so many of the folders, and the file of each folder that has another one behind
+# it has its bytes, since a sync stands between the two.
+rounds=24
+text_of() { # ROUND
+    printf 'file-%02d' "$1"
+}
+round=1
+while [ $round -le $rounds ]; do
+    name=$(printf 'd%02d' $round)
+    printf '1 mkdir /%s\n1 make /%s/f\n1 size /%s/f 7\n1 write /%s/f 0 :%s\n1 sync\n' "$name" "$name" "$name" "$name" "$(text_of $round)"
+    round=$((round + 1))
+done >"$work/script"
+
+run_until() { # MILLISECONDS: killed then, where it hasn't ended
+    cp "$work/before.img" "$image"
+    "$program" "$image" sh <"$work/script" >"$work/out" 2>/dev/null &
+    running=$!
+    sleep "$(printf '%d.%03d' $(($1 / 1000)) $(($1 % 1000)))"
+    kill -9 $running 2>/dev/null
+    wait $running 2>/dev/null
+}
+
+has_prefix() {
+    printf '1 ls /\n' | "$program" "$image" sh >"$work/list" || return 1
+    count=$(cut -d' ' -f4 "$work/list")
+    wanted="1 1 ok $count"
+    : >"$work/reads"
+    : >"$work/texts"
+    round=1
+    while [ $round -le "$count" ]; do
+        wanted="$wanted $(printf 'd%02d' $round)"
+        if [ $round -lt "$count" ]; then
+            printf '1 read /d%02d/f 0 7\n' $round >>"$work/reads"
+            printf '%s 1 ok 7 %s\n' $round "$(text_of $round | od -An -tx1 | tr -d ' \n')" >>"$work/texts"
+        fi
+        round=$((round + 1))
+    done
+    test "$(cat "$work/list")" = "$wanted" || return 1
+    "$program" "$image" sh <"$work/reads" >"$work/out" && cmp -s "$work/out" "$work/texts"
+}
+
+fresh 1024
+cp "$image" "$work/before.img"
+begun=$(date +%s%3N)
+"$program" "$image" sh <"$work/script" >"$work/out" 2>/dev/null
+check 'a script with a sync a folder' test $? -eq 0
+span=$(($(date +%s%3N) - begun + 5))
+check 'all its folders and bytes' has_prefix
+seed=1
+kill=1
+while [ $kill -le 100 ]; do
+    seed=$(((seed * 1103515245 + 12345) % 2147483648))
+    run_until $((seed / 65536 % span))
+    check "whole behind kill $kill" is_whole
+    check "with a prefix and its bytes behind kill $kill" has_prefix
+    kill=$((kill + 1))
+done
 finish

@@ -1,5 +1,5 @@
 // Reads and writes of single blocks beside the groups.
-ghost use Rattle.std.specs.Prelude.{◌≡◌, ◌⊎◌, ◌≤◌, ◌<◌, ◌+◌, ◌*◌, ◌/◌, ◌^◌, ℕ, List, [], length, Bool, OnOk, OnErr, IfOk, IfErr, IfSome, IsSome, IsTrue, IsOk, is_some, true, false, MatchOption, Option, Some, None};
+ghost use Rattle.std.specs.Prelude.{is_some, ◌≡◌, ◌⊎◌, ◌≤◌, ◌<◌, ◌+◌, ◌*◌, ◌/◌, ◌^◌, ℕ, List, [], length, Bool, OnOk, OnErr, IfOk, IfErr, IfSome, IsSome, IsTrue, IsOk, is_some, true, false, MatchOption, Option, Some, None};
 ghost use Rattle.bfs_base.specs.Counts.{HasCause, Rose};
 ghost use Rattle.bfs_base.specs.Moments.{Elapses, Passed};
 ghost use Rattle.bfs_disk.specs.State.{State, Tells};
@@ -53,6 +53,14 @@ fn newest_bytes(groups: &[Group], block: u64, ordered: bool) -> Option<&[u8]>
             None => find_in(&group.blocks, block, ordered),
         },
     }
+}
+
+/// Whether a group that waits has a block.
+pub fn is_waiting(journal: &Journal, block: u64) -> bool
+    requires ready { Ready journal.now }
+    ensures { result ≡ is_some (newest_in journal.now.groups.items block) }
+{
+    newest_bytes(&journal.groups, block, journal.ordered).is_some()
 }
 
 /// Reads a block as the disk has it.

@@ -1,5 +1,5 @@
 // A device: a disk, and the groups that go into its log and from there home.
-ghost use Rattle.std.specs.Prelude.{◌≡◌, ◌⊎◌, ◌≤◌, ◌<◌, ◌+◌, ◌-◌, ◌*◌, ◌/◌, ◌^◌, ◌==◌, ◌||◌, ◌&&◌, nat_lt, nat_le, ◌↔◌, ◌++◌, ◌∷◌, max, ℕ, List, [], length, Bool, IsTrue, OnOk, OnErr, IfOk, IfErr, IfSome, IsSome, Option, Some, None};
+ghost use Rattle.std.specs.Prelude.{is_some, ◌≡◌, ◌⊎◌, ◌≤◌, ◌<◌, ◌+◌, ◌-◌, ◌*◌, ◌/◌, ◌^◌, ◌==◌, ◌||◌, ◌&&◌, nat_lt, nat_le, ◌↔◌, ◌++◌, ◌∷◌, max, ℕ, List, [], length, Bool, IsTrue, OnOk, OnErr, IfOk, IfErr, IfSome, IsSome, Option, Some, None};
 ghost use Rattle.bfs_base.specs.Counts.{HasCause, Rose};
 ghost use Rattle.bfs_base.specs.Moments.{Elapses, Passed};
 ghost use Rattle.bfs_disk.specs.State.{State, Tells, Holds};
@@ -20,7 +20,7 @@ ghost use Rattle.bfs_device.specs.Ahead.{IsSteady, HasOrder, IsGroupOf, GoesOn};
 ghost use Rattle.bfs_device.specs.Kept.{IsOut, written_front};
 
 use crate::calls::written_block;
-use crate::data::{read_data, read_newest, write_data};
+use crate::data::{is_waiting, read_data, read_newest, write_data};
 use crate::journal::{DeviceFault, Journal, Mark, Phase, Progress, Stop};
 use crate::step::step_of;
 use crate::turn::{durable_number, take};
@@ -316,6 +316,13 @@ impl<D: Disk> Device<D> {
         ensures { result ≡ is_data (layout_of self.now.books.sup) block }
     {
         is_data_of(&self.journal.sup, block)
+    }
+
+    /// Whether a group that waits has a block: its bytes on the disk aren't the newest then, and it isn't written beside the groups.
+    pub fn waits(&self, block: u64) -> bool
+        ensures { result ≡ is_some (newest_in self.now.books.groups block) }
+    {
+        is_waiting(&self.journal, block)
     }
 
     /// What is true of the books of every device.

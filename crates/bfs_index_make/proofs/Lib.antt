@@ -10,3 +10,4 @@ pub mod NextPairs
 pub mod Whole
 pub use Rattle.bfs_remove_index.proofs.Refusing as RemoveIndexRefusing
 pub use Rattle.bfs_remove_index.proofs.Whole as RemoveIndexWhole
+pub use Rattle.bfs_remove_index.proofs.Resting

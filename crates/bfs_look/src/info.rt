@@ -143,11 +143,12 @@ fn described(site: Site, block: &[u8], id: u64) -> Result<Info, MapFault>
     }
 }
 
-/// What the record says of the node at this block, which is one of the tree.
+/// What the record says of the node at this block, which is one of the tree. Of a volume only that block is read.
 pub fn info_at<B: Blocks>(site: Site, under: &mut B, id: u64) -> Result<Info, MapFault>
     requires valid { IsValid site.sup }
     requires size { B.size under.old ≡ site.sup.block_size }
     ensures info { (v : Room) (m : ℕ → Option (List ℕ)) (tree : Tree) (lists : Lists) (n : Node) → B.told under.old ≡ Some m → IsReady (geometry_of site.sup) v m tree lists → IsNode tree id n → MatchResult result (λ info. info ≡ info_of n) IsUndone }
+    ensures rests { (v : Room) (m w : ℕ → Option (List ℕ)) (tree : Tree) (lists : Lists) (n : Node) → B.told under.old ≡ Some m → AreSized site.sup.block_size (Some w) → m id ≡ w id → IsReady (geometry_of site.sup) v w tree lists → IsNode tree id n → MatchResult result (λ info. info ≡ info_of n) IsUndone }
     ensures told { B.told under.new ≡ B.told under.old }
     ensures changed { B.changed under.new ≡ B.changed under.old }
     ensures pairs { B.pairs under.new ≡ B.pairs under.old }

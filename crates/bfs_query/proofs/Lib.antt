@@ -2,6 +2,8 @@ pub mod Bearing
 pub mod Ordered
 pub mod Heads
 pub mod Indexed
+pub mod Resting
+pub mod Imaged
 pub mod Told
 pub mod Between
 pub use Rattle.bfs_moves.proofs.Restated

@@ -4,8 +4,6 @@ use Rattle.bfs_base.specs.declared.kind.KeyKind.{KeyKind}
 use Rattle.bfs_base.specs.declared.kind.KeyKind.TheVariants.{Text}
 use Rattle.bfs_pages.specs.Maps.{assoc}
 use Rattle.std.specs.List.{AllByRecursion}
-use Rattle.bfs_super.specs.declared.geometry.Geometry.{Geometry}
-use Rattle.bfs_bitmap.specs.Runs.{Room}
 use Rattle.bfs_tree.specs.Trees.{Tree, Nodes}
 use Rattle.bfs_tree.specs.Listings.{found_row}
 use Rattle.bfs_tree.specs.declared.rows.FoundRow.{FoundRow}
@@ -13,7 +11,7 @@ use Rattle.bfs_tree.specs.declared.rows.IndexRow.{IndexRow}
 use Rattle.bfs_attr.specs.declared.directory.InodeRow.{InodeRow}
 use Rattle.bfs_index.specs.declared.found.Pair.{Pair}
 use Rattle.bfs_shift.specs.Lists.{Lists}
-use Rattle.bfs_look.specs.Ready.{IsReady, HasNodeAt}
+use Rattle.bfs_look.specs.Ready.{HasNodeAt}
 use Rattle.bfs_query.specs.declared.kind.IndexAt.{IndexAt}
 
 -- the row of a name leads to this index; or there is no such row
@@ -28,14 +26,6 @@ row_found nodes kind pair = found_row nodes kind (pair.key, pair.id)
 -- each of these pairs is a node's
 abbrev pub AreNodes : Tree → List Pair → Type 0
 AreNodes tree pairs = AllByRecursion (λ pair. HasNodeAt tree pair.id) pairs
-
--- a volume between two calls has this index
-pub record HasIndexRow (g : Geometry) (v : Room) (m : ℕ → Option (List ℕ)) (at : IndexAt) : Type 0 where
-  pub tree : Tree
-  pub lists : Lists
-  pub ready : IsReady g v m tree lists
-  pub name : List ℕ
-  pub found : IsIndexFound lists name (Some at)
 
 -- the row of an index, by that of the index directory
 abbrev pub index_row : Lists → InodeRow → IndexRow

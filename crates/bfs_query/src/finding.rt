@@ -3,20 +3,26 @@ ghost use Rattle.std.specs.Prelude.{◌≡◌, ◌<◌, ◌&&◌, ◌++◌, ◌�
 ghost use Rattle.bfs_base.specs.Keys.{IsTreeKind};
 ghost use Rattle.bfs_super.specs.Conditions.{IsValid, natural};
 ghost use Rattle.bfs_super.specs.Geometry.{geometry_of};
+ghost use Rattle.bfs_super.specs.declared.sup.Super as sups;
 ghost use Rattle.bfs_bitmap.specs.Runs.{Room};
+ghost use Rattle.bfs_stream.specs.Sizes.{sizes_of};
 ghost use Rattle.bfs_txn.specs.Faults.{AreLater, Counts};
+ghost use Rattle.bfs_txn.specs.Told.{AreSized};
 ghost use Rattle.bfs_tree.specs.declared.call.Call.TheVariants as calls;
 ghost use Rattle.bfs_tree.specs.Listings.{kind_of_key};
 ghost use Rattle.bfs_tree.specs.Refusals.{is_kind};
 ghost use Rattle.bfs_tree.specs.States.{State};
 ghost use Rattle.bfs_tree.specs.Steps.{Reads};
 ghost use Rattle.bfs_tree.specs.Trees.{Tree};
+ghost use Rattle.bfs_maps.specs.Mapped.{HasReadable};
 ghost use Rattle.bfs_maps.specs.Refused.{IsUndone, HasReadCause};
+ghost use Rattle.bfs_sound.specs.Whole.{Whole};
 ghost use Rattle.bfs_shift.specs.Lists.{Lists};
-ghost use Rattle.bfs_look.specs.Ready.{IsReady, HasReady, HasNodeAt};
-ghost use Rattle.bfs_query.specs.Indices.{row_found, AreNodes, HasIndexRow, IsIndexFound};
+ghost use Rattle.bfs_look.specs.Ready.{IsReady, HasNodeAt};
+ghost use Rattle.bfs_query.specs.Indices.{row_found, IsIndexFound};
+ghost use Rattle.bfs_query.specs.Resting.{AreSaid, HasFound, IsOfOne, SaysFound, told_of};
 
-use crate::kind::{IndexAt, index_at};
+use crate::kind::{IndexAt, index_named};
 use bfs_bitmap::Bitmap;
 use bfs_index::{Index, Pair};
 use bfs_look::{Site, info_at};
@@ -36,7 +42,7 @@ fn row_of<B: Blocks>(
 ) -> Result<FoundRow, MapFault>
     requires valid { IsValid site.sup }
     requires size { B.size under.old ≡ site.sup.block_size }
-    ensures row { (v : Room) (m : ℕ → Option (List ℕ)) (tree : Tree) (lists : Lists) → B.told under.old ≡ Some m → IsReady (geometry_of site.sup) v m tree lists → HasNodeAt tree pair.now.id → MatchResult result (λ row. row ≡ row_found tree.nodes kind pair.now) IsUndone }
+    ensures row { (v : Room) (m w : ℕ → Option (List ℕ)) (tree : Tree) (lists : Lists) → B.told under.old ≡ Some m → AreSized site.sup.block_size (Some w) → IsReady (geometry_of site.sup) v w tree lists → HasNodeAt tree pair.now.id → m pair.now.id ≡ w pair.now.id → MatchResult result (λ row. row ≡ row_found tree.nodes kind pair.now) IsUndone }
     ensures told { B.told under.new ≡ B.told under.old }
     ensures changed { B.changed under.new ≡ B.changed under.old }
     ensures size { B.size under.new ≡ B.size under.old }
@@ -80,7 +86,7 @@ fn push_row<B: Blocks>(
 ) -> Result<(), MapFault>
     requires valid { IsValid site.sup }
     requires size { B.size under.old ≡ site.sup.block_size }
-    ensures row { (v : Room) (m : ℕ → Option (List ℕ)) (tree : Tree) (lists : Lists) → B.told under.old ≡ Some m → IsReady (geometry_of site.sup) v m tree lists → HasNodeAt tree pair.now.id → MatchResult result (λ u. rows.new.items ≡ rows.old.items ++ row_found tree.nodes kind pair.now ∷ []) IsUndone }
+    ensures row { (v : Room) (m w : ℕ → Option (List ℕ)) (tree : Tree) (lists : Lists) → B.told under.old ≡ Some m → AreSized site.sup.block_size (Some w) → IsReady (geometry_of site.sup) v w tree lists → HasNodeAt tree pair.now.id → m pair.now.id ≡ w pair.now.id → MatchResult result (λ u. rows.new.items ≡ rows.old.items ++ row_found tree.nodes kind pair.now ∷ []) IsUndone }
     ensures told { B.told under.new ≡ B.told under.old }
     ensures changed { B.changed under.new ≡ B.changed under.old }
     ensures size { B.size under.new ≡ B.size under.old }
@@ -107,7 +113,7 @@ fn rows_of<B: Blocks>(
 ) -> Result<Vec<FoundRow>, MapFault>
     requires valid { IsValid site.sup }
     requires size { B.size under.old ≡ site.sup.block_size }
-    ensures rows { (v : Room) (m : ℕ → Option (List ℕ)) (tree : Tree) (lists : Lists) → B.told under.old ≡ Some m → IsReady (geometry_of site.sup) v m tree lists → AreNodes tree pairs.now → MatchResult result (λ rows. rows.items ≡ each (row_found tree.nodes kind) pairs.now) IsUndone }
+    ensures rows { (v : Room) (m w : ℕ → Option (List ℕ)) (tree : Tree) (lists : Lists) → B.told under.old ≡ Some m → AreSized site.sup.block_size (Some w) → IsReady (geometry_of site.sup) v w tree lists → AreSaid w m tree pairs.now → MatchResult result (λ rows. rows.items ≡ each (row_found tree.nodes kind) pairs.now) IsUndone }
     ensures told { B.told under.new ≡ B.told under.old }
     ensures changed { B.changed under.new ≡ B.changed under.old }
     ensures size { B.size under.new ≡ B.size under.old }
@@ -147,8 +153,8 @@ fn rows_between<E: Edits>(
     requires inside { at.inode < natural sup.now.num_blocks }
     requires kind { IsTreeKind at.kind }
     requires kinds { (is_kind (kind_of_key low.now) at.kind && is_kind (kind_of_key high.now) at.kind) ≡ true }
-    requires index { (m : ℕ → Option (List ℕ)) → E.told edits.old ≡ Some m → HasIndexRow (geometry_of sup.now) bitmap.old m at }
-    ensures reads { (m : ℕ → Option (List ℕ)) (tree : Tree) (lists : Lists) (s : State) (name : List ℕ) → E.told edits.old ≡ Some m → IsReady (geometry_of sup.now) bitmap.old m tree lists → s.tree ≡ tree → IsIndexFound lists name (Some at) → MatchResult result (Reads (calls.IndexFind name low.now high.now) s) IsUndone }
+    requires index { (m : ℕ → Option (List ℕ)) → E.told edits.old ≡ Some m → HasReadable (record { id = at.inode; sizes = sizes_of sup.now }) m }
+    ensures reads { (v : Room) (m w : ℕ → Option (List ℕ)) (tree : Tree) (lists : Lists) (s : State) (name : List ℕ) → E.told edits.old ≡ Some m → IsReady (geometry_of sup.now) v w tree lists → SaysFound (geometry_of sup.now) w m tree name low.now high.now → s.tree ≡ tree → IsIndexFound lists name (Some at) → MatchResult result (Reads (calls.IndexFind name low.now high.now) s) IsUndone }
     ensures bitmap { bitmap.new ≡ bitmap.old }
     ensures told { E.told edits.new ≡ E.told edits.old }
     ensures changed { E.changed edits.new ≡ E.changed edits.old }
@@ -179,8 +185,8 @@ fn rows_between<E: Edits>(
     }
 }
 
-/// Answers which nodes an index lists from one key to another, both inclusive: by key and then by id, each with its name.
-pub fn index_find<E: Edits>(
+/// The answer to a search of an index, by the blocks that it rests on.
+fn rows_found<E: Edits>(
     alloc: Global,
     sup: &Super,
     bitmap: &mut Bitmap,
@@ -191,8 +197,8 @@ pub fn index_find<E: Edits>(
 ) -> Result<Reply, MapFault>
     requires valid { IsValid sup.now }
     requires size { E.size edits.old ≡ sup.now.block_size }
-    requires ready { (m : ℕ → Option (List ℕ)) → E.told edits.old ≡ Some m → HasReady (geometry_of sup.now) bitmap.old m }
-    ensures reads { (m : ℕ → Option (List ℕ)) (tree : Tree) (lists : Lists) (s : State) → E.told edits.old ≡ Some m → IsReady (geometry_of sup.now) bitmap.old m tree lists → s.tree ≡ tree → MatchResult result (Reads (calls.IndexFind name.now low.now high.now) s) IsUndone }
+    requires found { (m : ℕ → Option (List ℕ)) → E.told edits.old ≡ Some m → HasFound (geometry_of sup.now) m name.now low.now high.now }
+    ensures rests { (v : Room) (m w : ℕ → Option (List ℕ)) (tree : Tree) (lists : Lists) (s : State) → E.told edits.old ≡ Some m → IsReady (geometry_of sup.now) v w tree lists → SaysFound (geometry_of sup.now) w m tree name.now low.now high.now → s.tree ≡ tree → MatchResult result (Reads (calls.IndexFind name.now low.now high.now) s) IsUndone }
     ensures bitmap { bitmap.new ≡ bitmap.old }
     ensures told { E.told edits.new ≡ E.told edits.old }
     ensures changed { E.changed edits.new ≡ E.changed edits.old }
@@ -201,7 +207,7 @@ pub fn index_find<E: Edits>(
     ensures later { AreLater (E.counts edits.old) (E.counts edits.new) }
     ensures cause { IfErr result (HasReadCause (E.counts edits.old) (E.counts edits.new)) }
 {
-    let found = match index_at(alloc, sup, bitmap, edits, name) {
+    let found = match index_named(alloc, sup, bitmap, edits, name) {
         Ok(found) => found,
         Err(fault) => return Err(fault),
     };
@@ -214,6 +220,38 @@ pub fn index_find<E: Edits>(
     }
     match rows_between(alloc, sup, bitmap, edits, at, low, high) {
         Ok(reply) => Ok(reply),
+        Err(fault) => Err(fault),
+    }
+}
+
+/// Answers which nodes an index lists from one key to another, both inclusive: by key and then by id, each with its name. Of a volume only
+/// the blocks of the index directory, those of the index and the inodes of the nodes in the answer are read.
+pub fn index_find<E: Edits>(
+    alloc: Global,
+    sup: &Super,
+    bitmap: &mut Bitmap,
+    edits: &mut E,
+    name: &[u8],
+    low: &Key,
+    high: &Key,
+) -> Result<Reply, MapFault>
+    requires valid { IsValid sup.now }
+    requires size { E.size edits.old ≡ sup.now.block_size }
+    requires found { (m : ℕ → Option (List ℕ)) → E.told edits.old ≡ Some m → HasFound (geometry_of sup.now) m name.now low.now high.now }
+    ensures reads { (m : ℕ → Option (List ℕ)) (tree : Tree) (lists : Lists) (s : State) → E.told edits.old ≡ Some m → IsReady (geometry_of sup.now) bitmap.old m tree lists → s.tree ≡ tree → MatchResult result (Reads (calls.IndexFind name.now low.now high.now) s) IsUndone }
+    ensures rests { (v : Room) (m w : ℕ → Option (List ℕ)) (tree : Tree) (lists : Lists) (s : State) → E.told edits.old ≡ Some m → IsReady (geometry_of sup.now) v w tree lists → SaysFound (geometry_of sup.now) w m tree name.now low.now high.now → s.tree ≡ tree → MatchResult result (Reads (calls.IndexFind name.now low.now high.now) s) IsUndone }
+    // Whatever image is whole with the tree and has this superblock but for the count of used blocks.
+    ensures whole { (m : ℕ → Option (List ℕ)) (image : sups.Super) (blocks : ℕ → List ℕ) (tree : Tree) (s : State) → E.told edits.old ≡ Some m → Whole image blocks tree → IsOfOne sup.now image → SaysFound (geometry_of sup.now) (told_of image blocks) m tree name.now low.now high.now → s.tree ≡ tree → MatchResult result (Reads (calls.IndexFind name.now low.now high.now) s) IsUndone }
+    ensures bitmap { bitmap.new ≡ bitmap.old }
+    ensures told { E.told edits.new ≡ E.told edits.old }
+    ensures changed { E.changed edits.new ≡ E.changed edits.old }
+    ensures size { E.size edits.new ≡ E.size edits.old }
+    ensures frame { E.frame edits.new ≡ E.frame edits.old }
+    ensures later { AreLater (E.counts edits.old) (E.counts edits.new) }
+    ensures cause { IfErr result (HasReadCause (E.counts edits.old) (E.counts edits.new)) }
+{
+    match rows_found(alloc, sup, bitmap, edits, name, low, high) {
+        Ok(found) => Ok(found),
         Err(fault) => Err(fault),
     }
 }

@@ -4,6 +4,7 @@ ghost use Rattle.bfs_base.specs.Keys.{IsTreeKind};
 ghost use Rattle.bfs_base.specs.declared.kind.KeyKind as kinds;
 ghost use Rattle.bfs_super.specs.Conditions.{IsValid, natural};
 ghost use Rattle.bfs_super.specs.Geometry.{geometry_of};
+ghost use Rattle.bfs_bitmap.specs.Runs.{Room};
 ghost use Rattle.bfs_txn.specs.Faults.{AreLater, Counts};
 ghost use Rattle.bfs_stream_pages.specs.Held.{stream_of};
 ghost use Rattle.bfs_tree.specs.Trees.{Tree};
@@ -11,10 +12,12 @@ ghost use Rattle.bfs_values.specs.Reached.{IsWholeTree};
 ghost use Rattle.bfs_maps.specs.Mapped.{HasReadable};
 ghost use Rattle.bfs_maps.specs.Refused.{IsUndone, HasReadCause};
 ghost use Rattle.bfs_make.specs.Sites.{stream_in};
+ghost use Rattle.bfs_moves.specs.IndexNames.{HasReadableNames};
 ghost use Rattle.bfs_sound.specs.Inodes.{is_proper};
 ghost use Rattle.bfs_shift.specs.Lists.{Lists};
 ghost use Rattle.bfs_look.specs.Ready.{IsReady, HasReady};
 ghost use Rattle.bfs_query.specs.Indices.{IsIndexFound};
+ghost use Rattle.bfs_query.specs.Resting.{SaysIndex};
 
 use bfs_bitmap::Bitmap;
 use bfs_make::{Site, blocks_in, stream_bytes};
@@ -113,8 +116,8 @@ pub(crate) fn is_proper_name(name: &[u8]) -> bool
     !(name == b".".as_slice() || name == b"..".as_slice())
 }
 
-/// The index of a name, or None where there is none.
-pub fn index_at<E: Edits>(
+/// The index of a name, or None where there is none. Of a volume only the blocks of the index directory and of that index are read.
+pub(crate) fn index_named<E: Edits>(
     alloc: Global,
     sup: &Super,
     bitmap: &mut Bitmap,
@@ -123,8 +126,8 @@ pub fn index_at<E: Edits>(
 ) -> Result<Option<IndexAt>, MapFault>
     requires valid { IsValid sup.now }
     requires size { E.size edits.old ≡ sup.now.block_size }
-    requires ready { (m : ℕ → Option (List ℕ)) → E.told edits.old ≡ Some m → HasReady (geometry_of sup.now) bitmap.old m }
-    ensures found { (m : ℕ → Option (List ℕ)) (tree : Tree) (lists : Lists) → E.told edits.old ≡ Some m → IsReady (geometry_of sup.now) bitmap.old m tree lists → MatchResult result (IsIndexFound lists name.now) IsUndone }
+    requires directory { (m : ℕ → Option (List ℕ)) → E.told edits.old ≡ Some m → HasReadableNames sup.now m }
+    ensures found { (v : Room) (m w : ℕ → Option (List ℕ)) (tree : Tree) (lists : Lists) → E.told edits.old ≡ Some m → IsReady (geometry_of sup.now) v w tree lists → SaysIndex (geometry_of sup.now) w m name.now → MatchResult result (IsIndexFound lists name.now) IsUndone }
     ensures below { IfOk result (λ o. IfSome o (λ at. at.inode < natural sup.now.num_blocks)) }
     ensures tree { IfOk result (λ o. IfSome o (λ at. IsTreeKind at.kind)) }
     ensures bitmap { bitmap.new ≡ bitmap.old }
@@ -149,6 +152,34 @@ pub fn index_at<E: Edits>(
     let site = Site { alloc, sup: *sup };
     match index_of(site, edits, inode) {
         Ok(at) => Ok(Some(at)),
+        Err(fault) => Err(fault),
+    }
+}
+
+/// The index of a name, or None where there is none.
+pub fn index_at<E: Edits>(
+    alloc: Global,
+    sup: &Super,
+    bitmap: &mut Bitmap,
+    edits: &mut E,
+    name: &[u8],
+) -> Result<Option<IndexAt>, MapFault>
+    requires valid { IsValid sup.now }
+    requires size { E.size edits.old ≡ sup.now.block_size }
+    requires ready { (m : ℕ → Option (List ℕ)) → E.told edits.old ≡ Some m → HasReady (geometry_of sup.now) bitmap.old m }
+    ensures found { (m : ℕ → Option (List ℕ)) (tree : Tree) (lists : Lists) → E.told edits.old ≡ Some m → IsReady (geometry_of sup.now) bitmap.old m tree lists → MatchResult result (IsIndexFound lists name.now) IsUndone }
+    ensures below { IfOk result (λ o. IfSome o (λ at. at.inode < natural sup.now.num_blocks)) }
+    ensures tree { IfOk result (λ o. IfSome o (λ at. IsTreeKind at.kind)) }
+    ensures bitmap { bitmap.new ≡ bitmap.old }
+    ensures told { E.told edits.new ≡ E.told edits.old }
+    ensures changed { E.changed edits.new ≡ E.changed edits.old }
+    ensures size { E.size edits.new ≡ E.size edits.old }
+    ensures frame { E.frame edits.new ≡ E.frame edits.old }
+    ensures later { AreLater (E.counts edits.old) (E.counts edits.new) }
+    ensures cause { IfErr result (HasReadCause (E.counts edits.old) (E.counts edits.new)) }
+{
+    match index_named(alloc, sup, bitmap, edits, name) {
+        Ok(found) => Ok(found),
         Err(fault) => Err(fault),
     }
 }

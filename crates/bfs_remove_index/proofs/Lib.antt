@@ -7,3 +7,4 @@ pub mod Whole
 pub mod Allowed
 pub use Rattle.bfs_query.proofs.Bearing
 pub use Rattle.bfs_query.proofs.Indexed
+pub use Rattle.bfs_query.proofs.Resting

@@ -3,13 +3,14 @@ use Rattle.bfs_base.specs.declared.kind.KeyKind.TheVariants.{Text}
 use Rattle.bfs_super.specs.Conditions.{natural}
 use Rattle.bfs_pages.specs.Maps.{assoc}
 use Rattle.bfs_maps.specs.NumberTrees.{IsNumberAt}
+use Rattle.bfs_moves.proofs.Found.{names_readable}
 use Rattle.bfs_calls.proofs.Indexed.{index_low, index_number}
 use Rattle.bfs_calls.proofs.indices.index_inside.Goals as goal
 
-pub find_index-requires-clause-work : goal.find_index-requires-clause-work
-find_index-requires-clause-work g c m told =
+pub find_index-requires-clause-directory : goal.find_index-requires-clause-directory
+find_index-requires-clause-directory g c m told there =
     let h = c.requires.ready m told in
-    record { tree = h.tree; lists = h.lists; loose = []; work = h.ready.work }
+    names_readable c.args.sup.now c.args.bitmap.now m h.tree h.lists [] c.requires.valid h.ready.work there
 
 pub returns-in-Err-clause-found : goal.returns-in-Err-clause-found
 returns-in-Err-clause-found g c m tree lists told ready =

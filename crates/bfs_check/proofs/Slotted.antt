@@ -10,27 +10,27 @@ use Rattle.bfs_disk.specs.Disk.{ReadsSectors}
 use Rattle.bfs_check.specs.Slots.{AreKept}
 
 -- sectors copied out of their window are those of the disk
-pub copied : (told : Option State) (tags bytes : List ℕ) (first n : ℕ) (into : List ℕ) → AreKept told tags bytes → get_or tags (first / 64 % 64) 0 ≡ first / 64 + 1 → first % 64 + n ≤ 64
-    → length into ≡ 512 * n → into ≡ take (512 * n) (drop (512 * (first % 4096)) bytes) → ReadsSectors told first into
+pub copied : (told : Option State) (tags bytes : List ℕ) (first n : ℕ) (into : List ℕ) → AreKept told tags bytes → get_or tags (first / 64 % 32) 0 ≡ first / 64 + 1 → first % 64 + n ≤ 64
+    → length into ≡ 512 * n → into ≡ take (512 * n) (drop (512 * (first % 2048)) bytes) → ReadsSectors told first into
 copied None tags bytes first n into kept there within long is = tt
 copied (Some s) tags bytes first n into kept there within long is = λ k lt.
     let low : k < n = omega (arith, lt, long) in
     ap (sector k) is
-    ∙ sector_part (first % 4096) k (512 * n) bytes (omega (arith, low))
-    ∙ ap (λ (m : ℕ). sector m bytes) (let e : first % 4096 + k ≡ 64 * (first / 64 % 64) + (first % 64 + k) = omega arith in e)
-    ∙ kept s refl (first / 64 % 64) (first % 64 + k) (first / 64) (omega arith) (omega (arith, low, within)) there
+    ∙ sector_part (first % 2048) k (512 * n) bytes (omega (arith, low))
+    ∙ ap (λ (m : ℕ). sector m bytes) (let e : first % 2048 + k ≡ 64 * (first / 64 % 32) + (first % 64 + k) = omega arith in e)
+    ∙ kept s refl (first / 64 % 32) (first % 64 + k) (first / 64) (omega arith) (omega (arith, low, within)) there
     ∙ ap (newest s) (let e : 64 * (first / 64) + (first % 64 + k) ≡ first + k = omega arith in e)
 
 -- nothing is kept where all tags are zero
-pub none_kept : (told : Option State) (bytes : List ℕ) → AreKept told (replicate {A = ℕ} 64 0) bytes
-none_kept told bytes s is i j w low lt tag = let none : get_or (replicate {A = ℕ} 64 0) i 0 ≡ 0 = get_or-replicate {A = ℕ} 64 i 0 0 low in absurd (omega (arith, none, tag))
+pub none_kept : (told : Option State) (bytes : List ℕ) → AreKept told (replicate {A = ℕ} 32 0) bytes
+none_kept told bytes s is i j w low lt tag = let none : get_or (replicate {A = ℕ} 32 0) i 0 ≡ 0 = get_or-replicate {A = ℕ} 32 i 0 0 low in absurd (omega (arith, none, tag))
 
 -- the bytes of a slot
-pub part_long : (slot : ℕ) (old : List ℕ) → slot < 64 → length old ≡ 2097152 → length (take (32768 * slot + 32768 - 32768 * slot) (drop (32768 * slot) old)) ≡ 32768
+pub part_long : (slot : ℕ) (old : List ℕ) → slot < 32 → length old ≡ 1048576 → length (take (32768 * slot + 32768 - 32768 * slot) (drop (32768 * slot) old)) ≡ 32768
 part_long slot old low room = length-take-le (32768 * slot + 32768 - 32768 * slot) (drop (32768 * slot) old) (omega (arith, low, room, length-drop (32768 * slot) old)) ∙ omega arith
 
 -- a window written over its slot
-module _ (slot : ℕ) (old part : List ℕ) (low : slot < 64) (room : length old ≡ 2097152) (long : length part ≡ 32768) where
+module _ (slot : ℕ) (old part : List ℕ) (low : slot < 32) (room : length old ≡ 1048576) (long : length part ≡ 32768) where
   abbrev pub written : List ℕ
   written = put_mid (32768 * slot) (32768 * slot + 32768 - 32768 * slot) old part
 
@@ -69,7 +69,7 @@ module _ (slot : ℕ) (old part : List ℕ) (low : slot < 64) (room : length old
       (cases_eq i slot)
 
   -- after a read of the window with this number
-  pub kept_read : (told : Option State) (tags : List ℕ) (window : ℕ) → length tags ≡ 64 → AreKept told tags old → ReadsSectors told (64 * window) part → AreKept told (set (set tags slot 0) slot (window + 1)) written
+  pub kept_read : (told : Option State) (tags : List ℕ) (window : ℕ) → length tags ≡ 32 → AreKept told tags old → ReadsSectors told (64 * window) part → AreKept told (set (set tags slot 0) slot (window + 1)) written
   kept_read told tags window count kept reads = rekept told tags (set (set tags slot 0) slot (window + 1)) kept
       (λ i other. get_or-set_other (set tags slot 0) slot i (window + 1) 0 other ∙ get_or-set_other tags slot i 0 0 other)
       (λ s is j w lt tag.
@@ -78,6 +78,6 @@ module _ (slot : ℕ) (old part : List ℕ) (low : slot < 64) (room : length old
       (subst (λ (o : Option State). ReadsSectors o (64 * window) part) is reads) j (omega (arith, lt, long)) ∙ ap (λ (m : ℕ). newest s (64 * m + j)) same)
 
   -- and after one that failed
-  pub kept_failed : (told : Option State) (tags : List ℕ) → length tags ≡ 64 → AreKept told tags old → AreKept told (set tags slot 0) written
+  pub kept_failed : (told : Option State) (tags : List ℕ) → length tags ≡ 32 → AreKept told tags old → AreKept told (set tags slot 0) written
   kept_failed told tags count kept = rekept told tags (set tags slot 0) kept (λ i other. get_or-set_other tags slot i 0 0 other)
       (λ s is j w lt tag. let none : get_or (set tags slot 0) slot 0 ≡ 0 = get_or-set_same tags slot 0 0 (omega (arith, count)) in absurd (omega (arith, none, tag)))

@@ -15,8 +15,8 @@ use bfs_super::Super;
 use bfs_txn::{BlockFault, Blocks};
 use std::snapshot::Snapshot;
 
-/// A disk that is lent, as the blocks of a volume, which are read with their neighbours: 32 KiB in one disk call, and the last
-/// windows of that length are kept. Where such a read fails, where the window does not lie whole in the volume, or where there was
+/// A disk that is lent, as the blocks of a volume, which are read with their neighbours where some of those were read before: 32 KiB in one disk call, and
+/// the last windows of that length are kept. Where such a read fails, where the window does not lie whole in the volume, or where there was
 /// no memory to keep any, the block is read by itself. What it notes for its owner is the disk as it was lent, and the name of the
 /// reference to it: no read changes them.
 pub struct AheadBlocks<'a, 'b, D: Disk> {

@@ -89,6 +89,23 @@ fn a_window_is_read_in_one_disk_call(rt: HostRuntime) -> Result<(), Fail> {
 }
 
 #[test]
+fn a_window_is_read_once_more_of_it_is_asked_for(rt: HostRuntime) -> Result<(), Fail> {
+    let alloc = rt.alloc();
+    // (two sectors by themselves, and then their window)
+    let mut disk = Stopping::after(MemDisk::new(alloc, numbered(alloc, 81920)?), 2);
+    let mut windows = Windows::new(alloc);
+    assert_eq!(rt; last_byte(&mut windows, &mut disk, 64), Ok(32));
+    assert_eq!(rt; last_byte(&mut windows, &mut disk, 70), Ok(35));
+    assert_eq!(rt; last_byte(&mut windows, &mut disk, 100), Ok(50));
+    let stopped = BlockFault::Disk {
+        before: 0,
+        after: 1,
+    };
+    assert_eq!(rt; last_byte(&mut windows, &mut disk, 128), Err(stopped));
+    Ok(())
+}
+
+#[test]
 fn a_window_that_fails_is_read_block_by_block(rt: HostRuntime) -> Result<(), Fail> {
     let alloc = rt.alloc();
     let plan = Vec::from_slice(alloc, &[1, 3, 4])?;

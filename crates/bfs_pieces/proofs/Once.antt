@@ -14,7 +14,7 @@ use Rattle.bfs_sound.proofs.Parts.{in_entries, nodes_apart, reach_parts}
 use Rattle.bfs_core.proofs.Files.{get_has}
 
 -- what stands at two places of a list is in it twice
-get_twice : (xs : List ℕ) (i j k : ℕ) → slice_get xs i ≡ Some k → slice_get xs j ≡ Some k → i < j → 2 ≤ times k xs
+pub get_twice : (xs : List ℕ) (i j k : ℕ) → slice_get xs i ≡ Some k → slice_get xs j ≡ Some k → i < j → 2 ≤ times k xs
 get_twice [] i j k is also lt = absurd (cc)
 get_twice (x ∷ xs) zero zero k is also lt = absurd (omega (arith, lt))
 get_twice (x ∷ xs) zero (suc j) k is also lt =

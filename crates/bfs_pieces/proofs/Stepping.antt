@@ -2,7 +2,7 @@
 use Rattle.std.proofs.lemmas.Option.{slice_get-get_or}
 use Rattle.bfs_base.specs.Lists.{times}
 use Rattle.bfs_core.proofs.Files.{get_has}
-use Rattle.std.proofs.Common.{◌≡◌, None, arith, ◌<◌, ◌≤◌, ◌+◌, ℕ, List, length, Bool, Option, Some, refl, sym, ◌∙◌, ap, subst}
+use Rattle.std.proofs.Common.{◌≡◌, None, arith, ◌<◌, ◌≤◌, ◌+◌, ◌*◌, ℕ, List, [], ◌∷◌, length, Bool, Option, Some, Result, Ok, Err, OnOk, refl, sym, ◌∙◌, ap, subst}
 use Rattle.std.specs.Prelude.{slice_index}
 use Rattle.bfs_disk.specs.State.{State}
 use Rattle.bfs_disk.specs.Blocks.{contents_of}
@@ -17,8 +17,8 @@ use Rattle.bfs_core.specs.Moments.{Adoption}
 use Rattle.bfs_core.proofs.Onward.{same_size}
 use Rattle.bfs_device_blocks.specs.Lent.{HasCore}
 use Rattle.bfs_pieces.specs.Pieces.{IsPieceOf, IsHeldPiece, IsUnknown}
-use Rattle.bfs_pieces.specs.Parts.{IsClear, KeepsOthers, MayWrite, TellsBut, ReadsBut}
-use Rattle.bfs_pieces.proofs.Spreading.{IsAt, file_here, clear_here, held_still, piece_still}
+use Rattle.bfs_pieces.specs.Parts.{IsClear, IsPartOf, KeepsOthers, MayWrite, TellsBut, ReadsBut}
+use Rattle.bfs_pieces.proofs.Spreading.{IsAt, at_start, file_here, clear_here, held_still, piece_more, piece_none, piece_still}
 use Rattle.bfs_pieces.proofs.Writing.{one_told}
 
 -- the file has the piece's blocks, and they have these bytes of it
@@ -99,3 +99,31 @@ others_more first (Some m) last r places index low silent reads back next is =
           ∙ got.2 k (λ at_it. let some : 0 < times k places = subst (λ (x : ℕ). 0 < times x places) (sym at_it) here in omega (arith, some, none))
           ∙ was.2 k none,
     )
+
+-- a write of one block alone
+pub others_block : (told after_it : Option State) (r place : ℕ) → (told ≡ None → after_it ≡ None) → ReadsBut r place told after_it → KeepsOthers r (place ∷ []) told after_it
+others_block told after_it r place silent reads = others_more told told after_it r (place ∷ []) 0 (omega arith) silent reads (λ next is. (next, is, λ k none. refl))
+
+-- and of the bytes of a piece that are in it
+pub block_written : {E : Type 0} (t0 : Mounted) (adopted : Adoption) (sp : SpaceView) (b : Books) (told : Option State) (clock : ℕ) (past : ℕ → List ℕ → Type 0) → HasCore t0 adopted sp b told clock past → (id at skip place : ℕ) (part : List ℕ)
+    → ((st : State) → told ≡ Some st → IsHeldPiece t0 sp (newest_map b st) id at (length part) skip (place ∷ [])) → 0 < length part → skip + length part ≤ b.sup.block_size → IsUnknown (state_after t0 sp.history).known id at (length part)
+    → (new : Books) (told' : Option State) (clock' : ℕ) (since : ℕ → List ℕ → Type 0) (result : Result Unit E)
+    → (HasCore t0 adopted sp b told clock past → MayWrite t0 sp b told place skip (length part) → HasCore t0 adopted sp new told' clock' since × TellsBut place b new told told')
+    → ReadsBut (layout_of b.sup).sectors place told told' → ((st : State) → told' ≡ Some st → OnOk result (IsPartOf (contents_of st (layout_of b.sup).sectors place) skip part))
+    → HasCore t0 adopted sp new told' clock' since
+    × ((next : State) → told' ≡ Some next → IsHeldPiece t0 sp (newest_map new next) id at (length part) skip (place ∷ []) × OnOk result (IsPieceOf (contents_of next (layout_of b.sup).sectors) b.sup.block_size (place ∷ []) skip part))
+block_written {E = E} t0 adopted sp b told clock past core id at skip place part held some inside unknown new told' clock' since result writes reads bytes =
+    let r = (layout_of b.sup).sectors in
+    let size = b.sup.block_size in
+    let so : IsAt size skip (length part) 0 skip 0 = at_start size skip (length part) (omega (arith, some, inside)) in
+    let whole : 0 + length part ≤ length part = omega arith in
+    let got = step_written t0 adopted sp b told clock past core r size id at (length part) skip (place ∷ []) [] refl (λ st is. (held st is, piece_none (contents_of st r) size (place ∷ []) skip part)) 0 skip 0 so some refl b.sup refl refl new told' clock' since (length part) part refl whole unknown writes reads in (
+      got.0,
+      λ next is. ((got.1 next is).0, by_result next result (bytes next is)),
+    )
+  where
+    by_result : (next : State) (r : Result Unit E) → OnOk r (IsPartOf (contents_of next (layout_of b.sup).sectors place) skip part) → OnOk r (IsPieceOf (contents_of next (layout_of b.sup).sectors) b.sup.block_size (place ∷ []) skip part)
+    by_result next (Err e) given = tt
+    by_result next (Ok done) given =
+        let e : skip + 0 ≡ b.sup.block_size * 0 + skip = omega arith in
+        piece_more (contents_of next (layout_of b.sup).sectors) b.sup.block_size (place ∷ []) skip 0 skip [] part (piece_none (contents_of next (layout_of b.sup).sectors) b.sup.block_size (place ∷ []) skip []) e inside given

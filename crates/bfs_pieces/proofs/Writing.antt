@@ -25,8 +25,8 @@ use Rattle.bfs_core.proofs.Onward.{same_size}
 use Rattle.bfs_device_blocks.specs.Lent.{AreSized, HasCore, IsBehindEntry, IsWrittenOver}
 use Rattle.bfs_device_blocks.proofs.Facing.{written_newest}
 use Rattle.bfs_device_blocks.proofs.Holding.{hold_written}
-use Rattle.bfs_pieces.specs.Parts.{IsClear, MayWrite, TellsBut, ReadsBut}
-use Rattle.bfs_pieces.proofs.Parting.{patched, patched_else}
+use Rattle.bfs_pieces.specs.Parts.{IsClear, IsPartOf, MayWrite, TellsBut, ReadsBut}
+use Rattle.bfs_pieces.proofs.Parting.{patched, patched_else, patched_part}
 
 -- ---- what the disk has after it
 
@@ -140,6 +140,22 @@ tells_on block b mid new told told' after_it rests same tells st next is after k
 pub tells_rested : (block : ℕ) (b mid : Books) (told told' : Option State) → IsRested b mid → told' ≡ told → TellsBut block b mid told told'
 tells_rested block b mid told told' rests same st next is after k other =
     ap (λ (s : State). newest_map mid s k) (one_told told next st (sym same ∙ after) is) ∙ ap (λ (m : ℕ → Option (List ℕ)). m k) (rested_map b mid st rests)
+
+pub may_rested : (t0 : Mounted) (sp : SpaceView) (b mid : Books) (told told' : Option State) (block skip n : ℕ) → IsRested b mid → told' ≡ told → MayWrite t0 sp b told block skip n → MayWrite t0 sp mid told' block skip n
+may_rested t0 sp b mid told told' block skip n rests same may st is =
+    subst (λ (m : ℕ → Option (List ℕ)). IsFaceData t0 sp m block × IsClear t0 sp m block skip n) (sym (rested_map b mid st rests)) (may st (sym same ∙ is))
+
+pub read_rested : (b mid : Books) (told told' : Option State) (block : ℕ) (bytes : List ℕ) → IsRested b mid → told' ≡ told → AreRead told (layout_of b.sup).sectors block bytes → AreRead told' (layout_of mid.sup).sectors block bytes
+read_rested b mid told told' block bytes rests same read =
+    subst (λ (s : Super). AreRead told' (layout_of s).sectors block bytes) (sym (ap (λ (x : Books). x.sup) rests)) (subst (λ (o : Option State). AreRead o (layout_of b.sup).sectors block bytes) (sym same) read)
+
+-- a block that was written with a part in it has the part
+pub part_read : (told : Option State) (r block : ℕ) (was part bytes : List ℕ) (skip : ℕ) (fits : skip + length part ≤ length was) (result : Result Unit DeviceFault) → bytes ≡ patched was part skip fits → OnOk result (AreRead told r block bytes)
+    → (st : State) → told ≡ Some st → OnOk result (IsPartOf (contents_of st r block) skip part)
+part_read told r block was part bytes skip fits (Err fault) is read st there = tt
+part_read told r block was part bytes skip fits (Ok done) is read st there =
+    let reads : bytes ≡ contents_of st r block = subst (λ (o : Option State). IfSome o (λ s. bytes ≡ contents_of s r block)) there read in
+    subst (λ (xs : List ℕ). IsPartOf xs skip part) (sym is ∙ reads) (patched_part was part skip fits)
 
 -- ---- what a write of a whole block asks
 

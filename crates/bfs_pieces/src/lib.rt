@@ -7,4 +7,5 @@
 mod block;
 mod piece;
 
-pub use piece::{read_piece, write_piece};
+pub use block::{read_block, read_part};
+pub use piece::{read_piece, write_block, write_piece};

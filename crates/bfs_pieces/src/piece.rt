@@ -1,8 +1,8 @@
 // Reads and writes of a piece, block by block.
-ghost use Rattle.std.specs.Prelude.{◌≡◌, ◌≤◌, ◌<◌, ◌+◌, ◌*◌, ℕ, length, Some, None, min, OnOk, IfErr, IsOk};
+ghost use Rattle.std.specs.Prelude.{◌≡◌, ◌⊎◌, ◌∷◌, [], ◌≤◌, ◌<◌, ◌+◌, ◌*◌, ℕ, length, Some, None, min, OnOk, IfErr, IsOk, IsSome};
 ghost use Rattle.std.specs.List.{All};
 ghost use Rattle.bfs_disk.specs.State.{State};
-ghost use Rattle.bfs_disk.specs.Blocks.{contents_of};
+ghost use Rattle.bfs_disk.specs.Blocks.{AreRead, contents_of};
 ghost use Rattle.bfs_tree.specs.Histories.{Mounted, state_after};
 ghost use Rattle.bfs_device.specs.Layouts.{IsData, layout_of};
 ghost use Rattle.bfs_device.specs.Data.{newest_in, IsRested};
@@ -13,7 +13,7 @@ ghost use Rattle.bfs_device_blocks.specs.Lent.{HasCore, IsBehindEntry};
 ghost use Rattle.bfs_pieces.specs.Parts.{KeepsOthers};
 ghost use Rattle.bfs_pieces.specs.Pieces.{HasHalted, HasPieceCause, IsHeldPiece, IsPieceOf, IsUnknown, TellsStop};
 
-use crate::block::{read_part, write_part};
+use crate::block::{read_part, write_in, write_part};
 use bfs_device::{Device, DeviceFault};
 use bfs_disk::Disk;
 
@@ -74,6 +74,44 @@ pub fn read_piece<D: Disk>(
         done += count;
     }
     Ok(())
+}
+
+/// Writes the bytes of a piece that are in one of its blocks, which no waiting group has, in one disk call. Where they are less than the block, `block` has
+/// what the disk has there: it was read before. A write that fails stops the device, and some of the bytes may be on the disk. Core and each known byte of
+/// files stay, whether it succeeds or fails, where an entry stands in front of it. Takes no memory.
+pub fn write_block<D: Disk>(
+    device: &mut Device<D>,
+    place: u64,
+    skip: usize,
+    from: &[u8],
+    block: &mut [u8],
+) -> Result<(), DeviceFault>
+    requires data { IsData (layout_of device.old.books.sup) place }
+    requires apart { newest_in device.old.books.groups place ≡ None }
+    requires buffer { length block.old ≡ device.old.books.sup.block_size }
+    requires inside { skip + length from.now ≤ device.old.books.sup.block_size }
+    requires some { 0 < length from.now }
+    ensures written { (t0 : Mounted) (adopted : Adoption) (sp : SpaceView) (id at : ℕ) → HasCore t0 adopted sp device.old.books (D.state device.old.disk) (D.clock device.old.disk) (D.since device.old.disk)
+        → IsBehindEntry adopted sp → ((st : State) → D.state device.old.disk ≡ Some st → IsHeldPiece t0 sp (newest_map device.old.books st) id at (length from.now) skip (place ∷ []))
+        → IsUnknown (state_after t0 sp.history).known id at (length from.now)
+        → (length from.now ≡ device.old.books.sup.block_size) ⊎ AreRead (D.state device.old.disk) (layout_of device.old.books.sup).sectors place block.old
+        → HasCore t0 adopted sp device.new.books (D.state device.new.disk) (D.clock device.new.disk) (D.since device.new.disk)
+        × ((next : State) → D.state device.new.disk ≡ Some next → IsHeldPiece t0 sp (newest_map device.new.books next) id at (length from.now) skip (place ∷ [])
+        × OnOk result (IsPieceOf (contents_of next (layout_of device.old.books.sup).sectors) device.old.books.sup.block_size (place ∷ []) skip from.now)) }
+    ensures others { KeepsOthers (layout_of device.old.books.sup).sectors (place ∷ []) (D.state device.old.disk) (D.state device.new.disk) }
+    ensures buffer_length { length block.new ≡ length block.old }
+    ensures one { IsSome (D.state device.old.disk) → OnOk result (D.clock device.new.disk ≡ D.clock device.old.disk + 1) }
+    ensures rest { device.new.books ≡ record device.old.books { moment = device.new.books.moment; stop = device.new.books.stop } }
+    ensures stop { OnOk result (device.new.books.stop ≡ device.old.books.stop) }
+    ensures size { D.size device.new.disk ≡ D.size device.old.disk }
+    ensures cause { IfErr result (HasPieceCause device.old.books.stop (D.faults device.old.disk) (D.faults device.new.disk)) }
+    // A failed write stops the device, and a failed read before it doesn't.
+    ensures stopped { IfErr result (TellsStop device.new.books.stop) }
+    ensures faults { D.faults device.old.disk ≤ D.faults device.new.disk }
+    ensures stops { D.stops device.old.disk ≤ D.stops device.new.disk }
+    ensures halted { IfErr result (HasHalted device.new.books.stop (D.stops device.old.disk) (D.stops device.new.disk)) }
+{
+    write_in(device, place, skip, from, block)
 }
 
 /// Writes a piece into its blocks, which are those at `places`: it begins so many bytes behind the start of the first. A block that the

@@ -9,7 +9,7 @@ use Rattle.bfs_tree.specs.declared.reply.Entry.{Entry}
 use Rattle.bfs_tree.specs.Histories.{Follows, Mounted, after, start, state_after}
 use Rattle.bfs_tree.specs.States.{State}
 use Rattle.bfs_tree.specs.Steps.{ByTree, Step, Turn, is_done, next}
-use Rattle.bfs_space.specs.Replaced.{FindsPlace}
+use Rattle.bfs_replies.specs.Replaced.{FindsPlace}
 
 module _ (e : Entry) (s t : State) (nodes : ℕ) (replaced : Bool) (is : nodes ≡ nodes_of s.tree) (found : is_done e.reply ≡ true → FindsPlace s.tree e.call replaced) where
   -- a reply by which nothing is done leaves the number

@@ -21,24 +21,22 @@ use Rattle.bfs_look.specs.Ready.{IsReady}
 use Rattle.bfs_core.specs.Caused.{IsCausedBy}
 use Rattle.bfs_core.specs.Chains.{IsLinked}
 use Rattle.bfs_core.proofs.Masks.{data_when}
-use Rattle.bfs_core.specs.Spaces.{SpaceView, Entered, HasSet, IsSoundOver, face}
-use Rattle.bfs_space.specs.Answered.{IsKept}
-use Rattle.bfs_space.specs.Books.{SpaceBooks, IsIdle, entry_noted}
-use Rattle.bfs_space.specs.Called.{IsCalled, IsFaceTold, is_changed, with_entry}
+use Rattle.bfs_core.specs.Spaces.{SpaceView, Entered, HasSet, IsSoundOver, face, noted}
+use Rattle.bfs_replies.specs.Kept.{IsKept, IsWithin}
+use Rattle.bfs_replies.specs.Books.{SpaceBooks, IsIdle, entry_noted}
+use Rattle.bfs_replies.specs.Called.{IsCalled, IsFaceTold, is_changed, with_entry}
 use Rattle.bfs_space.specs.Faces.{IsFaceOf, HasEntered}
-use Rattle.bfs_space.specs.Files.{KeepsBlocks}
+use Rattle.bfs_replies.specs.Files.{KeepsBlocks}
 use Rattle.bfs_space.specs.Holds.{holds_after}
-use Rattle.bfs_space.proofs.Called.{face_is_ready, call_entered, call_set, call_told, is_there, some_is}
+use Rattle.bfs_replies.proofs.Called.{face_is_ready, call_entered, call_set, call_told, is_there, some_is}
 use Rattle.bfs_space.proofs.Linking.{outside_wants, own_wants, same_logged, same_need}
 use Rattle.bfs_space.proofs.Following.{follows, tree_after, tree_unsynced}
-use Rattle.bfs_space.proofs.Turned.{outside_for, outside_turn, outside_unsynced}
+use Rattle.bfs_replies.proofs.Turned.{outside_for, outside_turn, outside_unsynced}
 use Rattle.bfs_core.proofs.Notes.{note_entered, note_set}
-use Rattle.bfs_core.specs.Spaces.{noted}
 use Rattle.bfs_device.specs.Phases.{none}
 use Rattle.bfs_sound.specs.Need.{logged_need, need}
 use Rattle.bfs_shift.specs.Shifts.{volume_in}
-use Rattle.bfs_space.specs.Replies.{IsDoneWithin, IsOutside, IsReplied}
-use Rattle.bfs_space.specs.Answered.{IsWithin}
+use Rattle.bfs_replies.specs.Replies.{IsDoneWithin, IsOutside, IsReplied}
 
 module _ (t0 : Mounted) (old : SpaceBooks) (m : ℕ → Option (List ℕ)) (face_of : IsFaceOf t0 old m) (volume : IsOfVolume (sizes_of old.view.sup) old.room) (some : 0 < old.view.sup.block_size)
     (used : old.room.tally.used ≡ old.view.used) (given : old.room.given ≡ old.view.given) where

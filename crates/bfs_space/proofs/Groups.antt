@@ -16,7 +16,7 @@ use Rattle.bfs_device.specs.Layouts.{layout_of, ring_count}
 use Rattle.bfs_device.specs.Books.{IsSealed}
 use Rattle.bfs_device.specs.Orders.{IsOnce}
 use Rattle.bfs_core.specs.Spaces.{SpaceView, IsGroupFor}
-use Rattle.bfs_space.specs.Books.{HasParts, MayBeSealed}
+use Rattle.bfs_replies.specs.Books.{HasParts, MayBeSealed}
 
 -- blocks that ascend are there once
 ascending_once : (pairs : List (ℕ × List ℕ)) → Ascends pairs → IsOnce pairs

@@ -19,7 +19,7 @@ use Rattle.bfs_tree.specs.Names.{target_of}
 use Rattle.bfs_tree.specs.States.{Known, State, place_cmp}
 use Rattle.bfs_tree.specs.Steps.{ByTree, Turn, next}
 use Rattle.bfs_tree.specs.Trees.{Node, Nodes, child, is_file, new_node}
-use Rattle.bfs_space.specs.Files.{lets_go}
+use Rattle.bfs_replies.specs.Files.{lets_go}
 
 -- only equal places tie
 same_place : (p q : ℕ × ℕ) → place_cmp p q ≡ Equal → p ≡ q

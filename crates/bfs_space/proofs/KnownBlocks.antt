@@ -17,10 +17,10 @@ use Rattle.bfs_sound.specs.Nodes.{HasContent}
 use Rattle.bfs_sound.specs.Whole.{IsSound}
 use Rattle.bfs_core.specs.KnownBytes.{HasByte, KeepsFiles, block_at}
 use Rattle.bfs_core.specs.Spaces.{SpaceView, face, noted}
-use Rattle.bfs_space.specs.Books.{SpaceBooks, entry_noted}
+use Rattle.bfs_replies.specs.Books.{SpaceBooks, entry_noted}
 use Rattle.bfs_space.specs.Faces.{HasEntered}
 use Rattle.bfs_space.specs.FileLaws.{AreThere}
-use Rattle.bfs_space.specs.Files.{AreKeptBy, KeepsBlocks, lets_go}
+use Rattle.bfs_replies.specs.Files.{AreKeptBy, KeepsBlocks, lets_go}
 use Rattle.bfs_space.proofs.Known.{known_stays}
 
 -- what stands at a place of a list stands there with more behind it

@@ -3,18 +3,6 @@ pub mod Stamps
 pub mod Held
 pub mod Lasts
 pub mod Groups
-pub mod Called
-pub mod Fits
-pub mod Within
-pub mod Alike
-pub mod Keeping
-pub mod Done
-pub mod Left
-pub mod Gone
-pub mod Indexed
-pub mod Put
-pub mod Turned
-pub mod Replaced
 pub mod Counting
 pub mod Plain
 pub mod Following
@@ -22,6 +10,6 @@ pub mod Linking
 pub mod Entering
 pub mod Known
 pub mod Pieced
-pub mod Grants
 pub mod Sited
 pub mod KnownBlocks
+pub mod Facing

@@ -1,10 +1,9 @@
 -- Face before a call and Face after it: the call is caused between the two.
 use Rattle.std.proofs.Common.{◌≡◌, ◌≢◌, inl, inr, ⊎_elim, ◌<◌, ◌≤◌, ◌+◌, ◌-◌, ◌/◌, ◌%◌, ◌*◌, ℕ, List, [], true, ◌==◌, nat_lt, not, Option, unwrap_or, refl, sym, ◌∙◌, ap, subst, arith}
-use Rattle.std.specs.Prelude.{max}
+use Rattle.std.specs.Prelude.{max, get_or}
 use Rattle.std.proofs.lemmas.Bool.{true≢false, and_from, lt-ltb}
 use Rattle.std.proofs.lemmas.Nat.Bits.{bit_at-lt}
 use Rattle.std.specs.Int.{bit_at}
-use Rattle.std.specs.Prelude.{get_or}
 use Rattle.bfs_super.specs.declared.sup.Super.{Super}
 use Rattle.bfs_super.specs.Geometry.{geometry_of}
 use Rattle.bfs_bitmap.specs.Bits.{bit_of}
@@ -26,7 +25,7 @@ use Rattle.bfs_super.specs.Conditions.{ceil}
 use Rattle.bfs_calls.specs.Refusals.{is_own}
 use Rattle.bfs_device.specs.Ahead.{geometry_with}
 use Rattle.bfs_core.specs.Caused.{AreFewIn, IsFreeIn, IsWanting}
-use Rattle.bfs_space.specs.Replies.{HasFewRuns, IsOutside, array_run}
+use Rattle.bfs_replies.specs.Replies.{HasFewRuns, IsOutside, array_run}
 
 -- ---- Need is of blocks, and not of how many are used
 

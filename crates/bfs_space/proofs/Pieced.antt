@@ -37,13 +37,13 @@ use Rattle.bfs_shift.specs.Shifts.{volume_in}
 use Rattle.bfs_shift.specs.Stocked.{Stocked}
 use Rattle.bfs_shift.specs.Work.{IsAtWork}
 use Rattle.bfs_moves.proofs.Ends.{reached}
-use Rattle.bfs_hold.proofs.Owned.{file_owns, file_size}
+use Rattle.bfs_replies.proofs.Owned.{file_owns, file_size}
 use Rattle.bfs_core.proofs.Masks.{data_when}
-use Rattle.bfs_hold.proofs.Refusing.{no_node, no_file, too_big, past_end}
-use Rattle.bfs_space.specs.Looks.{IsHeldIn, IsLooked, is_to_do}
-use Rattle.bfs_space.specs.declared.answers.Looked.{Looked}
-use Rattle.bfs_space.specs.declared.answers.Looked.TheVariants.{Answered, Allowed}
-use Rattle.bfs_space.proofs.Keeping.{inode_marked}
+use Rattle.bfs_replies.proofs.Refusing.{no_node, no_file, too_big, past_end}
+use Rattle.bfs_replies.specs.Looks.{IsHeldIn, IsLooked, is_to_do}
+use Rattle.bfs_replies.specs.Looked.{Looked}
+use Rattle.bfs_replies.specs.Looked.TheVariants.{Answered, Allowed}
+use Rattle.bfs_replies.proofs.Keeping.{inode_marked}
 
 -- what stands at a place of a list is in it
 place_has : (xs : List ℕ) (i d : ℕ) → i < length xs → Has xs (get_or xs i d)

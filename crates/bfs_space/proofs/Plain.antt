@@ -16,7 +16,7 @@ use Rattle.bfs_tree.specs.declared.reply.Reply.TheVariants as replies
 use Rattle.bfs_tree.specs.declared.state.Hold.{Hold}
 use Rattle.bfs_tree.proofs.Replies.{own-refuses}
 use Rattle.bfs_device.specs.declared.journal.Stop.{Stop}
-use Rattle.bfs_space.specs.Replies.{HasReplyCause, IsOutside, IsReplied}
+use Rattle.bfs_replies.specs.Replies.{HasReplyCause, IsOutside, IsReplied}
 use Rattle.bfs_space.specs.Taken.{is_just_done, plain_of}
 
 just_done : (r : Reply) → is_just_done r ≡ true → r ≡ replies.Done

@@ -17,11 +17,11 @@ use Rattle.std.proofs.lemmas.Grind.{fold-append}
 use Rattle.bfs_sound.specs.Inodes.{stream_blocks}
 use Rattle.bfs_shift.proofs.Made.{put_here}
 use Rattle.bfs_core.specs.Spaces.{face}
-use Rattle.bfs_hold.specs.Places.{piece_of}
-use Rattle.bfs_space.specs.Books.{SpaceBooks, entry_noted}
+use Rattle.bfs_replies.specs.Places.{piece_of}
+use Rattle.bfs_replies.specs.Books.{SpaceBooks, entry_noted}
 use Rattle.bfs_space.specs.Faces.{HasEntered}
-use Rattle.bfs_space.specs.Files.{AreKeptBy}
-use Rattle.bfs_space.specs.Looks.{IsHeldIn}
+use Rattle.bfs_replies.specs.Files.{AreKeptBy}
+use Rattle.bfs_replies.specs.Looks.{IsHeldIn}
 use Rattle.bfs_space.specs.Taken.{IsTaken}
 use Rattle.bfs_space.proofs.Pieced.{held_in}
 

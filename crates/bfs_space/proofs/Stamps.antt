@@ -6,7 +6,7 @@ use Rattle.std.proofs.lemmas.Int.{int_max_is, ints}
 use Rattle.bfs_base.specs.Lists.{times, Has}
 use Rattle.bfs_tree.specs.declared.reply.Entry.{Entry}
 use Rattle.bfs_tree.specs.Histories.{drawn, last_stamp}
-use Rattle.bfs_space.specs.Books.{IsLastStamp, without}
+use Rattle.bfs_replies.specs.Books.{IsLastStamp, without}
 
 folded : (history : List Entry) (entry : Entry) (z : ℤ) → fold (λ last e. e.stamp) z (history ++ entry ∷ []) ≡ entry.stamp
 folded [] entry z = refl

@@ -9,8 +9,8 @@ use Rattle.bfs_tree.specs.declared.reply.Reply.TheVariants as replies
 use Rattle.bfs_tree.specs.Histories.{is_stop}
 use Rattle.bfs_device.specs.declared.journal.Stop.{Stop}
 use Rattle.bfs_calls.specs.Refusals.{is_own}
-use Rattle.bfs_space.specs.Books.{KnowsStop, stop_after, stopped_at}
-use Rattle.bfs_space.specs.Replies.{HasReplyCause}
+use Rattle.bfs_replies.specs.Books.{KnowsStop, stop_after, stopped_at}
+use Rattle.bfs_replies.specs.Replies.{HasReplyCause}
 
 -- whether any entry tells it, with one more
 any_more : (es : List Entry) (e : Entry) → list_any (λ x. is_stop x.reply) (es ++ e ∷ []) ≡ (list_any (λ x. is_stop x.reply) es || is_stop e.reply)

@@ -7,6 +7,7 @@ use Rattle.bfs_txn.specs.Faults.{Counts}
 use Rattle.bfs_tree.specs.declared.call.Call.{Call}
 use Rattle.bfs_tree.specs.declared.call.Call.TheVariants as calls
 use Rattle.bfs_tree.specs.declared.reply.Reply.{Reply}
+use Rattle.bfs_tree.specs.declared.rows.Key.{Key}
 use Rattle.bfs_tree.specs.declared.reply.Reply.TheVariants as replies
 use Rattle.bfs_tree.specs.Histories.{Mounted, after}
 use Rattle.bfs_tree.specs.Steps.{is_done}
@@ -15,12 +16,13 @@ use Rattle.bfs_sound.specs.Need.{logged_need, need}
 use Rattle.bfs_shift.specs.Shifts.{volume_in}
 use Rattle.bfs_core.specs.Chains.{IsLinked}
 use Rattle.bfs_core.specs.Spaces.{Entered, HasSet, IsSoundOver, SameSeals, face as face_of}
-use Rattle.bfs_space.specs.Answered.{IsWithin}
-use Rattle.bfs_space.specs.Books.{SpaceBooks, IsIdle, entry_noted}
-use Rattle.bfs_space.specs.Called.{IsFaceTold}
-use Rattle.bfs_space.specs.Files.{KeepsBlocks}
+use Rattle.bfs_replies.specs.Kept.{IsWithin}
+use Rattle.bfs_replies.specs.Books.{SpaceBooks, IsIdle, entry_noted}
+use Rattle.bfs_replies.specs.Called.{IsFaceTold}
+use Rattle.bfs_replies.specs.Files.{KeepsBlocks}
 use Rattle.bfs_space.specs.Holds.{holds_after}
-use Rattle.bfs_space.specs.Replies.{HasReplyCause, IsOutside, IsPutOff}
+use Rattle.bfs_replies.specs.Resting.{SaysFound}
+use Rattle.bfs_replies.specs.Replies.{HasReplyCause, IsOutside, IsPutOff}
 use Rattle.bfs_space.specs.declared.space.Outcome.{Outcome}
 use Rattle.bfs_space.specs.declared.space.Outcome.TheVariants.{Replied, Drain}
 
@@ -34,6 +36,18 @@ pub record IsFaceOf (t0 : Mounted) (b : SpaceBooks) (m : ℕ → Option (List �
 pub record HasFace (b : SpaceBooks) (m : ℕ → Option (List ℕ)) : Type 0 where
   pub t0 : Mounted
   pub face : IsFaceOf t0 b m
+
+-- What is told below says of a map that the space stands over what a search of an index rests on, both under the open group.
+pub record FacesFound (b : SpaceBooks) (m : ℕ → Option (List ℕ)) (name : List ℕ) (low high : Key) : Type 0 where
+  pub t0 : Mounted
+  pub whole : ℕ → Option (List ℕ)
+  pub face : IsFaceOf t0 b whole
+  pub says : SaysFound (geometry_of b.view.sup) (over b.view.group whole) (over b.view.group m) (after t0 b.view.history) name low high
+
+-- what has to be told below of a call: what the space stands over; or for a search of an index, only what the search rests on
+abbrev pub MayFace : SpaceBooks → (ℕ → Option (List ℕ)) → Call → Type 0
+MayFace b m (calls.IndexFind name low high) = HasFace b m ⊎ FacesFound b m name low high
+MayFace b m _ = HasFace b m
 
 -- A reply that the tree alone gives: at most so many blocks have changed and at most so many more are used, and none where it is a refusal.
 pub record IsByTree (logged taken : ℕ) (old new : SpaceBooks) (m : ℕ → Option (List ℕ)) (reply : Reply) : Type 0 where

@@ -6,9 +6,9 @@ use Rattle.bfs_tree.specs.declared.reply.Entry.{Entry}
 use Rattle.bfs_tree.specs.Histories.{Mounted, Follows, after, state_after}
 use Rattle.bfs_core.specs.KnownBytes.{HasByte, KeepsFiles}
 use Rattle.bfs_core.specs.Spaces.{SpaceView, face, noted}
-use Rattle.bfs_space.specs.Books.{SpaceBooks}
+use Rattle.bfs_replies.specs.Books.{SpaceBooks}
 use Rattle.bfs_space.specs.Faces.{HasEntered}
-use Rattle.bfs_space.specs.Files.{lets_go}
+use Rattle.bfs_replies.specs.Files.{lets_go}
 
 -- each byte that is known is what these contents have at its place
 abbrev pub AreThere : Mounted → SpaceView → (ℕ → Option (List ℕ)) → (ℕ → List ℕ) → Type 0

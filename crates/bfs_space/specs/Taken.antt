@@ -7,9 +7,9 @@ use Rattle.bfs_tree.specs.declared.reply.Reply.TheVariants as replies
 use Rattle.bfs_tree.specs.Steps.{is_done}
 use Rattle.bfs_sound.specs.Inodes.{stream_blocks}
 use Rattle.bfs_device.specs.Layouts.{IsData, layout_of}
-use Rattle.bfs_hold.specs.Places.{piece_blocks, piece_of}
+use Rattle.bfs_replies.specs.Places.{piece_blocks, piece_of}
 use Rattle.bfs_core.specs.Spaces.{face}
-use Rattle.bfs_space.specs.Books.{SpaceBooks}
+use Rattle.bfs_replies.specs.Books.{SpaceBooks}
 
 -- one entry came, which says that the call was done
 abbrev pub IsTaken : SpaceBooks → SpaceBooks → Type 0

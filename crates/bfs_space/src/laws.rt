@@ -1,8 +1,8 @@
 // What a call of a space begins with, and what it leaves.
-ghost use Rattle.bfs_space.specs.Called.{FaceIsAtWork, FaceIsReady, CallIsEntered, DoneIsCalled, LeftIsCalled};
-ghost use Rattle.bfs_space.specs.Answered.{DoneIsAnswered, LeftIsAnswered};
+ghost use Rattle.bfs_replies.specs.Called.{FaceIsAtWork, FaceIsReady, CallIsEntered, DoneIsCalled, LeftIsCalled};
+ghost use Rattle.bfs_replies.specs.Answered.{DoneIsAnswered, LeftIsAnswered};
 ghost use Rattle.bfs_space.specs.FileLaws.{EnteredKeepsFiles, NoteKeepsFiles};
-ghost use Rattle.bfs_space.specs.Files.{KnownStays};
+ghost use Rattle.bfs_replies.specs.Files.{KnownStays};
 ghost use Rattle.bfs_space.specs.Holds.{EntryIsHeld, EntryKeepsHolds, HeldIsAfter};
 
 /// A call begins.

@@ -4,8 +4,10 @@ ghost use Rattle.std.specs.Vec.{vec_capacity};
 ghost use Rattle.bfs_base.specs.Lists.{times, Has};
 ghost use Rattle.bfs_super.specs.Conditions.{IsValid, natural};
 ghost use Rattle.bfs_super.specs.Geometry.{geometry_of};
+ghost use Rattle.bfs_txn.specs.Changed.{over};
 ghost use Rattle.bfs_tree.specs.declared.call.Call.TheVariants.{Sync};
 ghost use Rattle.bfs_tree.specs.declared.call.Call.TheVariants as calls;
+ghost use Rattle.bfs_tree.specs.declared.rows.Key as keys;
 ghost use Rattle.bfs_tree.specs.Answers.{KeepsRanges};
 ghost use Rattle.bfs_tree.specs.Steps.{is_done};
 ghost use Rattle.bfs_tree.specs.declared.reply.Entry as entries;
@@ -13,23 +15,24 @@ ghost use Rattle.bfs_tree.specs.declared.reply.Reply.TheVariants.{Done};
 ghost use Rattle.bfs_tree.specs.Histories.{Mounted, after};
 ghost use Rattle.bfs_count.specs.Counts.{nodes_of};
 ghost use Rattle.bfs_core.specs.Spaces.{IsGroupFor, sealed_space, released_space};
-ghost use Rattle.bfs_space.specs.Faces.{IsFaceOf, HasFace, HasOutcome, IsOutcome};
+ghost use Rattle.bfs_space.specs.Faces.{IsFaceOf, HasFace, MayFace, HasOutcome, IsOutcome};
 ghost use Rattle.bfs_space.specs.Holds.{keeps_holds};
 ghost use Rattle.bfs_space.specs.Taken.{ArePlaces, HavePiece};
 ghost use Rattle.bfs_bitmap.specs.Runs.{Fits};
 ghost use Rattle.bfs_stream.specs.Grown.{IsOfVolume};
 ghost use Rattle.bfs_stream.specs.Sizes.{sizes_of};
-ghost use Rattle.bfs_space.specs.Books.{IsIdle, KnowsStop, fresh, without, with_note, entry_noted, stop_after, sealed_room, released_room};
+ghost use Rattle.bfs_replies.specs.Resting.{SaysFound};
+ghost use Rattle.bfs_replies.specs.Books.{IsIdle, KnowsStop, fresh, without, with_note, entry_noted, stop_after, sealed_room, released_room};
 
-use crate::Answers;
 use crate::holds::note_holds;
 use crate::pieces::{Piece, hold_of, hold_or_stopped};
 use crate::promises::{make_room, take_entry};
-use crate::replying::{NoReply, reply_or_stopped};
 use crate::stamp::draw;
 use bfs_bitmap::Bitmap;
 use bfs_count::counted;
 use bfs_device::Stop;
+use bfs_replies::answers::Answers;
+use bfs_replies::{NoReply, reply_or_stopped};
 use bfs_super::Super;
 use bfs_tree::{Call, Entry, Hold, Reply};
 use bfs_txn::{Blocks, Changed, Group};
@@ -77,7 +80,7 @@ pub struct Space {
 impl Model for Space {
     ghost use Rattle.std.specs.Prelude.{◌≡◌, ◌≤◌, ◌+◌, ◌^◌, length};
     ghost use Rattle.std.specs.Vec.{vec_capacity};
-    ghost use Rattle.bfs_space.specs.Books.{SpaceBooks, HasParts, IsLastStamp, KnowsStop};
+    ghost use Rattle.bfs_replies.specs.Books.{SpaceBooks, HasParts, IsLastStamp, KnowsStop};
     ghost use Rattle.bfs_space.specs.Holds.{held_by};
 
     ghost Value = { SpaceBooks };
@@ -88,7 +91,7 @@ impl Model for Space {
 }
 
 impl Space {
-    ghost use Rattle.bfs_space.specs.Books.{SpaceBooks};
+    ghost use Rattle.bfs_replies.specs.Books.{SpaceBooks};
 
     /// The space of a volume that is whole with an empty log and has so many nodes, with an empty history and nothing reserved. It
     /// promises session 0 one entry.
@@ -243,8 +246,10 @@ impl Space {
         requires stays { keeps_holds call ≡ true }
         requires ranges { KeepsRanges call }
         requires size { B.size under.old ≡ self.old.view.sup.block_size }
-        requires faced { (m : ℕ → Option (List ℕ)) → B.told under.old ≡ Some m → HasFace self.old m }
+        requires faced { (m : ℕ → Option (List ℕ)) → B.told under.old ≡ Some m → MayFace self.old m call }
         ensures entered { (t0 : Mounted) (m : ℕ → Option (List ℕ)) → B.told under.old ≡ Some m → IsFaceOf t0 self.old m → IfOk result (IsOutcome t0 self.old self.new m session tag now call) }
+        // A search of an index rests on the index alone: so it is where what is told says that of what the space stands over.
+        ensures rests { (t0 : Mounted) (m w : ℕ → Option (List ℕ)) (name : List ℕ) (low high : keys.Key) → B.told under.old ≡ Some m → call ≡ calls.IndexFind name low high → IsFaceOf t0 self.old w → SaysFound (geometry_of self.old.view.sup) (over self.old.view.group w) (over self.old.view.group m) (after t0 self.old.view.history) name low high → IfOk result (IsOutcome t0 self.old self.new w session tag now call) }
         // Where they were counted rightly, the nodes are.
         ensures counted { (t0 : Mounted) (m : ℕ → Option (List ℕ)) → B.told under.old ≡ Some m → IsFaceOf t0 self.old m → self.old.nodes ≡ nodes_of (after t0 self.old.view.history) → OnOk result (self.new.nodes ≡ nodes_of (after t0 self.new.view.history)) }
         ensures noted { IfOk result (HasOutcome (B.counts under.old) (B.counts under.new) self.old self.new session tag now call) }

@@ -1,4 +1,4 @@
-use Rattle.bfs_space.proofs.Called.{call_entered, call_set}
+use Rattle.bfs_replies.proofs.Called.{call_entered, call_set}
 use Rattle.bfs_space.proofs.laws.call_is_entered.Goals as goal
 
 pub returns : goal.returns

@@ -1,4 +1,4 @@
-use Rattle.bfs_space.proofs.Done.{done_is_answered}
+use Rattle.bfs_replies.proofs.Done.{done_is_answered}
 use Rattle.bfs_space.proofs.laws.done_is_answered.Goals as goal
 
 pub returns : goal.returns

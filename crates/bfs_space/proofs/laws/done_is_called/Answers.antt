@@ -1,4 +1,4 @@
-use Rattle.bfs_space.proofs.Done.{done_is_called}
+use Rattle.bfs_replies.proofs.Done.{done_is_called}
 use Rattle.bfs_space.proofs.laws.done_is_called.Goals as goal
 
 pub returns : goal.returns

@@ -1,4 +1,4 @@
-use Rattle.bfs_space.proofs.Called.{face_at_work}
+use Rattle.bfs_replies.proofs.Called.{face_at_work}
 use Rattle.bfs_space.proofs.laws.face_is_at_work.Goals as goal
 
 pub returns : goal.returns

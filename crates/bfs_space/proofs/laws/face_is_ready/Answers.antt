@@ -1,4 +1,4 @@
-use Rattle.bfs_space.proofs.Called.{face_is_ready}
+use Rattle.bfs_replies.proofs.Called.{face_is_ready}
 use Rattle.bfs_space.proofs.laws.face_is_ready.Goals as goal
 
 pub returns : goal.returns

@@ -1,7 +1,7 @@
 use Rattle.std.proofs.Common.{rules, ◌≡◌, ℤ, subst, true, w64, to_z, of_z}
 use Rattle.std.specs.Prelude.{IfOk}
 use Rattle.bfs_super.specs.Geometry.{geometry_of}
-use Rattle.bfs_space.specs.Replies.{IsReplied}
+use Rattle.bfs_replies.specs.Replies.{IsReplied}
 use Rattle.bfs_space.proofs.pieces.hold_or_stopped.Goals as goal
 
 pub returns-in-None-clause-replied : goal.returns-in-None-clause-replied

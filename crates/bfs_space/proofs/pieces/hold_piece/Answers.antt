@@ -13,11 +13,11 @@ use Rattle.bfs_device.specs.Layouts.{IsData, layout_of}
 use Rattle.bfs_sound.specs.Inodes.{stream_blocks}
 use Rattle.bfs_shift.specs.Shifts.{volume_in}
 use Rattle.bfs_look.specs.Ready.{IsReady, HasReady}
-use Rattle.bfs_hold.specs.Places.{piece_blocks, piece_of}
-use Rattle.bfs_space.specs.Looks.{IsHeldIn, IsLooked, is_served, is_to_do}
-use Rattle.bfs_space.specs.Replies.{HasReplyCause, IsNoReply, IsReplied, reply_to, reply_to_block}
+use Rattle.bfs_replies.specs.Places.{piece_blocks, piece_of}
+use Rattle.bfs_replies.specs.Looks.{IsHeldIn, IsLooked, MaySee, is_served, is_to_do}
+use Rattle.bfs_replies.specs.Replies.{HasReplyCause, IsNoReply, IsReplied, reply_to, reply_to_block}
 use Rattle.bfs_space.proofs.Pieced.{looked_in}
-use Rattle.bfs_space.proofs.Turned.{away, block_caused, block_outside, block_undone, reply_earlier, step_answered, step_outside, step_undone, that_err, that_ok}
+use Rattle.bfs_replies.proofs.Turned.{away, block_caused, block_outside, block_undone, reply_earlier, step_answered, step_outside, step_undone, that_err, that_ok}
 use Rattle.bfs_space.proofs.pieces.hold_piece.Goals as goal
 
 pub look_call-requires-clause-serves : goal.look_call-requires-clause-serves
@@ -27,7 +27,7 @@ pub look_call-requires-clause-ranges : goal.look_call-requires-clause-ranges
 look_call-requires-clause-ranges g c = subst KeepsRanges (sym c.requires.call) tt
 
 pub look_call-requires-clause-ready : goal.look_call-requires-clause-ready
-look_call-requires-clause-ready g c = c.requires.ready
+look_call-requires-clause-ready g c = λ m told. subst (MaySee (geometry_of c.args.sup.now) c.args.bitmap.now (over c.args.group.now m)) (sym c.requires.call) (c.requires.ready m told)
 
 pub reply_looked-requires-clause-serves : goal.reply_looked-requires-clause-serves
 reply_looked-requires-clause-serves g c = ap is_served c.requires.call

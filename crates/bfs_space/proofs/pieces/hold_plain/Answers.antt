@@ -3,7 +3,7 @@ use Rattle.bfs_super.specs.Geometry.{geometry_of}
 use Rattle.bfs_tree.specs.declared.call.Call.{Call}
 use Rattle.bfs_tree.specs.declared.reply.Reply.{Reply}
 use Rattle.bfs_tree.specs.Steps.{is_done}
-use Rattle.bfs_space.specs.Replies.{HasReplyCause, IsReplied}
+use Rattle.bfs_replies.specs.Replies.{HasReplyCause, IsReplied}
 use Rattle.bfs_space.proofs.Plain.{done_plain, plain_caused, plain_done, plain_same}
 use Rattle.bfs_space.proofs.pieces.hold_plain.Goals as goal
 

@@ -1,6 +1,6 @@
 use Rattle.std.proofs.Common.{◌≡◌, ◌∙◌, true, sym}
 use Rattle.std.specs.Prelude.{Result, Ok, Err, MatchResult}
-use Rattle.bfs_space.specs.Looks.{is_to_do}
+use Rattle.bfs_replies.specs.Looks.{is_to_do}
 use Rattle.bfs_space.proofs.pieces.places_for.Goals as goal
 
 under_premise : {A E : Type 0} (C X : Type 0) (Q : E → Type 0) (r : Result A E) → MatchResult r (λ u. X) Q → MatchResult r (λ u. C → X) Q

@@ -8,7 +8,7 @@ use Rattle.bfs_stream.specs.Scans.{IsDamage}
 use Rattle.bfs_sound.specs.Inodes.{stream_blocks}
 use Rattle.bfs_shift.specs.Shifts.{volume_in}
 use Rattle.bfs_look.specs.Ready.{IsReady}
-use Rattle.bfs_hold.specs.Places.{piece_of}
+use Rattle.bfs_replies.specs.Places.{piece_of}
 use Rattle.bfs_space.proofs.Pieced.{file_inside, file_owned, file_places, piece_inside}
 use Rattle.bfs_space.proofs.pieces.places_over.Goals as goal
 use Rattle.bfs_space.proofs.pieces.places_over.Goals.{then-piece-geometry-via-then-piece-geometry, then-piece-geometry-via-else-piece-geometry+then-piece-gt-LONGEST}

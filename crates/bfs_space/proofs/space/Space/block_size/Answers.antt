@@ -2,7 +2,7 @@ use Rattle.std.proofs.Common.{subst}
 use Rattle.bfs_stream.specs.Grown.{IsOfVolume}
 use Rattle.bfs_stream.specs.Sizes.{sizes_of}
 use Rattle.bfs_shift.proofs.Basics.{most_bytes}
-use Rattle.bfs_space.specs.Books.{SpaceBooks}
+use Rattle.bfs_replies.specs.Books.{SpaceBooks}
 use Rattle.bfs_space.proofs.space.Space.block_size.Goals as goal
 
 pub returns-clause-small : goal.returns-clause-small

@@ -15,12 +15,12 @@ use Rattle.bfs_core.specs.Spaces.{face}
 use Rattle.bfs_shift.specs.Laws.{lists_of}
 use Rattle.bfs_shift.proofs.Basics.{some_bytes}
 use Rattle.bfs_sound.specs.Inodes.{stream_blocks}
-use Rattle.bfs_hold.specs.Places.{piece_blocks, piece_of}
-use Rattle.bfs_space.specs.declared.replying.NoReply.{NoReply}
-use Rattle.bfs_space.specs.Books.{SpaceBooks, IsIdle, IsLastStamp, KnowsStop, entry_noted}
+use Rattle.bfs_replies.specs.Places.{piece_blocks, piece_of}
+use Rattle.bfs_replies.specs.declared.replying.NoReply.{NoReply}
+use Rattle.bfs_replies.specs.Books.{SpaceBooks, IsIdle, IsLastStamp, KnowsStop, entry_noted}
 use Rattle.bfs_space.specs.Faces.{IsFaceOf, HasFace, HasEntered, HasReplied, promised_after}
 use Rattle.bfs_space.specs.Holds.{held_next, holds_after}
-use Rattle.bfs_space.specs.Replies.{IsNoReply, IsPutOff, IsReplied}
+use Rattle.bfs_replies.specs.Replies.{IsNoReply, IsPutOff, IsReplied}
 use Rattle.bfs_count.specs.Counts.{nodes_of}
 use Rattle.bfs_space.proofs.Counting.{counted_on}
 use Rattle.bfs_space.proofs.Entering.{ready, replied_with}
@@ -29,7 +29,7 @@ use Rattle.bfs_space.proofs.Held.{held_is_after, now_held}
 use Rattle.bfs_space.proofs.Sited.{done_taken, last_is, no_more, piece_same}
 use Rattle.bfs_space.proofs.Stamps.{last_noted}
 use Rattle.bfs_space.proofs.Stops.{caused_no_stop, stop_kept}
-use Rattle.bfs_space.proofs.Turned.{put_off_for}
+use Rattle.bfs_replies.proofs.Turned.{put_off_for}
 use Rattle.bfs_space.proofs.space.Space.hold.Goals as goal
 
 some_stop : (o : Option Stop) → is_some o ≡ true → (s : Stop) × (o ≡ Some s)

@@ -1,6 +1,6 @@
 use Rattle.std.proofs.Common.{rules, ◌≡◌, ◌≢◌, List, [], ◌∷◌, length, refl, subst, arith}
 use Rattle.bfs_bitmap.specs.declared.given.Given.{Given}
-use Rattle.bfs_space.specs.Books.{SpaceBooks, IsIdle}
+use Rattle.bfs_replies.specs.Books.{SpaceBooks, IsIdle}
 use Rattle.bfs_space.proofs.space.Space.is_idle.Goals as goal
 
 none_there : (gs : List Given) → (gs ≢ [] → ⊥) → gs ≡ []

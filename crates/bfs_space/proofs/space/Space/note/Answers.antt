@@ -4,7 +4,7 @@ use Rattle.std.proofs.Common.{rules, ◌≡◌, ◌+◌, ◌∙◌, ◌++◌, �
 use Rattle.bfs_base.specs.Lists.{Has}
 use Rattle.bfs_tree.specs.declared.reply.Entry.{Entry}
 use Rattle.bfs_tree.specs.Histories.{drawn, last_stamp}
-use Rattle.bfs_space.specs.Books.{SpaceBooks, IsLastStamp, KnowsStop, with_note, entry_noted}
+use Rattle.bfs_replies.specs.Books.{SpaceBooks, IsLastStamp, KnowsStop, with_note, entry_noted}
 use Rattle.bfs_space.proofs.Held.{now_held}
 use Rattle.bfs_space.proofs.Stops.{stop_known}
 use Rattle.bfs_space.proofs.Stamps.{last_noted, promise_ends}

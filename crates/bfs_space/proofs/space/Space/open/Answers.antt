@@ -4,7 +4,7 @@ use Rattle.bfs_bitmap.specs.Runs.{Room}
 use Rattle.std.specs.List.{list_any}
 use Rattle.bfs_tree.specs.Histories.{is_stop}
 use Rattle.bfs_tree.specs.declared.reply.Entry.{Entry}
-use Rattle.bfs_space.specs.Books.{HasParts, IsLastStamp}
+use Rattle.bfs_replies.specs.Books.{HasParts, IsLastStamp}
 use Rattle.bfs_space.specs.Holds.{held_by}
 use Rattle.bfs_space.proofs.Groups.{parts_opened}
 use Rattle.bfs_space.proofs.space.Space.open.Goals as goal

@@ -3,7 +3,7 @@ use Rattle.bfs_bitmap.specs.Runs.{Room, Fits}
 use Rattle.bfs_stream.specs.Sizes.{sizes_of}
 use Rattle.bfs_stream.specs.Grown.{IsOfVolume}
 use Rattle.bfs_core.specs.Spaces.{released_space}
-use Rattle.bfs_space.specs.Books.{SpaceBooks, released_room}
+use Rattle.bfs_replies.specs.Books.{SpaceBooks, released_room}
 use Rattle.bfs_space.proofs.Groups.{parts_with, released_used}
 use Rattle.bfs_space.proofs.space.Space.released.Goals as goal
 

@@ -3,7 +3,7 @@ use Rattle.bfs_bitmap.specs.Givens.{numbered}
 use Rattle.bfs_bitmap.specs.Runs.{Room, Fits}
 use Rattle.bfs_txn.specs.declared.group.Group.{Group}
 use Rattle.bfs_core.specs.Spaces.{IsGroupFor, sealed_space}
-use Rattle.bfs_space.specs.Books.{SpaceBooks, sealed_room}
+use Rattle.bfs_replies.specs.Books.{SpaceBooks, sealed_room}
 use Rattle.bfs_space.proofs.Groups.{group_for}
 use Rattle.bfs_space.proofs.space.Space.seal.Goals as goal
 

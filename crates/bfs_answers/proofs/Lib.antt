@@ -1,0 +1,12 @@
+pub mod Alike
+pub mod Keeping
+pub mod Done
+pub mod Left
+pub mod Gone
+pub mod Indexed
+pub mod Put
+pub mod Grants
+pub mod Searching
+pub use Rattle.bfs_rename.proofs.Renaming
+pub use Rattle.bfs_hold.proofs.Owned
+pub use Rattle.bfs_hold.proofs.Refusing

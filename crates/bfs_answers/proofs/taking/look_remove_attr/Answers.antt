@@ -1,0 +1,43 @@
+use Rattle.std.proofs.Common.{◌∙◌, [], refl, sym, subst}
+use Rattle.std.specs.FinMap.{empty}
+use Rattle.bfs_bitmap.specs.Runs.{Room}
+use Rattle.bfs_super.specs.Geometry.{geometry_of}
+use Rattle.bfs_tree.specs.declared.call.Call.TheVariants.{AttrRemove}
+use Rattle.bfs_tree.specs.States.{State}
+use Rattle.bfs_tree.specs.Steps.{ByTree}
+use Rattle.bfs_look.specs.Ready.{IsReady, HasReady}
+use Rattle.bfs_calls.proofs.Faulting.{undone_unanswered}
+use Rattle.bfs_answers.proofs.Alike.{allowed_alike}
+use Rattle.bfs_answers.proofs.Gone.{own_attribute}
+use Rattle.bfs_answers.proofs.taking.look_remove_attr.Goals as goal
+
+pub returns-in-Err-clause-unanswered : goal.returns-in-Err-clause-unanswered
+returns-in-Err-clause-unanswered g c m tree lists told ready =
+    undone_unanswered c.in-Err.fault (c.in-Err.ensures.refused m tree lists (record { tree = tree; holds = []; known = empty }) told ready refl)
+
+pub returns-in-Some-clause-looked : goal.returns-in-Some-clause-looked
+returns-in-Some-clause-looked g c m tree lists holds told ready = λ stamp s same held session.
+    (s, same, ByTree.refused (sym (sym c.in-Some.is ∙ c.in-Ok.ensures.refused m tree lists s told ready same)) refl)
+
+pub remove_attr_allowance-requires-clause-ready : goal.remove_attr_allowance-requires-clause-ready
+remove_attr_allowance-requires-clause-ready g c m told =
+    subst (λ (v : Room). HasReady (geometry_of c.args.sup.now) v m) (sym c.in-Ok.ensures.bitmap) (c.requires.ready m (sym c.in-Ok.ensures.told ∙ told))
+
+pub returns-in-Ok-remove_attr_allowance-clause-looked : goal.returns-in-Ok-remove_attr_allowance-clause-looked
+returns-in-Ok-remove_attr_allowance-clause-looked g c m tree lists holds told ready =
+    let ready_here = subst (λ (v : Room). IsReady (geometry_of c.args.sup.now) v m tree lists) (sym c.in-Ok.ensures.bitmap) ready in
+    let told_here = c.in-Ok.ensures.told ∙ told in
+    allowed_alike (geometry_of c.args.sup.now) m tree holds (AttrRemove c.args.id c.args.name.now) c.in-Ok-remove_attr_allowance.allowed refl
+    (λ s same held. sym (sym c.in-None.is ∙ c.in-Ok.ensures.refused m tree lists s told ready same)) refl
+    (c.in-Ok-remove_attr_allowance.ensures.allowed m tree lists told_here ready_here) (c.in-Ok-remove_attr_allowance.ensures.within m tree lists told_here ready_here)
+
+pub returns-in-Err-remove_attr_allowance-clause-unanswered : goal.returns-in-Err-remove_attr_allowance-clause-unanswered
+returns-in-Err-remove_attr_allowance-clause-unanswered g c m tree lists told ready =
+    undone_unanswered c.in-Err-remove_attr_allowance.fault
+    (c.in-Err-remove_attr_allowance.ensures.allowed m tree lists (c.in-Ok.ensures.told ∙ told) (subst (λ (v : Room). IsReady (geometry_of c.args.sup.now) v m tree lists) (sym c.in-Ok.ensures.bitmap) ready))
+
+pub remove_attr_allowance-requires-clause-there : goal.remove_attr_allowance-requires-clause-there
+remove_attr_allowance-requires-clause-there g c m tree lists told ready =
+    let st : State = record { tree = tree; holds = []; known = empty } in
+    let ready_here = subst (λ (v : Room). IsReady (geometry_of c.args.sup.now) v m tree lists) c.in-Ok.ensures.bitmap ready in
+    own_attribute st c.args.id c.args.name.now (sym (sym c.in-None.is ∙ c.in-Ok.ensures.refused m tree lists st (sym c.in-Ok.ensures.told ∙ told) ready_here refl))

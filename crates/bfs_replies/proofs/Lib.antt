@@ -1,0 +1,12 @@
+pub mod Called
+pub mod Fits
+pub mod Within
+pub mod Turned
+pub mod Replaced
+pub mod Sees
+pub use Rattle.bfs_answers.proofs.Left
+pub use Rattle.bfs_answers.proofs.Done
+pub use Rattle.bfs_answers.proofs.Keeping
+pub use Rattle.bfs_answers.proofs.Owned
+pub use Rattle.bfs_answers.proofs.Refusing
+pub use Rattle.bfs_answers.proofs.Searching

@@ -1,0 +1,11 @@
+pub mod Books
+pub mod Kept
+pub mod Replies
+pub mod Replaced
+pub use Rattle.bfs_answers.specs.Called
+pub use Rattle.bfs_answers.specs.Answered
+pub use Rattle.bfs_answers.specs.Files
+pub use Rattle.bfs_answers.specs.Looks
+pub use Rattle.bfs_answers.specs.Resting
+pub use Rattle.bfs_answers.specs.Places
+pub use Rattle.bfs_answers.specs.declared.answers.Looked

@@ -7,7 +7,7 @@ use Rattle.bfs_log.proofs.Replays.{replayed_empty}
 use Rattle.bfs_tree.specs.Histories.{Mounted}
 use Rattle.bfs_tree.specs.Trees.{Tree}
 use Rattle.bfs_sound.specs.Whole.{IsWhole}
-use Rattle.bfs_volume.specs.Volumes.{HasTree}
+use Rattle.bfs_file_io.specs.Volumes.{HasTree}
 
 -- a quiet disk holds its bytes
 pub holds_bytes : (bytes : List ℕ) → length bytes ≡ 512 * (length bytes / 512) → Holds bytes (state_of bytes)

@@ -47,10 +47,10 @@ use Rattle.bfs_core.proofs.Onward.{same_layout}
 use Rattle.bfs_core.proofs.Openings.{whole_of}
 use Rattle.bfs_core.proofs.Pieces.{piece_is_data}
 use Rattle.bfs_device_blocks.specs.Lent.{HasCore}
-use Rattle.bfs_volume.specs.Causes.{HasStopCause}
+use Rattle.bfs_file_io.specs.Causes.{HasStopCause}
 use Rattle.bfs_volume.specs.Closing.{IsChained, IsLeft}
-use Rattle.bfs_volume.specs.Faults.{HasStepCause}
-use Rattle.bfs_volume.specs.Volumes.{AreFitted}
+use Rattle.bfs_file_io.specs.Faults.{HasStepCause}
+use Rattle.bfs_file_io.specs.Volumes.{AreFitted}
 
 -- a block of an image as the disk reads it
 block_read : (st : State) (r b : ℕ) (image : List ℕ) → ReadsAs st image → r * b + r ≤ st.size → IsRead st r b (block r b image)

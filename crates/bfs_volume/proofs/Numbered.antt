@@ -9,8 +9,8 @@ use Rattle.bfs_core.specs.Moments.{Adoption}
 use Rattle.bfs_core.specs.Spaces.{face}
 use Rattle.bfs_core.specs.Cores.{newest_map}
 use Rattle.bfs_finding.proofs.OneTrees.{one_tree}
-use Rattle.bfs_space.specs.Books.{SpaceBooks}
-use Rattle.bfs_volume.specs.Volumes.{AreJoined}
+use Rattle.bfs_file_io.specs.Books.{SpaceBooks}
+use Rattle.bfs_file_io.specs.Volumes.{AreJoined}
 
 -- the tree that the space stands on is the one that Core has
 pub joined_nodes : (t0 : Mounted) (adopted : Adoption) (sp : SpaceBooks) (b : Books) (told : Option State) (clock : ℕ) (since : ℕ → List ℕ → Type 0) → AreJoined sp b told → HasCore t0 adopted sp.view b told clock since → sp.nodes ≡ nodes_of (after t0 sp.view.history)

@@ -1,8 +1,8 @@
 -- A space and a device of a volume that was just mounted.
 use Rattle.std.proofs.Common.{◌≡◌, ◌<◌, ◌+◌, ◌*◌, ◌/◌, inl, inr, ℕ, List, length, Option, Some, None, IfSome, refl, sym, ap, subst, arith}
 use Rattle.std.specs.FinMap.{empty}
-use Rattle.bfs_volume.proofs.Bare.{bare_bytes}
-use Rattle.bfs_volume.proofs.Mounting.{whole_recovers}
+use Rattle.bfs_mount.proofs.Bare.{bare_bytes}
+use Rattle.bfs_mount.proofs.Mounting.{whole_recovers}
 use Rattle.bfs_log.proofs.Replays.{replayed_empty}
 use Rattle.std.proofs.lemmas.Bool.{cond-true}
 use Rattle.std.proofs.lemmas.Nat.{div-mul-add}
@@ -26,9 +26,9 @@ use Rattle.bfs_core.proofs.Knowing.{known_opened}
 use Rattle.bfs_core.proofs.Masks.{of_data}
 use Rattle.bfs_core.proofs.Openings.{core_mounted}
 use Rattle.bfs_core.proofs.Wholes.{newest_is_sized}
-use Rattle.bfs_space.specs.Books.{first_room, fresh}
-use Rattle.bfs_volume.specs.Mounts.{IsHeldWhole}
-use Rattle.bfs_volume.specs.Volumes.{AreFitted, AreJoined, Stands}
+use Rattle.bfs_file_io.specs.Books.{first_room, fresh}
+use Rattle.bfs_mount.specs.Mounts.{IsHeldWhole}
+use Rattle.bfs_file_io.specs.Volumes.{AreFitted, AreJoined, Stands}
 
 -- a block of the bitmap is one of data
 bitmap_data : (s : Super) (j : ℕ) → IsValid s → 8 * s.block_size * j < natural s.num_blocks → IsData (layout_of s) (1 + j)

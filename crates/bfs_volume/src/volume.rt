@@ -1,5 +1,5 @@
 // A mounted volume.
-ghost use Rattle.std.specs.Prelude.{◌≡◌, ◌≢◌, ◌≤◌, ◌⊎◌, ℕ, List, [], ◌∷◌, Ok, Some, true, false, length, IfOk, IfErr, OnOk, OnErr, MatchResult, Option, None};
+ghost use Rattle.std.specs.Prelude.{◌≡◌, ◌≢◌, ◌≤◌, ◌⊎◌, ℕ, List, [], Ok, Some, true, false, length, IfOk, IfErr, IsSome, OnOk, OnErr, MatchResult, Option, None};
 ghost use Rattle.bfs_base.specs.Moments.{Passed};
 ghost use Rattle.bfs_disk.specs.State.{Tells, Holds, ReadsAs};
 ghost use Rattle.bfs_disk.specs.Disk.{MayLeave};
@@ -20,51 +20,53 @@ ghost use Rattle.bfs_core.specs.Settled.{KeepsKnown};
 ghost use Rattle.bfs_core.specs.Moments.{Adoption, KeptSince, adopted_from};
 ghost use Rattle.bfs_device_blocks.specs.Lent.{HasCore};
 ghost use Rattle.bfs_count.specs.Counts.{nodes_of};
-ghost use Rattle.bfs_space.specs.Looks.{is_built};
-ghost use Rattle.bfs_volume.specs.Mounts.{IsHeld, IsHeldWhole, IsMountedFrom, IsUnmounted, HasUnmountedCause};
-ghost use Rattle.bfs_volume.specs.Entries.{HasEntry, HasEntryOf, HasFailedSync, HasReplyIn, IsAnsweredIn, IsEnded, IsStoppedEntry, IsStoppedSync};
-ghost use Rattle.bfs_volume.specs.Events.{MayHappen, MayWantMemory, IsHappened, IsStoppedEvent, HasReplied};
-ghost use Rattle.bfs_volume.specs.Causes.{HasSyncCause, HasStopCause};
+ghost use Rattle.bfs_file_io.specs.Looks.{is_built};
+ghost use Rattle.bfs_mount.specs.Mounts.{IsHeld, IsHeldWhole, IsMountedFrom, IsUnmounted, HasUnmountedCause};
+ghost use Rattle.bfs_file_io.specs.Entries.{HasEntry, HasEntryOf, HasFailedSync, HasReplyIn, IsAnsweredIn, IsEnded, IsStoppedEntry, IsStoppedSync};
+ghost use Rattle.bfs_volume.specs.Events.{HasCountsOf, MayHappen, MayWantMemory, IsHappened, IsOneCall, IsStoppedEvent, HasReplied};
+ghost use Rattle.bfs_file_io.specs.Causes.{HasSyncCause, HasStopCause};
 ghost use Rattle.bfs_volume.specs.Closing.{IsChained, IsLeft};
-ghost use Rattle.bfs_volume.specs.Failing.{HasFailures, KeepsCounts};
-ghost use Rattle.bfs_volume.specs.Pieces.{HasPiece, HasHoldIn, IsHoldIn, HasReleaseCause};
-ghost use Rattle.bfs_volume.specs.Stamps.{HasDrawn};
+ghost use Rattle.bfs_file_io.specs.Failing.{HasFailures, KeepsCounts};
+ghost use Rattle.bfs_file_io.specs.Pieces.{HasPiece, HasHoldIn, IsHoldIn, HasReleaseCause};
+ghost use Rattle.bfs_file_io.specs.Stamps.{HasDrawn};
 
-use crate::calls::{answer, sync};
-use crate::event::{Event, Happened, as_happened, attempt, seal_open};
-use crate::events::{SyncFault, step};
-use crate::mount::{Unmounted, replay_and_check};
-use crate::pieces::{Piece, read, write};
-use crate::settle::settle;
+use crate::among::{answer_among, read_among, sync_among, write_among};
+use crate::event::{Event, Happened, make_event};
 use bfs_cache::Cache;
 use bfs_device::{Device, DeviceFault};
 use bfs_disk::Disk;
+use bfs_file_io::commit::{SyncFault, settle};
+use bfs_file_io::space::{Calls, Space};
+use bfs_file_io::{OpenPiece, Piece};
+use bfs_mount::{Unmounted, replay_and_check};
 use bfs_ports::Clock;
 use bfs_replay::MountFault;
-use bfs_space::{Calls, Space};
 use bfs_super::Super;
 use bfs_tree::{Call, Entry};
 use std::alloc::{AllocError, Global};
 use std::marker::Model;
 
-/// A mounted volume: the space of its names, over the device with its journal, and the clock that gives stamps. One session at a time calls it.
+/// A mounted volume: the space of its names, over the device with its journal, the clock that gives stamps, and the pieces of files that sessions hold.
+/// Sessions call it one after the other; a piece may be held over the calls of others.
 #[derive(Drop)]
 pub struct Volume<D: Disk, C: Clock> {
     alloc: Global,
     space: Space,
     device: Device<D>,
     clock: C,
+    pieces: Vec<OpenPiece>,
 }
 
 impl<D: Disk, C: Clock> Model for Volume<D, C> {
-    ghost use Rattle.std.specs.Prelude.{◌≡◌, ◌≤◌, [], ◌∷◌};
-    ghost use Rattle.bfs_volume.specs.Volumes.{VolumeView, AreJoined};
+    ghost use Rattle.std.specs.Prelude.{◌≤◌};
+    ghost use Rattle.bfs_file_io.specs.Open.{AreOpen};
+    ghost use Rattle.bfs_file_io.specs.Volumes.{VolumeView, AreJoined};
 
     ghost Value = { VolumeView D C };
 
-    ghost view = { λ v. record { space = v.space; device = v.device; clock = v.clock } };
+    ghost view = { λ v. record { space = v.space; device = v.device; clock = v.clock; pieces = v.pieces.items } };
 
-    ghost invariant = { λ v. AreJoined v.space v.device.books (D.state v.device.disk) × (v.space.promised ≡ 0 ∷ []) × (1 ≤ v.device.books.spare) };
+    ghost invariant = { λ v. AreJoined v.space v.device.books (D.state v.device.disk) × AreOpen v.pieces.items v.space v.device.books (D.state v.device.disk) × (1 ≤ v.device.books.spare) };
 }
 
 impl<D: Disk, C: Clock> Volume<D, C> {
@@ -110,6 +112,7 @@ impl<D: Disk, C: Clock> Volume<D, C> {
             space,
             device,
             clock,
+            pieces: Vec::new(alloc),
         })
     }
 
@@ -163,7 +166,15 @@ impl<D: Disk, C: Clock> Volume<D, C> {
         self.space.nodes()
     }
 
+    /// How many groups became durable since the volume was mounted. Takes no memory.
+    pub fn groups(&self) -> u64
+        ensures { result ≡ length self.now.device.books.marks }
+    {
+        self.device.marks().len() as u64
+    }
+
     /// Answers a call of a session. Its entry is the last one of the history, with the reply. Where no memory was found, there is none.
+    /// A session that holds a piece has to let it go first: till then it is answered as if memory were wanting.
     pub fn call(&mut self, session: u32, tag: u32, call: Call) -> Result<(), AllocError>
         requires session { session ≢ 0 }
         requires call { call ≢ Sync }
@@ -180,6 +191,7 @@ impl<D: Disk, C: Clock> Volume<D, C> {
         ensures stopped { (s : stops.Stop) → self.old.device.books.stop ≡ Some s → OnOk result (IsStoppedEntry self.old.space.view.history self.new.space.view.history session tag call s) }
         // And it stays stopped, whatever is answered.
         ensures stays_stopped { (s : stops.Stop) → self.old.device.books.stop ≡ Some s → self.new.device.books.stop ≡ Some s }
+        ensures pieces { self.new.pieces ≡ self.old.pieces }
         // The clock stands where it stood, and what was appended has its stamps from it.
         ensures clock { C.stands self.new.clock ≡ C.stands self.old.clock }
         ensures stamps { (s : ℕ) → C.stands self.old.clock ≡ Some s → HasDrawn self.old.space.view.history self.new.space.view.history s }
@@ -189,8 +201,11 @@ impl<D: Disk, C: Clock> Volume<D, C> {
             → HasCore t0 adopted self.new.space.view self.new.device.books (D.state self.new.device.disk) (D.clock self.new.device.disk) (D.since self.new.device.disk) }
     {
         let now = self.clock.seconds();
-        answer(
-            &mut self.space,
+        let pieces = self.pieces.as_slice();
+        let space = &mut self.space;
+        answer_among(
+            pieces,
+            space,
             &mut self.device,
             &Calls {},
             session,
@@ -200,17 +215,21 @@ impl<D: Disk, C: Clock> Volume<D, C> {
         )
     }
 
-    /// Makes one event: a call that is asked once, a seal, or a step of the device. Where no memory was found, none has come about.
+    /// Makes one event: a call or a hold that is asked once, the next disk call of a piece, the release of one, a seal, or a step of the device. Where no
+    /// memory was found, none has come about. A session that holds a piece makes no call and takes no other hold before it has let it go: that is answered
+    /// as if memory were wanting.
     pub fn event(&mut self, event: Event) -> Result<Happened, AllocError>
         requires may { MayHappen event }
-        ensures happened { IfOk result (IsHappened self.old.space self.new.space self.old.device.books self.new.device.books (D.faults self.old.device.disk) (D.faults self.new.device.disk) (D.stops self.old.device.disk) (D.stops self.new.device.disk) event) }
+        ensures happened { IfOk result (IsHappened self.old.space self.new.space self.old.pieces self.new.pieces self.old.device.books self.new.device.books (D.faults self.old.device.disk) (D.faults self.new.device.disk) (D.stops self.old.device.disk) (D.stops self.new.device.disk) event) }
+        // A piece makes one disk call, or none where nothing is left of it.
+        ensures one { IsSome (D.state self.old.device.disk) → IfOk result (IsOneCall self.old.space.view.sup.block_size self.old.pieces (D.clock self.old.device.disk) (D.clock self.new.device.disk) event) }
         ensures no_memory { OnErr result (self.new.space.view.history ≡ self.old.space.view.history) }
-        // A step of the device wants no memory.
-        ensures wants { OnErr result (MayWantMemory event) }
-        // Over what the disk tells, a call's reply is as the space's call says it, and it is put off only as that says.
+        // A step of the device and a release want no memory, and where the disk tells the next disk call of a piece wants none.
+        ensures wants { OnErr result (MayWantMemory (D.state self.old.device.disk) event) }
+        // Over what the disk tells, the reply of a call or a hold is as the space's call says it, and it is put off only as that says.
         ensures replied { (t0 : Mounted) (adopted : Adoption) → HasCore t0 adopted self.old.space.view self.old.device.books (D.state self.old.device.disk) (D.clock self.old.device.disk) (D.since self.old.device.disk)
             → IfOk result (HasReplied t0 self.old.space self.new.space self.old.device.books self.new.device.books (D.state self.new.device.disk) (D.faults self.old.device.disk) (D.faults self.new.device.disk) event) }
-        // Of a device that had stopped a call and a step are answered so, also where the disk tells nothing.
+        // Of a device that had stopped a call, a hold, a piece and a step are answered so, also where the disk tells nothing.
         ensures stopped { (s : stops.Stop) → self.old.device.books.stop ≡ Some s → IfOk result (IsStoppedEvent self.old.space.view.history self.new.space.view.history s event) }
         // And it stays stopped, whatever is answered.
         ensures stays_stopped { (s : stops.Stop) → self.old.device.books.stop ≡ Some s → self.new.device.books.stop ≡ Some s }
@@ -218,28 +237,23 @@ impl<D: Disk, C: Clock> Volume<D, C> {
         ensures clock { C.stands self.new.clock ≡ C.stands self.old.clock }
         ensures stamps { (s : ℕ) → C.stands self.old.clock ≡ Some s → HasDrawn self.old.space.view.history self.new.space.view.history s }
         // And of each failed entry the disk's counts of faults, and of a stop, are told, whatever the disk tells.
-        ensures failures { HasFailures self.old.space.view.history self.new.space.view.history self.old.device.books.stop self.new.device.books.stop (D.faults self.old.device.disk) (D.faults self.new.device.disk) (D.stops self.old.device.disk) (D.stops self.new.device.disk) }
+        ensures failures { HasCountsOf event self.old.space.view.history self.new.space.view.history self.old.device.books.stop self.new.device.books.stop (D.faults self.old.device.disk) (D.faults self.new.device.disk) (D.stops self.old.device.disk) (D.stops self.new.device.disk) }
         ensures core { (t0 : Mounted) (adopted : Adoption) → HasCore t0 adopted self.old.space.view self.old.device.books (D.state self.old.device.disk) (D.clock self.old.device.disk) (D.since self.old.device.disk)
             → HasCore t0 adopted self.new.space.view self.new.device.books (D.state self.new.device.disk) (D.clock self.new.device.disk) (D.since self.new.device.disk) }
     {
-        match event {
-            Event::Call { session, tag, call } => {
-                let now = self.clock.seconds();
-                let space = &mut self.space;
-                as_happened(attempt(space, &mut self.device, &Calls {}, session, tag, now, call))
-            }
-            Event::Seal => match seal_open(&mut self.space, &mut self.device) {
-                Ok(sealed) => Ok(Happened::Sealed(sealed)),
-                Err(fault) => Err(fault),
-            },
-            Event::Step => match step(&mut self.space, &mut self.device) {
-                Ok(progress) => Ok(Happened::Stepped(progress)),
-                Err(fault) => Ok(Happened::Fault(fault)),
-            },
-        }
+        let now = self.clock.seconds();
+        make_event(
+            self.alloc,
+            &mut self.space,
+            &mut self.device,
+            &mut self.pieces,
+            now,
+            event,
+        )
     }
 
     /// Makes all entries durable, and tells how many there are. The sync's own entry comes behind them.
+    /// A session that holds a piece has to let it go first: till then it is answered as if memory were wanting.
     pub fn sync(&mut self, session: u32, tag: u32) -> Result<u64, SyncFault>
         requires session { session ≢ 0 }
         ensures ok { IfOk result (λ n. (n ≡ length self.old.space.view.history) × (n ≤ durable_of self.new.device.books)) }
@@ -251,6 +265,7 @@ impl<D: Disk, C: Clock> Volume<D, C> {
         ensures stopped { (s : stops.Stop) → self.old.device.books.stop ≡ Some s → IsStoppedSync self.old.space.view.history self.new.space.view.history session tag s result }
         // And it stays stopped, whatever is answered.
         ensures stays_stopped { (s : stops.Stop) → self.old.device.books.stop ≡ Some s → self.new.device.books.stop ≡ Some s }
+        ensures pieces { self.new.pieces ≡ self.old.pieces }
         // The clock stands where it stood, and what was appended has its stamps from it.
         ensures clock { C.stands self.new.clock ≡ C.stands self.old.clock }
         ensures stamps { (s : ℕ) → C.stands self.old.clock ≡ Some s → HasDrawn self.old.space.view.history self.new.space.view.history s }
@@ -260,7 +275,8 @@ impl<D: Disk, C: Clock> Volume<D, C> {
             → HasCore t0 adopted self.new.space.view self.new.device.books (D.state self.new.device.disk) (D.clock self.new.device.disk) (D.since self.new.device.disk) }
     {
         let now = self.clock.seconds();
-        sync(&mut self.space, &mut self.device, session, tag, now)
+        let pieces = self.pieces.as_slice();
+        sync_among(pieces, &mut self.space, &mut self.device, session, tag, now)
     }
 
     /// The block of the root's inode, at which paths begin. Takes no memory.
@@ -273,6 +289,7 @@ impl<D: Disk, C: Clock> Volume<D, C> {
 
     /// Writes bytes of a file, from the byte `at` on: its piece is held, written beside the groups, and let go. The entries are the last ones: that of
     /// the hold, and where it was taken that of the release, which is whole where all bytes were written. Where no memory was found, there is none.
+    /// A session that holds a piece has to let it go first: till then it is answered as if memory were wanting.
     pub fn write(
         &mut self,
         session: u32,
@@ -293,6 +310,7 @@ impl<D: Disk, C: Clock> Volume<D, C> {
         ensures stopped { (s : stops.Stop) → self.old.device.books.stop ≡ Some s → OnOk result (IsStoppedEntry self.old.space.view.history self.new.space.view.history session tag (Hold id at (length bytes.now) true) s) }
         // And it stays stopped, whatever is answered.
         ensures stays_stopped { (s : stops.Stop) → self.old.device.books.stop ≡ Some s → self.new.device.books.stop ≡ Some s }
+        ensures pieces { self.new.pieces ≡ self.old.pieces }
         // The clock stands where it stood, and what was appended has its stamps from it.
         ensures clock { C.stands self.new.clock ≡ C.stands self.old.clock }
         ensures stamps { (s : ℕ) → C.stands self.old.clock ≡ Some s → HasDrawn self.old.space.view.history self.new.space.view.history s }
@@ -310,11 +328,20 @@ impl<D: Disk, C: Clock> Volume<D, C> {
             length: bytes.len() as u64,
             write: true,
         };
-        write(self.alloc, &mut self.space, &mut self.device, piece, bytes)
+        let pieces = self.pieces.as_slice();
+        write_among(
+            pieces,
+            self.alloc,
+            &mut self.space,
+            &mut self.device,
+            piece,
+            bytes,
+        )
     }
 
     /// Reads bytes of a file, from the byte `at` on, into the whole slice: its piece is held, read, and let go, as one that is written. Where its
     /// release is whole, the slice has the bytes, which are those that are known of the file.
+    /// A session that holds a piece has to let it go first: till then it is answered as if memory were wanting.
     pub fn read(
         &mut self,
         session: u32,
@@ -336,6 +363,7 @@ impl<D: Disk, C: Clock> Volume<D, C> {
         ensures stopped { (s : stops.Stop) → self.old.device.books.stop ≡ Some s → OnOk result (IsStoppedEntry self.old.space.view.history self.new.space.view.history session tag (Hold id at (length into.old) false) s) }
         // And it stays stopped, whatever is answered.
         ensures stays_stopped { (s : stops.Stop) → self.old.device.books.stop ≡ Some s → self.new.device.books.stop ≡ Some s }
+        ensures pieces { self.new.pieces ≡ self.old.pieces }
         // The clock stands where it stood, and what was appended has its stamps from it.
         ensures clock { C.stands self.new.clock ≡ C.stands self.old.clock }
         ensures stamps { (s : ℕ) → C.stands self.old.clock ≡ Some s → HasDrawn self.old.space.view.history self.new.space.view.history s }
@@ -353,7 +381,15 @@ impl<D: Disk, C: Clock> Volume<D, C> {
             length: into.len() as u64,
             write: false,
         };
-        read(self.alloc, &mut self.space, &mut self.device, piece, into)
+        let pieces = self.pieces.as_slice();
+        read_among(
+            pieces,
+            self.alloc,
+            &mut self.space,
+            &mut self.device,
+            piece,
+            into,
+        )
     }
 
     /// Gives up the volume as it stands: what wasn't sealed is lost, and the disk is as a crash now would meet it. Takes no memory.
@@ -377,6 +413,7 @@ impl<D: Disk, C: Clock> Volume<D, C> {
             space,
             device,
             clock,
+            pieces: _,
         } = self;
         let _durable = device.durable();
         device.steady();
@@ -415,6 +452,7 @@ impl<D: Disk, C: Clock> Volume<D, C> {
             mut space,
             mut device,
             clock,
+            pieces: _,
         } = self;
         let ended = settle(&mut space, &mut device);
         device.steady();

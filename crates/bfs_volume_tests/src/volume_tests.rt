@@ -1,10 +1,10 @@
 // Volumes on disks in memory: what a sync has acknowledged is there after a mount of what a stop at any disk call has left.
-ghost use Rattle.std.specs.Prelude.{◌≡◌, ◌≤◌, ℕ, List, IsTrue, IfOk, IfSome};
+ghost use Rattle.std.specs.Prelude.{ℕ, List, IsTrue, IfOk, IfSome};
 ghost use Rattle.bfs_disk.specs.State.{Tells, Holds, ReadsAs};
 ghost use Rattle.bfs_tree.specs.Histories.{Mounted};
 ghost use Rattle.bfs_device_blocks.specs.Lent.{HasCore};
 ghost use Rattle.bfs_core.specs.Moments.{Adoption};
-ghost use Rattle.bfs_volume.specs.Volumes.{HasTree, VolumeView};
+ghost use Rattle.bfs_volume.specs.Volumes.{HasTree};
 ghost use Rattle.bfs_volume.specs.Events.{MayHappen};
 
 use bfs_disk::{Disk, MemDisk};
@@ -56,7 +56,11 @@ pub(crate) fn new_image(alloc: Global) -> Result<Option<Vec<u8>>, AllocError>
 }
 
 /// Mounts an image on a disk that fails at one of its calls, where that isn't 0.
-fn mounts(alloc: Global, image: Vec<u8>, failing: u64) -> Result<Volume<MemDisk, Fixed>, AllocError>
+pub(crate) fn mounts(
+    alloc: Global,
+    image: Vec<u8>,
+    failing: u64,
+) -> Result<Volume<MemDisk, Fixed>, AllocError>
     requires { HasTree image.items }
     ensures { IfOk result (λ v. (t0 : Mounted) × (adopted : Adoption) × HasCore t0 adopted v.space.view v.device.books (⟦<MemDisk as Disk>⟧.state v.device.disk) (⟦<MemDisk as Disk>⟧.clock v.device.disk) (⟦<MemDisk as Disk>⟧.since v.device.disk)) }
 {
@@ -419,7 +423,7 @@ fn what_came(volume: &Volume<MemDisk, Fixed>) -> Came {
 }
 
 /// The bytes of a file from a place on: each is told by its place.
-fn bytes_from(alloc: Global, at: u64, count: usize) -> Result<Vec<u8>, AllocError> {
+pub(crate) fn bytes_from(alloc: Global, at: u64, count: usize) -> Result<Vec<u8>, AllocError> {
     let mut bytes = Vec::new(alloc);
     for i in 0..count {
         bytes.push((at.wrapping_add(i as u64) % 251) as u8)?;
@@ -428,7 +432,7 @@ fn bytes_from(alloc: Global, at: u64, count: usize) -> Result<Vec<u8>, AllocErro
 }
 
 /// Makes a file of 3,000 bytes, and tells its id.
-fn make_sized(
+pub(crate) fn make_sized(
     alloc: Global,
     volume: &mut Volume<MemDisk, Fixed>,
     dir: u64,

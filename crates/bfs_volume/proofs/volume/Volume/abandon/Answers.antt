@@ -2,7 +2,7 @@ use Rattle.std.proofs.Common.{◌≡◌, sym, ap, subst, arith}
 use Rattle.bfs_disk.specs.Disk.{MayLeave}
 use Rattle.bfs_device.specs.Books.{durable_of}
 use Rattle.bfs_device_blocks.specs.Lent.{HasCore}
-use Rattle.bfs_volume.specs.Volumes.{VolumeView}
+use Rattle.bfs_file_io.specs.Volumes.{VolumeView}
 use Rattle.bfs_volume.proofs.Closed.{known_kept, since_begun, some_recovers}
 use Rattle.bfs_volume.proofs.Left.{some_chained}
 use Rattle.bfs_volume.proofs.volume.Volume.abandon.Goals as goal

@@ -6,11 +6,11 @@ use Rattle.bfs_tree.specs.declared.reply.Entry.{Entry}
 use Rattle.bfs_device.specs.Books.{durable_of}
 use Rattle.bfs_device_blocks.specs.Lent.{HasCore}
 use Rattle.bfs_volume.specs.Closing.{IsChained}
-use Rattle.bfs_volume.specs.Causes.{HasStopCause}
-use Rattle.bfs_volume.specs.Volumes.{VolumeView}
+use Rattle.bfs_file_io.specs.Causes.{HasStopCause}
+use Rattle.bfs_file_io.specs.Volumes.{VolumeView}
 use Rattle.bfs_volume.proofs.Closed.{all_recovers, known_kept, since_begun, some_recovers}
 use Rattle.bfs_volume.proofs.Left.{all_chained, all_left, on_both, on_that, stop_cause}
-use Rattle.bfs_volume.specs.Failing.{KeepsCounts}
+use Rattle.bfs_file_io.specs.Failing.{KeepsCounts}
 use Rattle.bfs_volume.proofs.volume.Volume.close.Goals as goal
 
 pub returns-clause-all : goal.returns-clause-all

@@ -7,7 +7,7 @@ use Rattle.std.proofs.Props.{props}
 use Rattle.std.proofs.Math.Logic.{∥∥₁_elim, ∥∥₁_map}
 use Rattle.bfs_base.specs.Moments.{Passed}
 use Rattle.bfs_replay.specs.Recover.{GoesOn}
-use Rattle.bfs_volume.proofs.Mounting.{kept_mounting, mounted_again}
+use Rattle.bfs_mount.proofs.Mounting.{kept_mounting, mounted_again}
 use Rattle.bfs_volume.proofs.volume.Volume.mount.Goals as goal
 
 pub returns-in-Ok-open_replayed-clause-core : goal.returns-in-Ok-open_replayed-clause-core

@@ -1,5 +1,5 @@
 use Rattle.std.proofs.Common.{◌∙◌, ap, subst}
-use Rattle.bfs_volume.specs.Volumes.{AreJoined, VolumeView}
+use Rattle.bfs_file_io.specs.Volumes.{AreJoined, VolumeView}
 use Rattle.bfs_volume.proofs.Numbered.{joined_nodes}
 use Rattle.bfs_volume.proofs.volume.Volume.nodes.Goals as goal
 

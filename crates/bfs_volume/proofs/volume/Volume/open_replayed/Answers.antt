@@ -1,4 +1,4 @@
-use Rattle.std.proofs.Common.{◌≡◌, ◌∙◌, ℕ, List, Some, sym, ap, subst, arith}
+use Rattle.std.proofs.Common.{rules, [], ◌≡◌, ◌∙◌, ℕ, List, Some, sym, ap, subst, arith}
 use Rattle.std.proofs.Math.Logic.{∥∥₁_map}
 use Rattle.bfs_disk.specs.State.{State}
 use Rattle.bfs_super.specs.declared.sup.Super.{Super}
@@ -11,9 +11,11 @@ use Rattle.bfs_core.specs.Chains.{image_in}
 use Rattle.bfs_log.specs.Replay.{super_of}
 use Rattle.bfs_core.proofs.Mounts.{mount_core, mount_kept}
 use Rattle.bfs_device_blocks.specs.Lent.{HasCore, HasImages}
-use Rattle.bfs_space.specs.Books.{SpaceBooks}
-use Rattle.bfs_volume.specs.Volumes.{AreJoined}
-use Rattle.bfs_volume.proofs.Mounting.{held_recovered, images_held, known_held, mounted_next, mounted_recovers, one_image}
+use Rattle.bfs_file_io.specs.Books.{SpaceBooks}
+use Rattle.bfs_file_io.specs.Open.{AreOpen, OpenView}
+use Rattle.bfs_file_io.specs.Volumes.{AreJoined}
+use Rattle.bfs_volume.proofs.Others.{none_open}
+use Rattle.bfs_mount.proofs.Mounting.{held_recovered, images_held, known_held, mounted_next, mounted_recovers, one_image}
 use Rattle.bfs_volume.proofs.Opened.{joined_first}
 use Rattle.bfs_volume.proofs.volume.Volume.open_replayed.Goals as goal
 
@@ -31,10 +33,12 @@ invariant_of-result g c =
     subst (λ k. IsOnDisk (g.D.Disk.size k) s) same (subst (λ (b : Books). IsOnDisk (g.D.Disk.size d.disk) b.sup) books (subst (λ (x : View g.row.D.Denot). IsOnDisk (g.D.Disk.size x.disk) x.books.sup) is c.steady.ensures.on_disk)) in
     let steady : IsSteady (adopted s) = subst IsSteady (ap (λ (x : View g.row.D.Denot). x.books) is ∙ books) c.steady.ensures.steady in
     let first = joined_first (g.D.Disk.state disk) (g.D.Disk.size disk) s c.args.nodes c.requires.whole (g.met.D.Disk.filled disk) (g.met.D.Disk.sized disk) on steady in
+    let none : c.new-2.result.items ≡ [] = search rules in
     let spare : v.books.spare ≡ 1 = ap (λ (x : View g.row.D.Denot). x.books.spare) is ∙ ap (λ (b : Books). b.spare) books in (
       subst (λ (x : View g.row.D.Denot). AreJoined space x.books (g.D.Disk.state x.disk)) (sym is)
           (subst (λ k. AreJoined space d.books (g.D.Disk.state k)) (sym same) (subst (λ (b : Books). AreJoined space b (g.D.Disk.state disk)) (sym books) (subst (λ (x : SpaceBooks). AreJoined x (adopted s) (g.D.Disk.state disk)) (sym c.in-Ok-open.ensures) first))),
-      ap (λ (x : SpaceBooks). x.promised) c.in-Ok-open.ensures,
+      subst (λ (ps : List OpenView). AreOpen ps space v.books (g.D.Disk.state v.disk)) (sym none)
+          (none_open space v.books (g.D.Disk.state v.disk) (ap (λ (x : SpaceBooks). x.promised) c.in-Ok-open.ensures) (ap (λ (x : SpaceBooks). x.view.history) c.in-Ok-open.ensures)),
       omega (arith, spare),
     )
 

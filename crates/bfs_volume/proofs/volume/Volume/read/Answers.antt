@@ -1,12 +1,13 @@
-use Rattle.std.proofs.Common.{◌≡◌, Some, length, false, OnOk, sym, subst, ◌∙◌, ap}
+use Rattle.std.proofs.Common.{◌≡◌, Some, length, false, OnOk, sym, subst, ◌∙◌, ap, rules, List}
 use Rattle.bfs_device_blocks.specs.Lent.{HasCore}
-use Rattle.bfs_volume.specs.Entries.{IsStoppedEntry}
-use Rattle.bfs_volume.specs.Volumes.{VolumeView}
+use Rattle.bfs_file_io.specs.Entries.{IsStoppedEntry}
+use Rattle.bfs_file_io.specs.Volumes.{VolumeView}
 use Rattle.bfs_tree.specs.declared.call.Call.TheVariants.{Hold}
-use Rattle.bfs_volume.specs.Pieces.{HasReleaseCause, IsHoldIn}
-use Rattle.bfs_volume.specs.Stamps.{HasDrawn}
-use Rattle.bfs_volume.proofs.Drawn.{drawn_told}
-use Rattle.bfs_volume.specs.Failing.{HasFailures}
+use Rattle.bfs_file_io.specs.Pieces.{HasReleaseCause, IsHoldIn}
+use Rattle.bfs_file_io.specs.Stamps.{HasDrawn}
+use Rattle.bfs_file_io.proofs.Drawn.{drawn_told}
+use Rattle.bfs_file_io.specs.Failing.{HasFailures}
+use Rattle.bfs_file_io.specs.Open.{AreOpen, OpenView}
 use Rattle.bfs_volume.proofs.volume.Volume.read.Goals as goal
 
 pub returns-clause-core : goal.returns-clause-core
@@ -14,44 +15,62 @@ returns-clause-core g c = λ t0 adopted core.
     let i = c.self.inside in
     let inside : HasCore t0 adopted i.space.view i.device.books (g.D.Disk.state i.device.disk) (g.D.Disk.clock i.device.disk) (g.D.Disk.since i.device.disk) =
     subst (λ (v : VolumeView g.row.D.Denot g.row.C.Denot). HasCore t0 adopted v.space.view v.device.books (g.D.Disk.state v.device.disk) (g.D.Disk.clock v.device.disk) (g.D.Disk.since v.device.disk)) (sym c.self.view_is) core in
-    c.read.ensures.core t0 adopted inside
+    c.read_among.ensures.core t0 adopted inside
 
 pub returns-clause-answered : goal.returns-clause-answered
 returns-clause-answered g c = λ t0 adopted core.
     let i = c.self.inside in
     let inside : HasCore t0 adopted i.space.view i.device.books (g.D.Disk.state i.device.disk) (g.D.Disk.clock i.device.disk) (g.D.Disk.since i.device.disk) =
     subst (λ (v : VolumeView g.row.D.Denot g.row.C.Denot). HasCore t0 adopted v.space.view v.device.books (g.D.Disk.state v.device.disk) (g.D.Disk.clock v.device.disk) (g.D.Disk.since v.device.disk)) (sym c.self.view_is) core in
-    let n = c.read.new in
-    subst (λ (v : VolumeView g.row.D.Denot g.row.C.Denot). OnOk c.read.result (IsHoldIn t0 v.space (g.D.Disk.faults v.device.disk) (g.D.Disk.faults n.device.disk) c.args.session c.args.tag (Hold c.args.id c.args.at (length c.args.into.now) false) v.device.books.stop)) c.self.view_is
-    (c.read.ensures.answered t0 adopted inside)
+    let n = c.read_among.new in
+    subst (λ (v : VolumeView g.row.D.Denot g.row.C.Denot). OnOk c.read_among.result (IsHoldIn t0 v.space (g.D.Disk.faults v.device.disk) (g.D.Disk.faults n.device.disk) c.args.session c.args.tag (Hold c.args.id c.args.at (length c.args.into.now) false) v.device.books.stop)) c.self.view_is
+    (c.read_among.ensures.answered t0 adopted inside)
 
 pub returns-clause-released : goal.returns-clause-released
 returns-clause-released g c =
-    let n = c.read.new in
-    subst (λ (v : VolumeView g.row.D.Denot g.row.C.Denot). OnOk c.read.result (HasReleaseCause v.space.view.history n.space.view.history v.device.books.stop (g.D.Disk.faults v.device.disk) (g.D.Disk.faults n.device.disk))) c.self.view_is
-    c.read.ensures.released
+    let n = c.read_among.new in
+    subst (λ (v : VolumeView g.row.D.Denot g.row.C.Denot). OnOk c.read_among.result (HasReleaseCause v.space.view.history n.space.view.history v.device.books.stop (g.D.Disk.faults v.device.disk) (g.D.Disk.faults n.device.disk))) c.self.view_is
+    c.read_among.ensures.released
 
 pub returns-clause-stamps : goal.returns-clause-stamps
 returns-clause-stamps g c = λ s is.
     let i = c.self.inside in
-    let n = c.read.new in
-    let here = drawn_told i.space.view.history n.space.view.history (g.C.Clock.stands i.clock) c.seconds.result s c.seconds.ensures.told (ap (λ (v : VolumeView g.row.D.Denot g.row.C.Denot). g.C.Clock.stands v.clock) c.self.view_is ∙ is) c.read.ensures.stamps in
+    let n = c.read_among.new in
+    let here = drawn_told i.space.view.history n.space.view.history (g.C.Clock.stands i.clock) c.seconds.result s c.seconds.ensures.told (ap (λ (v : VolumeView g.row.D.Denot g.row.C.Denot). g.C.Clock.stands v.clock) c.self.view_is ∙ is) c.read_among.ensures.stamps in
     subst (λ (v : VolumeView g.row.D.Denot g.row.C.Denot). HasDrawn v.space.view.history n.space.view.history s) c.self.view_is here
 
 -- ---- of a device that had stopped
 
 pub returns-clause-stopped : goal.returns-clause-stopped
 returns-clause-stopped g c = λ s is.
-    let n = c.read.new in
+    let n = c.read_among.new in
     let inside : c.self.inside.device.books.stop ≡ Some s = ap (λ (v : VolumeView g.row.D.Denot g.row.C.Denot). v.device.books.stop) c.self.view_is ∙ is in
-    subst (λ (v : VolumeView g.row.D.Denot g.row.C.Denot). OnOk c.read.result (IsStoppedEntry v.space.view.history n.space.view.history c.args.session c.args.tag (Hold c.args.id c.args.at (length c.args.into.now) false) s)) c.self.view_is (c.read.ensures.stopped s inside)
+    subst (λ (v : VolumeView g.row.D.Denot g.row.C.Denot). OnOk c.read_among.result (IsStoppedEntry v.space.view.history n.space.view.history c.args.session c.args.tag (Hold c.args.id c.args.at (length c.args.into.now) false) s)) c.self.view_is (c.read_among.ensures.stopped s inside)
 
 pub returns-clause-stays_stopped : goal.returns-clause-stays_stopped
-returns-clause-stays_stopped g c = λ s is. c.read.ensures.stays_stopped s (ap (λ (v : VolumeView g.row.D.Denot g.row.C.Denot). v.device.books.stop) c.self.view_is ∙ is)
+returns-clause-stays_stopped g c = λ s is. c.read_among.ensures.stays_stopped s (ap (λ (v : VolumeView g.row.D.Denot g.row.C.Denot). v.device.books.stop) c.self.view_is ∙ is)
 
 -- ---- the disk's counts
 
 pub returns-clause-failures : goal.returns-clause-failures
 returns-clause-failures g c =
-    let n = c.read.new in
-    subst (λ (v : VolumeView g.row.D.Denot g.row.C.Denot). HasFailures v.space.view.history n.space.view.history v.device.books.stop n.device.books.stop (g.D.Disk.faults v.device.disk) (g.D.Disk.faults n.device.disk) (g.D.Disk.stops v.device.disk) (g.D.Disk.stops n.device.disk)) c.self.view_is c.read.ensures.failures
+    let n = c.read_among.new in
+    subst (λ (v : VolumeView g.row.D.Denot g.row.C.Denot). HasFailures v.space.view.history n.space.view.history v.device.books.stop n.device.books.stop (g.D.Disk.faults v.device.disk) (g.D.Disk.faults n.device.disk) (g.D.Disk.stops v.device.disk) (g.D.Disk.stops n.device.disk)) c.self.view_is c.read_among.ensures.failures
+
+-- ---- the pieces that are held
+
+pub read_among-requires-clause-open : goal.read_among-requires-clause-open
+read_among-requires-clause-open g c =
+    let i = c.self.inside in
+    let e : c.as_slice-pieces.result.now ≡ i.pieces.items = search rules in
+    subst (λ (ps : List OpenView). AreOpen ps i.space i.device.books (g.D.Disk.state i.device.disk)) (sym e) c.self.invariant.1
+
+pub invariant_of-self : goal.invariant_of-self
+invariant_of-self g c =
+    let i = c.self.inside in
+    let n = c.read_among.new in
+    let e : c.as_slice-pieces.result.now ≡ i.pieces.items = search rules in (
+      c.read_among.ensures.joined,
+      subst (λ (ps : List OpenView). AreOpen ps n.space n.device.books (g.D.Disk.state n.device.disk)) e c.read_among.ensures.open,
+      c.read_among.ensures.spare,
+    )

@@ -1,6 +1,6 @@
 use Rattle.std.proofs.Common.{◌≡◌, ◌∙◌, sym, ap}
 use Rattle.bfs_super.specs.Geometry.{geometry_of}
-use Rattle.bfs_volume.specs.Volumes.{VolumeView}
+use Rattle.bfs_file_io.specs.Volumes.{VolumeView}
 use Rattle.bfs_volume.proofs.Rooted.{same_root}
 use Rattle.bfs_volume.proofs.volume.Volume.root.Goals as goal
 

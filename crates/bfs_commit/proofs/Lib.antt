@@ -1,0 +1,16 @@
+pub mod Told
+pub mod Stays
+pub mod Bytes
+pub mod Taken
+pub mod Holding
+pub mod Joined
+pub mod Noting
+pub mod Asked
+pub mod Opens
+pub mod Ends
+pub mod Drawn
+pub mod Failed
+pub use Rattle.bfs_space.proofs.Counting
+pub use Rattle.bfs_space.proofs.Held
+pub use Rattle.bfs_space.proofs.Groups
+pub use Rattle.bfs_space.proofs.Stamps

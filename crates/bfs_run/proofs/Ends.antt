@@ -17,7 +17,7 @@ use Rattle.bfs_core.specs.Spaces.{SpaceView}
 use Rattle.bfs_core.specs.Chains.{Image, IsChain}
 use Rattle.bfs_core.specs.Settled.{KeepsKnown}
 use Rattle.bfs_core.specs.Cores.{Core, IsAcknowledged, IsKnown, RecoversFrom}
-use Rattle.bfs_volume.specs.declared.mount.Unmounted.{Unmounted}
+use Rattle.bfs_volume.specs.Unmounted.{Unmounted}
 use Rattle.bfs_volume.specs.Stamps.{AreDrawn, HasDrawn}
 use Rattle.bfs_volume.specs.Closing.{IsChained, IsLeft}
 use Rattle.bfs_volume.specs.Failing.{HasFailures}

@@ -4,6 +4,8 @@ pub mod Ends
 pub mod Made
 pub mod Gone
 pub mod Failed
+pub mod Rooms
+pub mod NewLogs
 pub use Rattle.bfs_volume.proofs.Bare
 pub use Rattle.bfs_volume.proofs.Hindered
 pub use Rattle.bfs_volume.proofs.Reading

@@ -2,8 +2,10 @@ pub mod Sources
 pub mod Complete
 pub mod Runs
 pub mod Scripts
+pub mod Rooms
+pub mod NewLogs
 pub use Rattle.bfs_volume.specs.Mounts
-pub use Rattle.bfs_volume.specs.declared.mount.Unmounted
+pub use Rattle.bfs_volume.specs.Unmounted
 pub use Rattle.bfs_volume.specs.CheckFaultVariants
 pub use Rattle.bfs_volume.specs.CheckFault
 pub use Rattle.bfs_volume.specs.Verdict

@@ -3,11 +3,15 @@
 #![tactic(auto)]
 
 mod ask;
+mod laws;
 mod line;
 mod lines;
 mod quiet;
 mod run;
 mod source;
+mod watch;
 
 pub use bfs_volume::{Unmounted, check as check};
+pub use laws::{log_room_is_found, room_is_found};
 pub use run::{Closed, Run, run_shell, run_workload};
+pub use watch::{Unwatched, Watcher};

@@ -10,6 +10,7 @@ ghost use Rattle.bfs_volume.specs.Stamps.{HasDrawn};
 ghost use Rattle.bfs_volume.specs.Failing.{HasFailures};
 
 use crate::line::run_line;
+use crate::watch::Watcher;
 use bfs_command::{Line, line_is_spelled, nothing_is_spelled, stop_is_spelled};
 use bfs_disk::Disk;
 use bfs_ports::Clock;
@@ -75,13 +76,25 @@ fn run_next<D: Disk, C: Clock>(
     }
 }
 
+/// Tells a watcher how many lines are run.
+fn tell<D: Disk, C: Clock, P: Watcher>(
+    volume: &Volume<D, C>,
+    done: usize,
+    all: usize,
+    watcher: &P,
+) {
+    let entries = volume.history().len() as u64;
+    watcher.lines(done as u64, all as u64, entries, volume.groups());
+}
+
 /// Runs the lines of a script on a volume, one after the other, as one worker does; their paths begin at `root`. Where no memory is found it stops:
-/// the entries so far are the first of those of the lines.
-pub fn run_script<D: Disk, C: Clock>(
+/// the entries so far are the first of those of the lines. Behind each line the watcher is told how far it has come.
+pub fn run_script<D: Disk, C: Clock, P: Watcher>(
     alloc: Global,
     volume: &mut Volume<D, C>,
     root: u64,
     script: &Script,
+    watcher: &P,
 ) -> Result<(), AllocError>
     requires form { All IsLineInForm script.now }
     requires fresh { volume.old.space.view.history ≡ [] }
@@ -98,7 +111,7 @@ pub fn run_script<D: Disk, C: Clock>(
     nothing_is_spelled();
     'lines: for at in 0..script.len() {
         match run_next(alloc, volume, root, script, at) {
-            Ok(()) => {}
+            Ok(()) => tell(volume, at + 1, script.len(), watcher),
             Err(fault) => return Err(fault),
         }
     }

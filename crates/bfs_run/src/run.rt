@@ -11,8 +11,8 @@ ghost use Rattle.bfs_script.specs.Scripts.{script_of, bad_line};
 ghost use Rattle.bfs_device_blocks.specs.Lent.{HasCore};
 ghost use Rattle.bfs_core.specs.Chains.{Image};
 ghost use Rattle.bfs_core.specs.Moments.{Adoption, adopted_from};
-ghost use Rattle.bfs_volume.specs.Mounts.{IsHeld, IsMountedFrom, IsUnmounted, HasUnmountedCause, mounted_image};
-ghost use Rattle.bfs_volume.specs.declared.mount.Unmounted as mounting;
+ghost use Rattle.bfs_volume.specs.Mounts.{IsMountedFrom, IsUnmounted, HasUnmountedCause, mounted_image};
+ghost use Rattle.bfs_volume.specs.Unmounted as mounting;
 ghost use Rattle.bfs_soak.specs.Workload.{workload};
 ghost use Rattle.bfs_run.specs.Sources.{IsReadOf};
 ghost use Rattle.bfs_run.specs.Runs.{AreLinesOf, HasNoScript, HasRun, HasRunFailures, IsEarly, IsScriptOf, IsUnmountedRun, SaysScript};
@@ -20,6 +20,7 @@ ghost use Rattle.bfs_run.specs.Runs.{AreLinesOf, HasNoScript, HasRun, HasRunFail
 use crate::lines::run_script;
 use crate::quiet::make_quiet;
 use crate::source::{Unread, read_source};
+use crate::watch::Watcher;
 use bfs_device::DeviceFault;
 use bfs_disk::Disk;
 use bfs_ports::{Clock, Source};
@@ -76,10 +77,11 @@ fn read_script<R: Source>(alloc: Global, source: &mut R) -> Result<Script, Run>
 }
 
 /// Runs the lines of a script on a volume, and closes it.
-fn run_lines<D: Disk, C: Clock + Drop>(
+fn run_lines<D: Disk, C: Clock + Drop, P: Watcher>(
     alloc: Global,
     mut volume: Volume<D, C>,
     script: &Script,
+    watcher: &P,
 ) -> (Run, D)
     requires form { All IsLineInForm script.now }
     requires fresh { volume.space.view.history ≡ [] }
@@ -93,7 +95,7 @@ fn run_lines<D: Disk, C: Clock + Drop>(
     ensures later { D.faults volume.device.disk ≤ D.faults result.1 }
 {
     let root = volume.root();
-    let ran = run_script(alloc, &mut volume, root, script);
+    let ran = run_script(alloc, &mut volume, root, script, watcher);
     let nodes = volume.nodes();
     let (disk, _clock, history, ended) = volume.close();
     match ran {
@@ -157,13 +159,14 @@ fn mount_quiet<D: Disk, C: Clock + Drop>(
 }
 
 /// Runs the shell: a volume is mounted on the disk, a script is read from the source to its end, its lines are run one after the other, and the volume
-/// is closed. `cache` is for how many read blocks there is room meanwhile. The disk is handed back.
-pub fn run_shell<D: Disk, R: Source, C: Clock + Drop>(
+/// is closed. `cache` is for how many read blocks there is room meanwhile. The watcher is told how many lines are run. The disk is handed back.
+pub fn run_shell<D: Disk, R: Source, C: Clock + Drop, P: Watcher>(
     alloc: Global,
     disk: D,
     source: &mut R,
     clock: C,
     cache: u32,
+    watcher: &P,
 ) -> (Run, D)
     // Why it isn't mounted is true of what the disk held, a failed disk has its cause, and a crash meanwhile left the image, or one that is replayed to
     // the same.
@@ -185,19 +188,20 @@ pub fn run_shell<D: Disk, R: Source, C: Clock + Drop>(
         Err((why, disk)) => return (Run::Unmounted(why), disk),
     };
     match read_script(alloc, source) {
-        Ok(script) => run_lines(alloc, volume, &script),
+        Ok(script) => run_lines(alloc, volume, &script, watcher),
         Err(end) => give_up(volume, end),
     }
 }
 
 /// Runs a workload on the volume of a disk, as `run_shell` runs a script: the lines that follow from a seed, `count` of them behind the first four.
-pub fn run_workload<D: Disk, C: Clock + Drop>(
+pub fn run_workload<D: Disk, C: Clock + Drop, P: Watcher>(
     alloc: Global,
     disk: D,
     clock: C,
     seed: u64,
     count: u32,
     cache: u32,
+    watcher: &P,
 ) -> (Run, D)
     requires count { count ≤ 1048572 }
     ensures unmounted { (image : List ℕ) → Tells (D.state disk) (Holds image) → (why : mounting.Unmounted) → result.0 ≡ Run.Unmounted why → IsUnmounted image why }
@@ -219,7 +223,7 @@ pub fn run_workload<D: Disk, C: Clock + Drop>(
         Err((why, disk)) => return (Run::Unmounted(why), disk),
     };
     match make_workload(alloc, seed, count) {
-        Ok(script) => run_lines(alloc, volume, &script),
+        Ok(script) => run_lines(alloc, volume, &script, watcher),
         Err(_) => give_up(volume, Run::NoMemory),
     }
 }

@@ -19,7 +19,7 @@ use Rattle.bfs_run.specs.Checked.{IsWholeWith, IsCheckFault}
 use Rattle.bfs_run.specs.Verdict.{Verdict}
 use Rattle.bfs_run.specs.CheckFault.{CheckFault}
 use Rattle.bfs_run.specs.CheckFaultVariants.{Short, Disk, NoMemory}
-use Rattle.bfs_tool.specs.Check.{RecoversWith, IsNotShort, IsReplayedOn, LeavesBy, IsWhole, HasText, checking_status}
+use Rattle.bfs_tool.specs.Check.{RecoversWith, IsNotShort, IsReplayedOn, LeavesBy, IsWhole, IsRefusing, HasText, checking_status}
 use Rattle.bfs_tool.specs.declared.checking.Checking.{Checking}
 use Rattle.bfs_tool.specs.declared.checking.Checking.TheVariants as checkings
 
@@ -88,7 +88,7 @@ at_three n done is = ⊎_elim (λ a. omega (arith, a, is)) (λ b. ⊎_elim (λ c
 at_four : (n : ℕ) → IsDone n → n ≡ 4 → ⊥
 at_four n done is = ⊎_elim (λ a. omega (arith, a, is)) (λ b. ⊎_elim (λ c. omega (arith, c, is)) (λ d. omega (arith, d, is)) b) done
 
-at_seven : (n : ℕ) → IsDone n → n ≡ 7 → ⊥
+pub at_seven : (n : ℕ) → IsDone n → n ≡ 7 → ⊥
 at_seven n done is = ⊎_elim (λ a. omega (arith, a, is)) (λ b. ⊎_elim (λ c. omega (arith, c, is)) (λ d. omega (arith, d, is)) b) done
 
 module _ (quiet : Bool) (image : List ℕ) (old new : Option State) where
@@ -121,3 +121,44 @@ module _ (quiet : Bool) (image : List ℕ) (old new : Option State) where
   left_seven (checkings.Malformed fault) n has seven left = inl left
   left_seven checkings.DiskFailed n has seven left = absurd (⊎_elim (λ four. omega (arith, four, seven)) (λ whole. whole.0) has)
   left_seven checkings.NoMemory n has seven left = left
+
+-- at 3 the disk is left alone, and at 4 it failed
+pub refusing_of : (checking : Checking) (n : ℕ) → HasStatus checking n → n ≡ 3 → IsRefusing checking
+refusing_of (checkings.Whole nodes used) n has is = absurd (⊎_elim (λ a. omega (arith, a, is)) (λ whole. let six = whole.1 in omega (arith, six, is)) has)
+refusing_of (checkings.Wrong finding) n has is = absurd (⊎_elim (λ a. omega (arith, a, is)) (λ whole. whole.0) has)
+refusing_of (checkings.Short sectors needed) n has is = tt
+refusing_of (checkings.NotVolume fault) n has is = tt
+refusing_of (checkings.Malformed fault) n has is = tt
+refusing_of checkings.DiskFailed n has is = absurd (⊎_elim (λ a. omega (arith, a, is)) (λ whole. whole.0) has)
+refusing_of checkings.NoMemory n has is = absurd (⊎_elim (λ a. omega (arith, a, is)) (λ whole. whole.0) has)
+
+pub failed_of : (checking : Checking) (n : ℕ) → HasStatus checking n → n ≡ 4 → checking ≡ checkings.DiskFailed
+failed_of (checkings.Whole nodes used) n has is = absurd (⊎_elim (λ a. omega (arith, a, is)) (λ whole. let six = whole.1 in omega (arith, six, is)) has)
+failed_of (checkings.Wrong finding) n has is = absurd (⊎_elim (λ a. omega (arith, a, is)) (λ whole. whole.0) has)
+failed_of (checkings.Short sectors needed) n has is = absurd (⊎_elim (λ a. omega (arith, a, is)) (λ whole. whole.0) has)
+failed_of (checkings.NotVolume fault) n has is = absurd (⊎_elim (λ a. omega (arith, a, is)) (λ whole. whole.0) has)
+failed_of (checkings.Malformed fault) n has is = absurd (⊎_elim (λ a. omega (arith, a, is)) (λ whole. whole.0) has)
+failed_of checkings.DiskFailed n has is = refl
+failed_of checkings.NoMemory n has is = absurd (⊎_elim (λ a. omega (arith, a, is)) (λ whole. whole.0) has)
+
+-- the statuses that it never ends with
+abbrev IsStrange : ℕ → Type 0
+IsStrange n = (n ≡ 2) ⊎ ((n ≡ 5) ⊎ ((n ≡ 10) ⊎ (n ≡ 11)))
+
+strange_at : (n : ℕ) → n ≤ 9 → (n ≡ 2 → ⊥) → (n ≡ 5 → ⊥) → IsStrange n → ⊥
+strange_at n few two five strange = ⊎_elim two (λ a. ⊎_elim five (λ b. ⊎_elim (λ c. omega (arith, few, c)) (λ d. omega (arith, few, d)) b) a) strange
+
+strange_status : (checking : Checking) → IsStrange (checking_status checking) → ⊥
+strange_status (checkings.Whole nodes used) o = strange_at 0 (omega arith) (λ e. omega (arith, e)) (λ e. omega (arith, e)) o
+strange_status (checkings.Wrong finding) o = strange_at 8 (omega arith) (λ e. omega (arith, e)) (λ e. omega (arith, e)) o
+strange_status (checkings.Short sectors needed) o = strange_at 3 (omega arith) (λ e. omega (arith, e)) (λ e. omega (arith, e)) o
+strange_status (checkings.NotVolume fault) o = strange_at 3 (omega arith) (λ e. omega (arith, e)) (λ e. omega (arith, e)) o
+strange_status (checkings.Malformed fault) o = strange_at 3 (omega arith) (λ e. omega (arith, e)) (λ e. omega (arith, e)) o
+strange_status checkings.DiskFailed o = strange_at 4 (omega arith) (λ e. omega (arith, e)) (λ e. omega (arith, e)) o
+strange_status checkings.NoMemory o = strange_at 7 (omega arith) (λ e. omega (arith, e)) (λ e. omega (arith, e)) o
+
+pub never_strange : (checking : Checking) (n : ℕ) → (n ≡ 7) ⊎ HasStatus checking n → IsStrange n → ⊥
+never_strange checking n ended strange =
+    ⊎_elim (λ seven. strange_at n (omega (arith, seven)) (λ e. omega (arith, seven, e)) (λ e. omega (arith, seven, e)) strange)
+    (λ has. ⊎_elim (λ same. strange_status checking (subst IsStrange same strange)) (λ whole. let six = whole.1 in strange_at n (omega (arith, six)) (λ e. omega (arith, six, e)) (λ e. omega (arith, six, e)) strange) has)
+    ended

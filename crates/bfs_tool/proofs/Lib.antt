@@ -1,4 +1,5 @@
 mod Changed
+mod Commands
 mod Checks
 mod Complete
 mod Undamaged

@@ -20,7 +20,7 @@ use bfs_text::put::{put, put_number};
 use std::alloc::{AllocError, Global};
 
 /// How `check` ended.
-#[derive(Debug, Drop)]
+#[derive(Drop)]
 pub enum Checking {
     /// The volume is whole, with so many nodes, and so many blocks in use.
     Whole { nodes: u64, used: u64 },

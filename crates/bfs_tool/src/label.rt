@@ -16,7 +16,7 @@ use bfs_super::{Super, SuperFault};
 use itoa::Buffer;
 
 /// How `label` ended.
-#[derive(Clone, Copy, Debug, PartialEq, Eq)]
+#[derive(Clone, Copy)]
 pub enum Ending {
     Done,
     /// The disk has fewer than two sectors.

@@ -15,7 +15,7 @@ use itoa::Buffer;
 use std::alloc::Global;
 
 /// How `mk` ended.
-#[derive(Clone, Copy, Debug, PartialEq, Eq)]
+#[derive(Clone, Copy)]
 pub enum Making {
     /// A volume of so many blocks, and how many of them are in use.
     Made { blocks: u64, used: u64 },

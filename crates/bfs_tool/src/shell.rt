@@ -14,6 +14,7 @@ ghost use Rattle.bfs_tool.specs.Shell.{EndsAs, LeavesUnmounted, RunsBy, closed_s
 ghost use Rattle.bfs_tool.specs.Tool.{Prints};
 
 use crate::output::report;
+use crate::progress::Progress;
 use bfs_disk::Disk;
 use bfs_finding::Finding;
 use bfs_finding_text::{put_entry_line, put_line, put_short_line};
@@ -24,6 +25,7 @@ use bfs_script::text;
 use bfs_text::put::{put, put_number};
 use bfs_tree::{Call, Entry, Reply};
 use std::alloc::{AllocError, Global};
+use std::time;
 
 /// For how many read blocks there is room beside a mounted volume.
 pub const CACHE: u32 = 1024;
@@ -99,7 +101,7 @@ fn unmounted_status(why: &Unmounted) -> u8
     }
 }
 
-pub fn status_of(run: &Run) -> u8
+fn status_of(run: &Run) -> u8
     ensures { result ≡ run_status run.now }
 {
     match run {
@@ -154,19 +156,14 @@ fn text_of(alloc: Global, run: &Run) -> Result<Vec<u8>, AllocError>
 }
 
 /// Whether a count of faults rose. At its end it stands still.
-pub fn has_risen(before: u64, after: u64) -> bool
+fn has_risen(before: u64, after: u64) -> bool
     ensures { IsTrue result → Rose before after }
 {
     before < after || (before == u64::MAX && after == u64::MAX)
 }
 
 /// Prints what is to be printed of a run, and tells the status.
-pub fn print_text<W: Sink>(
-    text: Result<Vec<u8>, AllocError>,
-    run: &Run,
-    status: u8,
-    out: &mut W,
-) -> u8
+fn print_text<W: Sink>(text: Result<Vec<u8>, AllocError>, run: &Run, status: u8, out: &mut W) -> u8
     requires status { status ≡ run_status run.now }
     ensures ends { EndsAs run.now result }
     ensures printed { (expected : List ℕ) → IfOk text (λ v. v.items ≡ expected) → result ≢ 7 → Prints (W.written out.old) (W.written out.new) (W.faults out.old) (W.faults out.new) expected }
@@ -188,13 +185,42 @@ pub fn print_text<W: Sink>(
     }
 }
 
+/// Prints what is to be printed of a run, where its failed disk shows in the disk's counts of faults before and after it. Where it doesn't, the
+/// status is that of want of memory.
+pub fn print_run<W: Sink>(
+    text: Result<Vec<u8>, AllocError>,
+    run: &Run,
+    before: u64,
+    after: u64,
+    out: &mut W,
+) -> u8
+    ensures ends { EndsAs run.now result }
+    ensures printed { (expected : List ℕ) → IfOk text (λ v. v.items ≡ expected) → result ≢ 7 → Prints (W.written out.old) (W.written out.new) (W.faults out.old) (W.faults out.new) expected }
+    ensures whole { (expected : List ℕ) → IfOk text (λ v. v.items ≡ expected) → result ≡ 0 → W.written out.new ≡ appended (W.written out.old) expected }
+    ensures silent { result ≡ 7 → W.written out.new ≡ appended (W.written out.old) [] }
+    ensures failed { result ≡ 4 → Rose before after }
+    ensures unread { result ≡ 5 → run_status run.now ≡ 5 }
+    ensures bad_line { result ≡ 9 → run_status run.now ≡ 9 }
+    ensures output_failed { result ≡ 6 → Rose (W.faults out.old) (W.faults out.new) }
+    ensures others { (result ≡ 2) ⊎ ((result ≡ 8) ⊎ ((result ≡ 10) ⊎ (result ≡ 11))) → ⊥ }
+    ensures output_later { W.faults out.old ≤ W.faults out.new }
+{
+    let status = status_of(run);
+    let risen = has_risen(before, after);
+    if status == 4 && !risen {
+        return 7;
+    }
+    print_text(text, run, status, out)
+}
+
 /// Runs the shell on the disk's volume, and prints how it ended. That it ended by the disk is said where the disk's count of faults rose.
-pub fn shell<D: Disk, R: Source, C: Clock + Drop, W: Sink>(
+pub fn shell<D: Disk, R: Source, C: Clock + Drop, W: Sink, X: AllocGlobal + Eprint + time::Clock>(
     alloc: Global,
     disk: D,
     script: &mut R,
     clock: C,
     out: &mut W,
+    progress: &Progress<'_, X>,
 ) -> (u8, D)
     ensures ends { (run : runs.Run) × EndsAs run result.0
         × (result.0 ≢ 7 → Prints (W.written out.old) (W.written out.new) (W.faults out.old) (W.faults out.new) (run_text run))
@@ -213,12 +239,10 @@ pub fn shell<D: Disk, R: Source, C: Clock + Drop, W: Sink>(
     ensures output_later { W.faults out.old ≤ W.faults out.new }
 {
     let before = disk.faults();
-    let (run, disk) = run_shell(alloc, disk, script, clock, CACHE);
-    let status = status_of(&run);
-    if status == 4 && !has_risen(before, disk.faults()) {
-        return (7, disk);
-    }
+    let (run, disk) = run_shell(alloc, disk, script, clock, CACHE, progress);
+    progress.end();
+    let after = disk.faults();
     let text = text_of(alloc, &run);
-    let shown = print_text(text, &run, status, out);
+    let shown = print_run(text, &run, before, after, out);
     (shown, disk)
 }

@@ -11,12 +11,14 @@ ghost use Rattle.bfs_soak.specs.Workload.{workload};
 ghost use Rattle.bfs_tool.specs.Shell.{EndsAs, LeavesUnmounted, RunsBy, soak_text};
 ghost use Rattle.bfs_tool.specs.Tool.{Prints};
 
-use crate::shell::{CACHE, has_risen, print_text, put_unmounted, status_of};
+use crate::progress::Progress;
+use crate::shell::{CACHE, print_run, put_unmounted};
 use bfs_disk::Disk;
 use bfs_ports::{Clock, Sink};
 use bfs_run::{Run, run_workload};
 use bfs_soak::summarize;
 use std::alloc::{AllocError, Global};
+use std::time;
 
 /// What is printed of a run over so many lines.
 fn summary_of(alloc: Global, lines: u64, run: &Run) -> Result<Vec<u8>, AllocError>
@@ -35,13 +37,14 @@ fn summary_of(alloc: Global, lines: u64, run: &Run) -> Result<Vec<u8>, AllocErro
 
 /// Runs the workload of a seed and a count on the disk's volume, as `shell` runs a script, and prints one line of it. That it ended by the disk is
 /// said where the disk's count of faults rose.
-pub fn soak<D: Disk, C: Clock + Drop, W: Sink>(
+pub fn soak<D: Disk, C: Clock + Drop, W: Sink, X: AllocGlobal + Eprint + time::Clock>(
     alloc: Global,
     disk: D,
     clock: C,
     seed: u64,
     count: u32,
     out: &mut W,
+    progress: &Progress<'_, X>,
 ) -> (u8, D)
     requires count { count ≤ 1048572 }
     ensures ends { (run : runs.Run) × EndsAs run result.0
@@ -59,12 +62,10 @@ pub fn soak<D: Disk, C: Clock + Drop, W: Sink>(
     ensures output_later { W.faults out.old ≤ W.faults out.new }
 {
     let before = disk.faults();
-    let (run, disk) = run_workload(alloc, disk, clock, seed, count, CACHE);
-    let status = status_of(&run);
-    if status == 4 && !has_risen(before, disk.faults()) {
-        return (7, disk);
-    }
+    let (run, disk) = run_workload(alloc, disk, clock, seed, count, CACHE, progress);
+    progress.end();
+    let after = disk.faults();
     let text = summary_of(alloc, 4 + u64::from(count), &run);
-    let shown = print_text(text, &run, status, out);
+    let shown = print_run(text, &run, before, after, out);
     (shown, disk)
 }

@@ -9,7 +9,7 @@ ghost use Rattle.bfs_super.specs.Label.{IsLabel};
 ghost use Rattle.bfs_replay.specs.Homing.{Reads};
 ghost use Rattle.bfs_replay.specs.Recover.{GoesOn};
 ghost use Rattle.bfs_tool.specs.declared.checking.Checking.{Checking};
-ghost use Rattle.bfs_tool.specs.Check.{ChecksBy, IsCheckedBy, IsReplayedOn, IsWhole, checking_status, checking_text};
+ghost use Rattle.bfs_tool.specs.Check.{ChecksBy, HasText, IsCheckedBy, IsReplayedOn, IsWhole, checking_status, checking_text};
 ghost use Rattle.bfs_tool.specs.declared.label.Ending.{Ending};
 ghost use Rattle.bfs_tool.specs.Label.{EndsBy, LabelsBy, OldOrNew, labelled, label_status, label_text};
 ghost use Rattle.bfs_tool.specs.declared.make.Making.{Making};
@@ -27,16 +27,19 @@ ghost use Rattle.bfs_run.specs.declared.run.Run as runs;
 ghost use Rattle.bfs_soak.specs.Workload.{workload};
 ghost use Rattle.bfs_tool.specs.Shell.{EndsAs, LeavesUnmounted, RunsBy, run_text, soak_text};
 
-use crate::checking::check_volume;
+use crate::checking::{Checking, check_volume};
 use crate::label::relabel;
 use crate::make::make_volume;
 use crate::output::report;
+use crate::progress::{Progress, Terminal};
 use crate::shell::shell;
 use crate::soaking::soak;
+use crate::watched::WatchedDisk;
 use bfs_disk::Disk;
 use bfs_ports::{Clock, Gate, Sink, Source};
 use bfs_words::{Argument, Command, Workload, read_words};
 use std::alloc::{AllocError, Global};
+use std::time;
 
 const USAGE: &str =
     "usage: bfs IMAGE (label NAME | mk --blocks N [--block-size B] [--name NAME] | check | sh [-j N] | soak SEED COUNT [-j N])\n";
@@ -97,8 +100,28 @@ fn make<D: Disk, C: Clock, W: Sink>(
     report(out, line.bytes(), making.status())
 }
 
+// Prints how a check ended, and tells the status. Where no memory is found for the text, nothing is printed.
+fn print_checking<W: Sink>(alloc: Global, checking: &Checking, out: &mut W) -> u8
+    ensures ends { ((result ≡ 7) × HasText checking.now) ⊎ (((result ≡ checking_status checking.now) ⊎ (IsWhole checking.now × (result ≡ 6)))
+        × Prints (W.written out.old) (W.written out.new) (W.faults out.old) (W.faults out.new) (checking_text checking.now)
+        × (result ≡ 0 → W.written out.new ≡ appended (W.written out.old) (checking_text checking.now))) }
+    ensures silent { result ≡ 7 → W.written out.new ≡ appended (W.written out.old) [] }
+    ensures output_failed { result ≡ 6 → Rose (W.faults out.old) (W.faults out.new) }
+    ensures output_later { W.faults out.old ≤ W.faults out.new }
+{
+    match checking.text(alloc) {
+        Ok(text) => report(out, &text, checking.status()),
+        Err(_) => 7,
+    }
+}
+
 // Prints how `check` ended, and tells the status.
-fn check<D: Disk, W: Sink>(alloc: Global, disk: &mut D, out: &mut W) -> u8
+fn check<D: Disk, W: Sink, X: AllocGlobal + Eprint + time::Clock>(
+    alloc: Global,
+    disk: &mut D,
+    out: &mut W,
+    progress: &Progress<'_, X>,
+) -> u8
     ensures ends { (result ≡ 7) ⊎ ((checking : Checking) × ((result ≡ checking_status checking) ⊎ (IsWhole checking × (result ≡ 6)))
         × Prints (W.written out.old) (W.written out.new) (W.faults out.old) (W.faults out.new) (checking_text checking)
         × IsCheckedBy (D.size disk.new) checking × (result ≡ 0 → W.written out.new ≡ appended (W.written out.old) (checking_text checking))
@@ -117,20 +140,19 @@ fn check<D: Disk, W: Sink>(alloc: Global, disk: &mut D, out: &mut W) -> u8
     ensures output_later { W.faults out.old ≤ W.faults out.new }
 {
     let checking = check_volume(alloc, disk);
-    let Ok(text) = checking.text(alloc) else {
-        return 7;
-    };
-    report(out, &text, checking.status())
+    progress.end();
+    print_checking(alloc, &checking, out)
 }
 
 // Runs the command that the words ask for, but for `sh` and `soak`. The words are read by now, unless memory is wanting.
-fn run<X: AllocGlobal + Eprint, D: Disk, C: Clock, W: Sink>(
+fn run<X: AllocGlobal + Eprint + time::Clock, D: Disk, C: Clock, W: Sink>(
     rt: &X,
     words: &[Argument],
     command: Result<Command, AllocError>,
     disk: &mut D,
     clock: &mut C,
     out: &mut W,
+    progress: &Progress<'_, X>,
 ) -> u8
     requires asks { IfOk command (Asks words.now) }
     requires no_shell { command ≡ Ok commands.Shell → ⊥ }
@@ -179,13 +201,12 @@ fn run<X: AllocGlobal + Eprint, D: Disk, C: Clock, W: Sink>(
         return 7;
     };
     match command {
-        Command::Usage => report(out, USAGE.as_bytes(), 0),
-        Command::Shell | Command::Soak(_) => unreachable!(),
+        Command::Usage | Command::Shell | Command::Soak(_) => unreachable!(),
         Command::Faulty(complaint) => {
             let _ = rt.eprint(complaint);
             report(out, USAGE.as_bytes(), 2)
         }
-        Command::Check => check(rt.alloc(), disk, out),
+        Command::Check => check(rt.alloc(), disk, out, progress),
         Command::Label(name) => label(disk, name, out),
         Command::Make(volume) => make(
             rt.alloc(),
@@ -209,14 +230,23 @@ fn workload_of(command: &Result<Command, AllocError>) -> Option<Workload>
     }
 }
 
+/// Whether the command that is asked for may take long.
+fn is_long(command: &Result<Command, AllocError>) -> bool {
+    matches!(
+        command,
+        Ok(Command::Shell | Command::Soak(_) | Command::Check)
+    )
+}
+
 /// Runs the command that the words ask for, and hands the disk back with the status. Which word is wrong goes to the standard
-/// error.
+/// error; where that is a terminal, so does a line that tells how far `sh`, `soak` and `check` have come, and that is wiped before
+/// anything is printed.
 ///
 /// Statuses: 0 done, 2 faulty words, 3 not a volume, 4 the disk failed, 5 the script can't be read, 6 the output failed, 7 no memory, 8 the volume
 /// isn't whole, 9 a line of the script is wrong, 10 too small for a volume, 11 the log isn't empty, 14 the volume is damaged. `clock` gives the second
 /// at which a new volume is made, and those of stamps.
 pub fn bfs<
-    X: AllocGlobal + Eprint,
+    X: AllocGlobal + Eprint + Terminal + time::Clock,
     D: Disk + Send,
     R: Source,
     W: Sink,
@@ -225,7 +255,7 @@ pub fn bfs<
 >(
     rt: &X,
     words: &[Argument],
-    mut disk: D,
+    disk: D,
     script: &mut R,
     out: &mut W,
     mut clock: C,
@@ -322,13 +352,28 @@ pub fn bfs<
         → ¬ Rose (D.faults disk) (D.faults result.1) → ¬ Rose (R.faults script.old) (R.faults script.new) → ¬ Rose (W.faults out.old) (W.faults out.new) → IsCompleteStatus result.0 }
 {
     let command = read_words(rt.alloc(), words);
+    let progress = Progress::over(rt, is_long(&command) && rt.is_terminal());
     if let Ok(Command::Shell) = command {
-        return shell(rt.alloc(), disk, script, clock, out);
+        return shell(rt.alloc(), disk, script, clock, out, &progress);
     }
     let asked = workload_of(&command);
     if let Some(workload) = asked {
-        return soak(rt.alloc(), disk, clock, workload.seed, workload.count, out);
+        let Workload { seed, count } = workload;
+        return soak(rt.alloc(), disk, clock, seed, count, out, &progress);
     }
-    let status = run(rt, words, command, &mut disk, &mut clock, out);
+    let mut watched = WatchedDisk {
+        disk,
+        progress: &progress,
+        read: 0,
+        volume: None,
+    };
+    let disk = &mut watched;
+    let status = run(rt, words, command, disk, &mut clock, out, &progress);
+    let WatchedDisk {
+        disk,
+        progress: _,
+        read: _,
+        volume: _,
+    } = watched;
     (status, disk)
 }

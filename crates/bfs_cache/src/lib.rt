@@ -8,6 +8,3 @@ mod laws;
 
 pub use cache::Cache;
 pub use laws::{barrier_keeps, failed_write_keeps, write_keeps};
-
-#[cfg(test)]
-mod tests;

@@ -1,89 +1,20 @@
 // A directory beside a plain table of its ids. The volume has blocks of 1,024 bytes and three allocation groups, its bitmap in
 // blocks 1 to 3; the directory's inode is block 4, and its two first pages are blocks 5 and 6.
 ghost use Rattle.std.specs.Prelude.{◌≡◌, ◌≤◌, ◌<◌, ◌^◌, length, IfOk};
-ghost use Rattle.bfs_super.specs.Conditions.{IsValid, natural};
-ghost use Rattle.bfs_stream.specs.Sizes.{sizes_of};
 ghost use Rattle.bfs_stream.specs.Grown.{IsOfVolume};
 
+use crate::volumes::{BLOCK, Silent, run, superblock};
 use bfs_bitmap::Bitmap;
-use bfs_bytes::{Run, put_i64, put_run, put_u32};
+use bfs_bytes::{put_i64, put_run};
 use bfs_dir::{Dir, DirRow};
 use bfs_node::{Header, PAGE, TreeFault, blank, insert_row};
 use bfs_stream_pages::MapFault;
-use bfs_super::{Super, SuperFault};
-use bfs_txn::{BlockFault, Blocks, Changed, MemBlocks, Overlay};
+use bfs_txn::{Blocks, Changed, MemBlocks, Overlay};
 use std::alloc::{AllocError, Global};
 use std::test::Fail;
 
-/// The bytes of a block.
-const BLOCK: usize = 1024;
-
 /// How many names there are.
 const NAMES: usize = 150;
-
-/// Blocks in memory, which tell nothing of what they hold, so that a test need not prove what stands there.
-#[derive(Drop)]
-struct Silent {
-    blocks: MemBlocks,
-}
-
-impl Blocks for Silent {
-    ghost use Rattle.std.specs.Prelude.{None, [], false};
-    ghost use Rattle.bfs_txn.specs.Told.{read_last};
-
-    ghost told = { λ s. None };
-
-    ghost size = { λ s. s.blocks.block_size };
-
-    ghost counts = { λ s. record { faults = 0; stops = 0; stop = None } };
-
-    ghost changed = { λ s k. false };
-
-    ghost pairs = { λ s. 0 };
-
-    ghost last = { λ s. read_last s.blocks };
-
-    ghost Note = { Unit {0} };
-
-    ghost frame = { λ s. record { note = tt; names = []; kept = []; below = None } };
-
-    ghost sized = { λ s. tt };
-
-    fn get(&mut self, block: u64, into: &mut [u8]) -> Result<(), BlockFault> {
-        self.blocks.get(block, into)
-    }
-}
-
-/// A run in the first group.
-fn run(start: u16, len: u16) -> Run {
-    Run {
-        group: 0,
-        start,
-        len,
-    }
-}
-
-/// The volume's superblock.
-fn superblock() -> Result<Super, SuperFault>
-    ensures valid { IfOk result IsValid }
-{
-    let mut sector = [0u8; 512];
-    put_u32(&mut sector, 32, 0x42465331);
-    put_u32(&mut sector, 36, 0x42494745);
-    put_u32(&mut sector, 40, 1024);
-    put_u32(&mut sector, 44, 10);
-    put_u32(&mut sector, 48, 20480);
-    put_u32(&mut sector, 64, 1024);
-    put_u32(&mut sector, 68, 0xdd121031);
-    put_u32(&mut sector, 72, 1);
-    put_u32(&mut sector, 76, 13);
-    put_u32(&mut sector, 80, 3);
-    put_run(&mut sector, 88, run(4, 512));
-    put_u32(&mut sector, 112, 0x15b6830e);
-    put_run(&mut sector, 116, run(600, 1));
-    put_run(&mut sector, 124, run(601, 1));
-    Super::parse(&sector)
-}
 
 /// The header and the leaf of a directory with the rows `.` and `..`.
 fn put_tree(pages: &mut [u8])
@@ -337,13 +268,13 @@ fn runs(
 }
 
 /// The same on a new volume.
-fn runs_on(alloc: Global, calls: u32, seed: u64) -> Result<Result<bool, MapFault>, Fail> {
-    let sup = superblock()?;
+fn runs_on(alloc: Global, calls: u32, seed: u64) -> Result<bool, Fail> {
+    let sup = superblock(20480, 3, 4)?;
     if sup.block_size != 1024 {
-        return Ok(Ok(false));
+        return Ok(false);
     }
     if sup.num_blocks < 6 {
-        return Ok(Ok(false));
+        return Ok(false);
     }
     let mut under = volume(alloc, sup.block_size)?;
     let mut open = Changed::new(alloc);
@@ -352,15 +283,14 @@ fn runs_on(alloc: Global, calls: u32, seed: u64) -> Result<Result<bool, MapFault
     let mut dir = Dir::at(alloc, 4, &sup);
     let result = runs(&mut dir, &mut edits, &mut bitmap, calls, seed);
     edits.drop_call();
-    Ok(result)
+    Ok(matches!(result, Ok(true)))
 }
 
 #[test]
 fn a_directory_answers_as_a_table_does(rt: HostRuntime) -> Result<(), Fail> {
     let alloc = rt.alloc();
     for (seed, calls) in [(7u64, 300u32), (1000, 10_000)] {
-        let right = runs_on(alloc, calls, seed)?;
-        assert!(rt; matches!(right, Ok(true)), "{seed}");
+        assert!(rt; runs_on(alloc, calls, seed)?, "{seed}");
     }
     Ok(())
 }

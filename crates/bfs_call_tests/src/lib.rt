@@ -10,3 +10,5 @@ mod name_tests;
 mod naming_tests;
 #[cfg(test)]
 mod place_tests;
+#[cfg(test)]
+mod volumes;

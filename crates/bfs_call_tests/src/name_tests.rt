@@ -1,14 +1,15 @@
 // A node's name beside three attributes in small data. The volume has blocks of 1,024 bytes and three allocation groups, its bitmap in
 // blocks 1 to 3; the inode is block 4. Its small data has 792 bytes: the attribute `a` with 100 bytes takes 113 of them, and `b` and
 // `c` with 250 bytes take 263 each, which leaves 153; a name takes 13 more than its bytes, so that one of 140 fills the rest.
-ghost use Rattle.std.specs.Prelude.{◌≡◌, ◌≤◌, ◌+◌, length, IfOk};
+ghost use Rattle.std.specs.Prelude.{◌≡◌, ◌≤◌, ◌+◌};
 ghost use Rattle.bfs_super.specs.Conditions.{IsValid, natural};
 ghost use Rattle.bfs_stream.specs.Sizes.{sizes_of};
 ghost use Rattle.bfs_stream.specs.Grown.{IsOfVolume};
 
+use crate::volumes::{BLOCK, RAWT, Silent, superblock, volume};
 use bfs_attr::{AttrItem, attribute_of};
 use bfs_bitmap::Bitmap;
-use bfs_bytes::{Run, put_bytes, put_run, put_u16, put_u32, run_at};
+use bfs_bytes::run_at;
 use bfs_inode::SMALL_DATA;
 use bfs_make::Site;
 use bfs_node::TreeFault;
@@ -16,123 +17,9 @@ use bfs_set_name::set_name;
 use bfs_smalldata::{find, list_end};
 use bfs_stream::GrowFault;
 use bfs_stream_pages::MapFault;
-use bfs_super::{Super, SuperFault};
-use bfs_txn::{BlockFault, Blocks, Changed, MemBlocks, Overlay};
-use std::alloc::{AllocError, Global};
+use bfs_txn::{Blocks, Changed, Overlay};
+use std::alloc::Global;
 use std::test::Fail;
-
-/// The bytes of a block.
-const BLOCK: usize = 1024;
-
-/// Type codes: four letters as a number, the first the highest.
-const CSTR: u32 = 0x43535452;
-
-const RAWT: u32 = 0x52415754;
-
-/// Blocks in memory, which tell nothing of what they hold, so that a test need not prove what stands there.
-#[derive(Drop)]
-struct Silent {
-    blocks: MemBlocks,
-}
-
-impl Blocks for Silent {
-    ghost use Rattle.std.specs.Prelude.{None, [], false};
-    ghost use Rattle.bfs_txn.specs.Told.{read_last};
-
-    ghost told = { λ s. None };
-
-    ghost size = { λ s. s.blocks.block_size };
-
-    ghost counts = { λ s. record { faults = 0; stops = 0; stop = None } };
-
-    ghost changed = { λ s k. false };
-
-    ghost pairs = { λ s. 0 };
-
-    ghost last = { λ s. read_last s.blocks };
-
-    ghost Note = { Unit {0} };
-
-    ghost frame = { λ s. record { note = tt; names = []; kept = []; below = None } };
-
-    ghost sized = { λ s. tt };
-
-    fn get(&mut self, block: u64, into: &mut [u8]) -> Result<(), BlockFault> {
-        self.blocks.get(block, into)
-    }
-}
-
-/// A run in the first group.
-fn run(start: u16, len: u16) -> Run {
-    Run {
-        group: 0,
-        start,
-        len,
-    }
-}
-
-/// The volume's superblock.
-fn superblock() -> Result<Super, SuperFault>
-    ensures valid { IfOk result IsValid }
-{
-    let mut sector = [0u8; 512];
-    put_u32(&mut sector, 32, 0x42465331);
-    put_u32(&mut sector, 36, 0x42494745);
-    put_u32(&mut sector, 40, 1024);
-    put_u32(&mut sector, 44, 10);
-    put_u32(&mut sector, 48, 20480);
-    put_u32(&mut sector, 64, 1024);
-    put_u32(&mut sector, 68, 0xdd121031);
-    put_u32(&mut sector, 72, 1);
-    put_u32(&mut sector, 76, 13);
-    put_u32(&mut sector, 80, 3);
-    put_run(&mut sector, 88, run(8, 512));
-    put_u32(&mut sector, 112, 0x15b6830e);
-    put_run(&mut sector, 116, run(600, 1));
-    put_run(&mut sector, 124, run(601, 1));
-    Super::parse(&sector)
-}
-
-/// An item of small data, with three bytes behind its name and one behind its bytes.
-fn put_item(bytes: &mut [u8], at: usize, kind: u32, name: &[u8], value: &[u8])
-    requires name { length name.now ≤ 255 }
-    requires value { length value.now ≤ 255 }
-    requires inside { at + 600 ≤ length bytes.old }
-    ensures { length bytes.new ≡ length bytes.old }
-{
-    put_u32(bytes, at, kind);
-    put_u16(bytes, at + 4, name.len() as u16);
-    put_u16(bytes, at + 6, value.len() as u16);
-    put_bytes(bytes, at + 8, name);
-    put_bytes(bytes, at + 8 + name.len() + 3, value);
-}
-
-/// Writes the volume's first eight blocks, which are in use.
-fn put_volume(bytes: &mut [u8])
-    requires { 8192 ≤ length bytes.old }
-    ensures { length bytes.new ≡ length bytes.old }
-{
-    let at = 4 * BLOCK + 232;
-    bytes[BLOCK] = 255;
-    put_item(bytes, at, CSTR, &[0x13], b"own");
-    put_item(bytes, at + 16, RAWT, b"a", &[1; 100]);
-    put_item(bytes, at + 129, RAWT, b"b", &[2; 250]);
-    put_item(bytes, at + 392, RAWT, b"c", &[3; 250]);
-}
-
-/// The volume, by the size of its blocks, which is 1,024.
-fn volume(alloc: Global, size: u32) -> Result<Silent, AllocError>
-    requires some { 1024 ≤ size }
-    requires small { size ≤ 2048 }
-    ensures { IfOk result (λ s. s.blocks.block_size ≡ size) }
-{
-    let block = size as usize;
-    let mut bytes = vec![in alloc; 0u8; block * 8]?;
-    put_volume(&mut bytes);
-    Ok(Silent {
-        blocks: MemBlocks::new(bytes, size),
-    })
-}
 
 /// Is the answer an attribute of this type with these bytes?
 fn is_attribute(found: &Option<AttrItem>, kind: u32, bytes: &[u8]) -> bool {
@@ -276,24 +163,24 @@ fn is_set(
 }
 
 /// What is so of a name of so many bytes on the volume.
-fn named(alloc: Global, len: usize, left: usize) -> Result<Result<bool, MapFault>, Fail>
+fn named(alloc: Global, len: usize, left: usize) -> Result<bool, Fail>
     requires some { 1 ≤ len }
     requires short { len ≤ 255 }
 {
-    let sup = superblock()?;
+    let sup = superblock(20480, 3, 8)?;
     if sup.block_size != 1024 {
-        return Ok(Ok(false));
+        return Ok(false);
     }
     if sup.num_blocks < 6 {
-        return Ok(Ok(false));
+        return Ok(false);
     }
-    let mut under = volume(alloc, sup.block_size)?;
+    let mut under = volume(alloc, sup.block_size, b'c')?;
     let mut open = Changed::new(alloc);
     let mut bitmap = Bitmap::of(alloc, &sup);
     let mut edits = Overlay::begin(&mut open, &mut under);
     let result = is_set(Site { alloc, sup }, &mut bitmap, &mut edits, len, left);
     edits.drop_call();
-    Ok(result)
+    Ok(matches!(result, Ok(true)))
 }
 
 #[test]
@@ -301,8 +188,8 @@ fn a_name_that_has_room_moves_no_attribute(rt: HostRuntime) -> Result<(), Fail> 
     let alloc = rt.alloc();
     let short = named(alloc, 5, 250)?;
     let filling = named(alloc, 140, 250)?;
-    assert!(rt; matches!(short, Ok(true)));
-    assert!(rt; matches!(filling, Ok(true)));
+    assert!(rt; short);
+    assert!(rt; filling);
     Ok(())
 }
 
@@ -313,7 +200,7 @@ fn a_name_without_room_moves_the_last_of_the_longest_attributes_to_the_attribute
     let alloc = rt.alloc();
     let longer = named(alloc, 141, 0)?;
     let longest = named(alloc, 255, 0)?;
-    assert!(rt; matches!(longer, Ok(true)));
-    assert!(rt; matches!(longest, Ok(true)));
+    assert!(rt; longer);
+    assert!(rt; longest);
     Ok(())
 }

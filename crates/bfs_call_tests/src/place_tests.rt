@@ -1,46 +1,17 @@
 // The blocks of pieces of a file of three blocks in two runs, on a volume with blocks of 1,024 bytes.
-ghost use Rattle.std.specs.Prelude.{◌≡◌, ◌≤◌, ◌<◌, ◌*◌, IfOk, length};
+ghost use Rattle.std.specs.Prelude.{◌≡◌, ◌≤◌, ◌<◌, ◌*◌, IfOk};
 ghost use Rattle.bfs_super.specs.Conditions.{IsValid, natural};
 
-use bfs_bytes::{Run, put_i64, put_run, put_u32};
+use crate::volumes::{run, superblock};
+use bfs_bytes::{put_i64, put_run};
 use bfs_hold::find_places;
-use bfs_super::{Super, SuperFault};
+use bfs_super::Super;
 use bfs_txn::{BlockFault, MemBlocks};
 use std::alloc::{AllocError, Global};
 use std::test::Fail;
 
 /// The inode of the file.
 const FILE: u64 = 6;
-
-fn run(start: u16, len: u16) -> Run {
-    Run {
-        group: 0,
-        start,
-        len,
-    }
-}
-
-/// The superblock of a volume of 4,096 blocks, whose log is the 512 blocks from block 2 on.
-fn superblock() -> Result<Super, SuperFault>
-    ensures valid { IfOk result IsValid }
-{
-    let mut sector = [0u8; 512];
-    put_u32(&mut sector, 32, 0x42465331);
-    put_u32(&mut sector, 36, 0x42494745);
-    put_u32(&mut sector, 40, 1024);
-    put_u32(&mut sector, 44, 10);
-    put_u32(&mut sector, 48, 4096);
-    put_u32(&mut sector, 64, 1024);
-    put_u32(&mut sector, 68, 0xdd121031);
-    put_u32(&mut sector, 72, 1);
-    put_u32(&mut sector, 76, 13);
-    put_u32(&mut sector, 80, 1);
-    put_run(&mut sector, 88, run(2, 512));
-    put_u32(&mut sector, 112, 0x15b6830e);
-    put_run(&mut sector, 116, run(600, 1));
-    put_run(&mut sector, 124, run(601, 1));
-    Super::parse(&sector)
-}
 
 /// Blocks 0 to 7: the file's runs are two blocks from this one on, and the one at 2,000.
 fn memory(alloc: Global, size: u32, first: u16) -> Result<MemBlocks, AllocError>
@@ -114,34 +85,33 @@ fn are_found(alloc: Global, sup: &Super, under: &mut MemBlocks) -> bool
     good
 }
 
+/// That the file is damaged.
+fn damaged() -> Result<[u64; 4], BlockFault> {
+    Err(BlockFault::Damaged { block: FILE })
+}
+
 #[test]
 fn a_piece_has_the_blocks_of_its_bytes_in_order(rt: HostRuntime) -> Result<(), Fail> {
     let alloc = rt.alloc();
-    let sup = superblock()?;
+    let sup = superblock(4096, 1, 2)?;
     assert_eq!(rt; sup.block_size, 1024);
     assert_eq!(rt; sup.num_blocks, 4096);
     let mut under = memory(alloc, 1024, 1000)?;
     let good = are_found(alloc, &sup, &mut under);
-    let past = found(alloc, &sup, &mut under, 3000, 100);
-    assert_eq!(rt;
-        (good, past),
-        (true, Err(BlockFault::Damaged { block: FILE }))
-    );
+    let past = found(alloc, &sup, &mut under, 3000, 100) == damaged();
+    assert_eq!(rt; [good, past], [true, true]);
     Ok(())
 }
 
 #[test]
 fn a_block_of_the_log_is_damage_of_the_file(rt: HostRuntime) -> Result<(), Fail> {
     let alloc = rt.alloc();
-    let sup = superblock()?;
+    let sup = superblock(4096, 1, 2)?;
     assert_eq!(rt; sup.block_size, 1024);
     assert_eq!(rt; sup.num_blocks, 4096);
     let mut under = memory(alloc, 1024, 513)?;
-    let last = found(alloc, &sup, &mut under, 1023, 1);
-    let behind = found(alloc, &sup, &mut under, 1024, 1);
-    assert_eq!(rt;
-        (last, behind),
-        (Err(BlockFault::Damaged { block: FILE }), Ok([1, 514, 0, 0]))
-    );
+    let last = found(alloc, &sup, &mut under, 1023, 1) == damaged();
+    let behind = found(alloc, &sup, &mut under, 1024, 1) == Ok([1, 514, 0, 0]);
+    assert_eq!(rt; [last, behind], [true, true]);
     Ok(())
 }

@@ -7,6 +7,3 @@ mod claims;
 
 pub use bits::bit_is_clear;
 pub use claims::Claims;
-
-#[cfg(test)]
-mod tests;

@@ -6,6 +6,3 @@ mod laws;
 
 pub use counts::{counted, replaces};
 pub use laws::nodes_are_counted;
-
-#[cfg(test)]
-mod tests;

@@ -9,6 +9,3 @@ mod naming;
 pub use block::{fresh_block, link_block};
 pub use fields::NewNode;
 pub use naming::address;
-
-#[cfg(test)]
-mod tests;

@@ -1,5 +1,5 @@
 // Devices over disks in memory, lent to be read. The volume is made here by hand.
-ghost use Rattle.std.specs.Prelude.{◌≡◌, ℕ, List, length, Option, Some, IsTrue, IfOk, IfSome};
+ghost use Rattle.std.specs.Prelude.{◌≡◌, ℕ, List, length, Option, Some, IfOk};
 ghost use Rattle.bfs_super.specs.Conditions.{IsValid};
 ghost use Rattle.bfs_tree.specs.Histories.{Mounted};
 ghost use Rattle.bfs_txn.specs.Changed.{Ascends, AreOfSize};
@@ -10,6 +10,8 @@ ghost use Rattle.bfs_core.specs.Spaces.{SpaceView, IsSoundOver};
 ghost use Rattle.bfs_core.specs.Moments.{Adoption};
 ghost use Rattle.bfs_device_blocks.specs.Lent.{HasCore};
 
+use crate::devices::{disk_of, opened_on};
+use crate::groups::{group_with, is_next};
 use bfs_device::Device;
 use bfs_device_blocks::{
     DeviceBlocks, core_is_held, core_is_read, core_stands_over, entry_is_held, fit_is_read,
@@ -18,116 +20,19 @@ use bfs_device_blocks::{
 };
 use bfs_disk::{Disk, MemDisk};
 use bfs_super::Super;
-use bfs_txn::{BlockFault, Blocks, Changed, Edits, Group, MemBlocks, Overlay};
+use bfs_txn::{BlockFault, Blocks, Changed, Edits, Group};
 use std::alloc::{AllocError, Global};
 use std::test::Fail;
-
-// The fields of a volume of 32 blocks of 1,024 bytes. Its log is behind block 1, of 12 blocks, and has the root and the indices
-// behind it.
-fn fields() -> Super {
-    let run = |start, len| bfs_bytes::Run {
-        group: 0,
-        start,
-        len,
-    };
-    Super {
-        name: [0; 32],
-        magic1: 0x42465331,
-        fs_byte_order: 0x42494745,
-        block_size: 1024,
-        block_shift: 10,
-        num_blocks: 32,
-        used_blocks: 20,
-        inode_size: 1024,
-        magic2: -586018767,
-        blocks_per_ag: 1,
-        ag_shift: 13,
-        num_ags: 1,
-        flags: 0x434c454e,
-        log_blocks: run(2, 12),
-        log_start: 10,
-        log_end: 10,
-        magic3: 0x15b6830e,
-        root_dir: run(14, 1),
-        indices: run(15, 1),
-        rest: [0; 380],
-    }
-}
-
-// A disk with that volume, of which block 16 is filled with fives. It fails at one of its calls, or at none.
-fn disk_of(alloc: Global, call: u64, size: usize) -> Result<MemDisk, AllocError> {
-    let mut bytes = vec![in alloc; 0u8; size]?;
-    let sector = fields().print();
-    if bytes.len() != 32_768 {
-        return Err(AllocError);
-    }
-    bytes[512..1024].copy_from_slice(&sector);
-    bytes[16_384..17_408].fill(5);
-    Ok(MemDisk::failing(alloc, bytes, Vec::from_slice(alloc, &[call])?))
-}
-
-// A device over this disk with that volume, and its superblock.
-fn opened_on(alloc: Global, mut disk: MemDisk) -> Option<(Super, Device<MemDisk>)>
-    ensures books { IfSome result (λ p. p.1.books ≡ adopted p.0) }
-    ensures valid { IfSome result (λ p. IsValid p.0) }
-    ensures size { IfSome result (λ p. p.0.block_size ≡ 1024) }
-{
-    let Ok(sup) = Super::parse(&fields().print()) else {
-        return None;
-    };
-    let Ok(sectors) = disk.sectors() else {
-        return None;
-    };
-    let needed = u64::from(sup.block_size / 512).checked_mul(sup.geometry().blocks)?;
-    if !has_empty_log(sup) {
-        return None;
-    }
-    if sectors < needed || sup.block_size != 1024 {
-        return None;
-    }
-    match Device::adopt(alloc, disk, sup) {
-        Ok(device) => Some((sup, device)),
-        Err(_) => None,
-    }
-}
-
-fn has_empty_log(sup: Super) -> bool
-    ensures { IsTrue result → sup.log_start ≡ sup.log_end }
-{
-    sup.log_start == sup.log_end
-}
-
-// Puts a block with these bytes into an open group.
-fn put(open: &mut Changed, under: &mut MemBlocks, block: u64, from: &[u8]) -> Result<(), AllocError>
-    requires ascends { Ascends «open».old }
-    requires sized { AreOfSize (length from.now) «open».old }
-    requires size { under.old.block_size ≡ length from.now }
-    ensures ascends { Ascends «open».new }
-    ensures sized { AreOfSize (length from.now) «open».new }
-{
-    let mut call = Overlay::begin(open, under);
-    let done = call.set(block, from);
-    call.keep();
-    done
-}
 
 // A group of block 17, which is filled with ones.
 fn ones(alloc: Global) -> Result<Group, AllocError>
     ensures ascends { IfOk result (λ g. Ascends g.blocks) }
     ensures sized { IfOk result (λ g. AreOfSize 1024 g.blocks) }
 {
-    let mut open = Changed::new(alloc);
-    let mut under = MemBlocks::new(Vec::new(alloc), 1024);
-    put(&mut open, &mut under, 17, &[1; 1024])?;
-    Ok(Group {
-        first: 1,
-        last: 2,
-        used: 21,
-        blocks: open,
-    })
+    group_with(alloc, [1, 2, 21], &[17], 1024, 1)
 }
 
-// Seals a group of one block, where it may be sealed first.
+// Seals a group, where it may be sealed first.
 fn seal_one(device: &mut Device<MemDisk>, sup: &Super, group: Group) -> bool
     requires books { device.old.books ≡ adopted sup.now }
     requires valid { IsValid sup.now }
@@ -136,13 +41,7 @@ fn seal_one(device: &mut Device<MemDisk>, sup: &Super, group: Group) -> bool
     requires sized { AreOfSize 1024 group.blocks }
     ensures { IsSameVolume device.old.books.sup device.new.books.sup }
 {
-    if group.first != 1 || group.last < 1 || group.used > sup.geometry().blocks {
-        return false;
-    }
-    if group.blocks.len() != 1 || sup.log_blocks.len < 3 {
-        return false;
-    }
-    if !device.is_data(group.blocks.block(0)) {
+    if !is_next(sup, 0, sup.geometry().used, &group) {
         return false;
     }
     device.seal(group);

@@ -1,111 +1,21 @@
 // Devices over disks in memory. Each volume is made here by hand, and what a crash leaves is replayed by hand.
-ghost use Rattle.std.specs.Prelude.{◌≡◌, ◌≤◌, ◌<◌, ◌+◌, ◌*◌, ◌/◌, ◌%◌, ◌^◌, [], ℕ, length, IsTrue, IfOk, IfSome, IsSome, OnOk, Some, None, if◌then◌else◌};
-ghost use Rattle.bfs_disk.specs.State.{state_of};
-ghost use Rattle.bfs_super.specs.Conditions.{natural, IsValid};
+ghost use Rattle.std.specs.Prelude.{◌≡◌, ◌≤◌, ◌<◌, ◌+◌, ◌*◌, ◌/◌, ◌%◌, [], length, IfSome, Some, None, if◌then◌else◌};
+ghost use Rattle.bfs_super.specs.Conditions.{IsValid};
 ghost use Rattle.bfs_txn.specs.Changed.{Ascends, AreOfSize};
-ghost use Rattle.bfs_device.specs.Layouts.{IsData, IsSameVolume, layout_of};
+ghost use Rattle.bfs_device.specs.Layouts.{IsData, layout_of};
 ghost use Rattle.bfs_device.specs.Data.{IsRested};
-ghost use Rattle.bfs_device.specs.Books.{IsOnDisk, sealed_of};
+ghost use Rattle.bfs_device.specs.Books.{sealed_of};
 ghost use Rattle.bfs_device.specs.Seals.{adopted, last_used};
 
-use crate::groups::{is_data, is_next};
+use crate::devices::{fields, opened_on};
+use crate::groups::{crash_after, group_with, is_next, step_on, three_sealed};
 use bfs_cache::Cache;
 use bfs_device::{Device, DeviceFault, Mark, Progress};
 use bfs_disk::{Disk, MemDisk};
 use bfs_super::Super;
-use bfs_txn::{Changed, Edits, Group, MemBlocks, Overlay};
+use bfs_txn::{Changed, Edits, Group};
 use std::alloc::{AllocError, Global};
 use std::test::Fail;
-
-// Sets some blocks to the same bytes.
-fn set_all<E: Edits>(edits: &mut E, blocks: &[u64], from: &[u8]) -> Result<(), AllocError>
-    requires { length from.now ≡ E.size edits.old }
-    ensures size { E.size edits.new ≡ E.size edits.old }
-    ensures frame { E.frame edits.new ≡ E.frame edits.old }
-{
-    for block in blocks {
-        edits.set(*block, from)?;
-    }
-    Ok(())
-}
-
-// Puts some blocks with the same bytes into an open group.
-fn put_all(
-    open: &mut Changed,
-    under: &mut MemBlocks,
-    blocks: &[u64],
-    from: &[u8],
-) -> Result<(), AllocError>
-    requires ascends { Ascends «open».old }
-    requires sized { AreOfSize (length from.now) «open».old }
-    requires size { under.old.block_size ≡ length from.now }
-    ensures ascends { Ascends «open».new }
-    ensures sized { AreOfSize (length from.now) «open».new }
-{
-    let mut call = Overlay::begin(open, under);
-    let done = set_all(&mut call, blocks, from);
-    call.keep();
-    done
-}
-
-// A group of blocks that are filled with one byte.
-fn group_of(
-    alloc: Global,
-    numbers: [u64; 3],
-    blocks: &[u64],
-    size: usize,
-    fill: u8,
-) -> Result<Group, AllocError>
-    requires { size ≤ 8192 }
-    ensures ascends { IfOk result (λ g. Ascends g.blocks) }
-    ensures sized { IfOk result (λ g. AreOfSize size g.blocks) }
-{
-    let from = vec![in alloc; fill; size]?;
-    let mut open = Changed::new(alloc);
-    let mut under = MemBlocks::new(Vec::new(alloc), size as u32);
-    put_all(&mut open, &mut under, blocks, &from)?;
-    let [first, last, used] = numbers;
-    Ok(Group {
-        first,
-        last,
-        used,
-        blocks: open,
-    })
-}
-
-// The fields of a volume with an empty log at a place. The log is behind the bitmap, and has the root and the indices behind it.
-fn fields(shift: u32, blocks: i64, log_blocks: u16, place: i64) -> Super
-    requires { shift ≤ 13 }
-{
-    let run = |start, len| bfs_bytes::Run {
-        group: 0,
-        start,
-        len,
-    };
-    let size = 1u32 << shift;
-    Super {
-        name: [0; 32],
-        magic1: 0x42465331,
-        fs_byte_order: 0x42494745,
-        block_size: size,
-        block_shift: shift,
-        num_blocks: blocks,
-        used_blocks: 20,
-        inode_size: size as i32,
-        magic2: -586018767,
-        blocks_per_ag: 1,
-        ag_shift: shift as i32 + 3,
-        num_ags: 1,
-        flags: 0x434c454e,
-        log_blocks: run(2, log_blocks),
-        log_start: place,
-        log_end: place,
-        magic3: 0x15b6830e,
-        root_dir: run(log_blocks.wrapping_add(2), 1),
-        indices: run(log_blocks.wrapping_add(3), 1),
-        rest: [0; 380],
-    }
-}
 
 // A volume of zeros with this superblock.
 fn volume(alloc: Global, sup: &Super, length: usize) -> Result<Vec<u8>, AllocError> {
@@ -132,67 +42,19 @@ fn found(bytes: &[u8]) -> Option<Super>
     }
 }
 
-// A device over this disk with three groups sealed.
-fn loaded<D: Disk + Drop>(
-    alloc: Global,
-    mut disk: D,
-    sup: Super,
-    one: Group,
-    two: Group,
-    three: Group,
-) -> Option<Device<D>>
-    requires valid { IsValid sup }
-    requires ascends { Ascends one.blocks × Ascends two.blocks × Ascends three.blocks }
-    requires sized { AreOfSize sup.block_size one.blocks × AreOfSize sup.block_size two.blocks × AreOfSize sup.block_size three.blocks }
-{
-    let geometry = sup.geometry();
-    let Ok(sectors) = disk.sectors() else {
-        return None;
-    };
-    let needed = u64::from(geometry.block_size / 512) * geometry.blocks;
-    if sectors < needed || sup.log_start != sup.log_end {
-        return None;
-    }
-    let first = is_next(&sup, 0, geometry.used, &one);
-    let second = is_next(&sup, one.last, one.used, &two);
-    let third = is_next(&sup, two.last, two.used, &three);
-    if !first || !second || !third {
-        return None;
-    }
-    let Ok(mut device) = Device::adopt(alloc, disk, sup) else {
-        return None;
-    };
-    device.seal(one);
-    let Ok(()) = device.room() else {
-        return None;
-    };
-    device.seal(two);
-    device.seal(three);
-    Some(device)
-}
-
 // The three groups of the tests: blocks 16 and 17 with ones, none, and blocks 17 and 18 with threes, on a log of 12 blocks that
 // begins at its block 10. So the array block of the first stands in block 12 of the volume, and its bytes in 13 and 2.
 fn three<D: Disk + Drop>(alloc: Global, disk: D, shift: u32) -> Option<Device<D>>
     requires { shift ≤ 13 }
 {
-    let Ok(sup) = Super::parse(&fields(shift, 32, 12, 10).print()) else {
-        return None;
-    };
-    let size = sup.block_size as usize;
-    if size > 8192 {
-        return None;
-    }
-    let Ok(one) = group_of(alloc, [1, 2, 22], &[16, 17], size, 1) else {
-        return None;
-    };
-    let Ok(two) = group_of(alloc, [3, 3, 22], &[], size, 1) else {
-        return None;
-    };
-    let Ok(three) = group_of(alloc, [4, 6, 23], &[18, 17], size, 3) else {
-        return None;
-    };
-    loaded(alloc, disk, sup, one, two, three)
+    three_sealed(
+        alloc,
+        disk,
+        &fields(shift, 32, 12, 10),
+        [[1, 2, 22], [3, 3, 22], [4, 6, 23]],
+        [&[16, 17], &[], &[18, 17]],
+        [1, 1, 3],
+    )
 }
 
 // A number of two bytes.
@@ -243,18 +105,6 @@ fn seen(image: &[u8], size: usize) -> [usize; 4] {
     ]
 }
 
-// Makes so many steps. Tells whether each was made.
-fn step_on<D: Disk>(device: &mut Device<D>, steps: usize) -> bool
-    ensures { IsSameVolume device.old.books.sup device.new.books.sup }
-{
-    for _ in 0..steps {
-        if device.step().is_err() {
-            return false;
-        }
-    }
-    true
-}
-
 // The image that a crash leaves after so many steps, each sector old or new by the pick.
 fn crashed(alloc: Global, shift: u32, steps: usize, pick: u64) -> Result<Vec<u8>, AllocError>
     requires { shift ≤ 13 }
@@ -264,13 +114,10 @@ fn crashed(alloc: Global, shift: u32, steps: usize, pick: u64) -> Result<Vec<u8>
     if bytes.len() != 512 * (bytes.len() / 512) {
         return Err(AllocError);
     }
-    let Some(mut device) = three(alloc, MemDisk::new(alloc, bytes), shift) else {
-        return Err(AllocError);
-    };
-    if !step_on(&mut device, steps) {
-        return Err(AllocError);
+    match three(alloc, MemDisk::new(alloc, bytes), shift) {
+        Some(device) => crash_after(device, steps as u64, pick),
+        None => Err(AllocError),
     }
-    device.into_disk().crash(pick)
 }
 
 // What stands after so many steps: the first group from its gate on, the third from its own. While a gate is written and not
@@ -318,6 +165,16 @@ fn failing(alloc: Global, call: u64) -> Result<MemDisk, AllocError> {
     Ok(MemDisk::failing(alloc, bytes, Vec::from_slice(alloc, &[call])?))
 }
 
+// How many steps tell these, before the first that tells another.
+fn steps_told(device: &mut Device<MemDisk>, told: &[Progress]) -> usize {
+    for (i, progress) in told.iter().enumerate() {
+        if device.step() != Ok(*progress) {
+            return i;
+        }
+    }
+    told.len()
+}
+
 #[test]
 fn each_step_tells_its_call_and_stores_its_mark(rt: HostRuntime) -> Result<(), Fail> {
     let alloc = rt.alloc();
@@ -348,9 +205,7 @@ fn each_step_tells_its_call_and_stores_its_mark(rt: HostRuntime) -> Result<(), F
         Progress::TailSafe,
         Progress::Idle,
     ];
-    for progress in told {
-        assert_eq!(rt; device.step(), Ok(progress));
-    }
+    assert_eq!(rt; steps_told(&mut device, &told), 24);
     let marks = [(6, 2), (12, 3), (18, 6)].map(|(moment, number)| Mark { moment, number });
     assert_eq!(rt; device.marks(), marks.as_slice());
     assert_eq!(rt;
@@ -373,29 +228,42 @@ fn durable_after(steps: u64) -> u64 {
     }
 }
 
+// Of a device whose disk stops behind so many steps: whether these are made, the next one fails, the one behind it is told the stop, and
+// as much is durable as before.
+fn stops_behind(device: &mut Device<MemDisk>, steps: u64) -> [bool; 4] {
+    let failed = DeviceFault::Disk {
+        before: 0,
+        after: 1,
+        stops: true,
+    };
+    let stopped = DeviceFault::Stopped {
+        durable: durable_after(steps),
+        faults: 1,
+    };
+    [
+        step_on(device, steps),
+        device.step() == Err(failed),
+        device.step() == Err(stopped),
+        device.durable() == durable_after(steps),
+    ]
+}
+
+// The same of the device of the tests, and what a crash leaves then.
+fn stopped_behind(alloc: Global, steps: u64) -> Result<([bool; 4], [usize; 4]), Fail> {
+    // The first disk call asks for the sectors.
+    let disk = failing(alloc, steps.wrapping_add(2))?;
+    let mut device = three(alloc, disk, 10).ok_or("no device")?;
+    let told = stops_behind(&mut device, steps);
+    let image = device.into_disk().crash(u64::MAX)?;
+    Ok((told, seen(&image, 1024)))
+}
+
 #[test]
 fn a_stop_at_each_disk_call_is_for_good(rt: HostRuntime) -> Result<(), Fail> {
     let alloc = rt.alloc();
     for step in 1..24u64 {
-        // The first disk call asks for the sectors.
-        let mut device = three(alloc, failing(alloc, step + 1)?, 10).ok_or("no device")?;
-        for _ in 1..step {
-            assert!(rt; device.step().is_ok());
-        }
-        let failed = DeviceFault::Disk {
-            before: 0,
-            after: 1,
-            stops: true,
-        };
-        let stopped = DeviceFault::Stopped {
-            durable: durable_after(step - 1),
-            faults: 1,
-        };
-        assert_eq!(rt; device.step(), Err(failed));
-        assert_eq!(rt; device.step(), Err(stopped));
-        assert_eq!(rt; device.durable(), durable_after(step - 1));
-        let image = device.into_disk().crash(u64::MAX)?;
-        let found = seen(&image, 1024);
+        let (told, found) = stopped_behind(alloc, step - 1)?;
+        assert_eq!(rt; told, [true; 4]);
         let before = expected(step as usize - 1, false);
         assert!(rt; found == before || found == expected(step as usize, true));
     }
@@ -414,23 +282,18 @@ fn wide(alloc: Global, steps: usize, pick: u64) -> Result<Vec<u8>, AllocError> {
     if bytes.len() != 512 * (bytes.len() / 512) {
         return Err(AllocError);
     }
-    let Ok(sup) = Super::parse(&fields(10, 280, 140, 100).print()) else {
-        return Err(AllocError);
-    };
-    let size = sup.block_size as usize;
-    if size > 8192 {
-        return Err(AllocError);
+    let sealed = three_sealed(
+        alloc,
+        MemDisk::new(alloc, bytes),
+        &fields(10, 280, 140, 100),
+        [[1, 2, 150], [3, 3, 150], [4, 4, 150]],
+        [&blocks, &[], &[]],
+        [5, 0, 0],
+    );
+    match sealed {
+        Some(device) => crash_after(device, steps as u64, pick),
+        None => Err(AllocError),
     }
-    let one = group_of(alloc, [1, 2, 150], &blocks, size, 5)?;
-    let two = group_of(alloc, [3, 3, 150], &[], size, 0)?;
-    let three = group_of(alloc, [4, 4, 150], &[], size, 0)?;
-    let Some(mut device) = loaded(alloc, MemDisk::new(alloc, bytes), sup, one, two, three) else {
-        return Err(AllocError);
-    };
-    if !step_on(&mut device, steps) {
-        return Err(AllocError);
-    }
-    device.into_disk().crash(pick)
 }
 
 #[test]
@@ -451,39 +314,6 @@ fn a_group_of_130_blocks_takes_two_array_blocks(rt: HostRuntime) -> Result<(), F
         assert_eq!(rt; (word(&image, 608), word(&image, 616)), (start, end));
     }
     Ok(())
-}
-
-fn has_empty_log(sup: Super) -> bool
-    ensures { IsTrue result → sup.log_start ≡ sup.log_end }
-{
-    sup.log_start == sup.log_end
-}
-
-// A device over this disk with the volume of the tests, and its superblock.
-fn opened_on<D: Disk + Drop>(alloc: Global, mut disk: D) -> Option<(Super, Device<D>)>
-    ensures books { IfSome result (λ p. p.1.books ≡ adopted p.0) }
-    ensures valid { IfSome result (λ p. IsValid p.0) }
-    ensures size { IfSome result (λ p. p.0.block_size ≡ 1024) }
-    ensures place { IfSome result (λ p. IsData (layout_of p.0) 16) }
-    ensures below { IfSome result (λ p. 16 < (layout_of p.0).blocks) }
-{
-    let Ok(sup) = Super::parse(&fields(10, 32, 12, 10).print()) else {
-        return None;
-    };
-    let Ok(sectors) = disk.sectors() else {
-        return None;
-    };
-    let needed = u64::from(sup.block_size / 512).checked_mul(sup.geometry().blocks)?;
-    if !has_empty_log(sup) {
-        return None;
-    }
-    if sectors < needed || sup.block_size != 1024 || !is_data(&sup, 16) {
-        return None;
-    }
-    match Device::adopt(alloc, disk, sup) {
-        Ok(device) => Some((sup, device)),
-        Err(_) => None,
-    }
 }
 
 // The first byte of a block.
@@ -667,7 +497,7 @@ fn a_block_that_came_home_is_read_anew(rt: HostRuntime) -> Result<(), Fail> {
         (14, None),
         (15, Some([0, 1, 1, 1])),
     ] {
-        let group = group_of(alloc, [1, 2, 22], &[16, 17], 1024, 1)?;
+        let group = group_with(alloc, [1, 2, 22], &[16, 17], 1024, 1)?;
         assert_eq!(rt;
             around_on(alloc, failing(alloc, call)?, group),
             Some(want),

@@ -27,13 +27,23 @@ fn make<D: Disk>(alloc: Global, disk: &mut D) -> bool {
 }
 
 // Do these bytes stand at this place?
-fn has(bytes: &[u8], at: usize, field: &[u8]) -> bool {
+pub(crate) fn has(bytes: &[u8], at: usize, field: &[u8]) -> bool {
     at <= bytes.len() && field.len() <= bytes.len() - at && &bytes[at..at + field.len()] == field
 }
 
 // Are all bytes between two places zero?
 fn is_zero(bytes: &[u8], from: usize, to: usize) -> bool {
     from <= to && to <= bytes.len() && bytes[from..to].iter().all(|b| *b == 0)
+}
+
+// The place of the first field that doesn't stand there.
+fn first_without(bytes: &[u8], cases: &[(usize, &[u8])]) -> Option<usize> {
+    for (at, field) in cases {
+        if !has(bytes, *at, field) {
+            return Some(*at);
+        }
+    }
+    None
 }
 
 #[test]
@@ -89,9 +99,7 @@ fn a_new_volume_has_the_bytes_of_the_format(rt: HostRuntime) -> Result<(), Fail>
         (519 * 1024 + 24, &[3, 0, 21, 0]),
         (519 * 1024 + 28, b"last_modifiednamesize"),
     ];
-    for (at, field) in cases {
-        assert!(rt; has(&bytes, at, field), "at {at}");
-    }
+    assert_eq!(rt; first_without(&bytes, &cases), None);
     assert!(rt;
         is_zero(&bytes, 520, 544) && is_zero(&bytes, 608, 624) && is_zero(&bytes, 644, 1024)
     );
@@ -103,20 +111,30 @@ fn a_new_volume_has_the_bytes_of_the_format(rt: HostRuntime) -> Result<(), Fail>
     Ok(())
 }
 
+// Makes a volume on a disk that stops after so many calls: whether it is done, and whether a crash leaves the superblock and the root.
+fn made_until(alloc: Global, calls: u64) -> Result<[bool; 3], AllocError> {
+    let other = bytes_of(alloc, 4_194_304, 0x7e)?;
+    if other.len() != 4_194_304 {
+        return Err(AllocError);
+    }
+    let mut disk = Stopping::after(MemDisk::new(alloc, other), calls);
+    let done = make(alloc, &mut disk);
+    let image = disk.inner().crash(u64::MAX)?;
+    Ok([
+        done,
+        has(&image, 544, b"1SFBEGIB"),
+        has(&image, 514 * 1024, &[0xd9, 0x0a, 0xbe, 0x3b]),
+    ])
+}
+
 #[test]
 fn a_stop_leaves_no_volume_or_the_whole_one(rt: HostRuntime) -> Result<(), Fail> {
     let alloc = rt.alloc();
     for calls in 1..9 {
-        let other = bytes_of(alloc, 4_194_304, 0x7e)?;
-        assert_eq!(rt; other.len(), 4_194_304);
-        let mut disk = Stopping::after(MemDisk::new(alloc, other), calls);
-        let done = make(alloc, &mut disk);
-        assert_eq!(rt; done, calls >= 8);
-        let image = disk.inner().crash(u64::MAX)?;
-        let there = has(&image, 544, b"1SFBEGIB");
+        let [done, there, root] = made_until(alloc, calls)?;
         // the seventh call writes the superblock
-        assert_eq!(rt; there, calls >= 7);
-        assert!(rt; there == has(&image, 514 * 1024, &[0xd9, 0x0a, 0xbe, 0x3b]) || calls >= 5);
+        assert_eq!(rt; (done, there), (calls >= 8, calls >= 7));
+        assert!(rt; there == root || calls >= 5);
     }
     Ok(())
 }

@@ -2,7 +2,7 @@
 ghost use Rattle.std.specs.Prelude.{◌≡◌, ◌≤◌, ◌<◌, ◌+◌, ◌*◌, ◌/◌, ℕ, length, IsTrue, IfOk};
 ghost use Rattle.bfs_super.specs.Conditions.{IsValid};
 ghost use Rattle.bfs_txn.specs.Changed.{Ascends, AreOfSize, number_at};
-ghost use Rattle.bfs_device.specs.Layouts.{IsData, layout_of, ring_count};
+ghost use Rattle.bfs_device.specs.Layouts.{IsData, IsSameVolume, layout_of, ring_count};
 ghost use Rattle.bfs_device.specs.Books.{IsNext};
 
 use crate::volumes::Volume;
@@ -12,24 +12,23 @@ use bfs_super::Super;
 use bfs_txn::{Changed, Edits, Group, MemBlocks, Overlay};
 use std::alloc::{AllocError, Global};
 
-// Sets so many blocks from one on to the same bytes.
-fn set_all<E: Edits>(edits: &mut E, first: u64, count: u64, from: &[u8]) -> Result<(), AllocError>
+// Sets some blocks to the same bytes.
+fn set_all<E: Edits>(edits: &mut E, blocks: &[u64], from: &[u8]) -> Result<(), AllocError>
     requires { length from.now ≡ E.size edits.old }
     ensures size { E.size edits.new ≡ E.size edits.old }
     ensures frame { E.frame edits.new ≡ E.frame edits.old }
 {
-    for i in 0..count {
-        edits.set(first.wrapping_add(i), from)?;
+    for block in blocks {
+        edits.set(*block, from)?;
     }
     Ok(())
 }
 
-// Puts so many blocks with the same bytes into an open group.
+// Puts some blocks with the same bytes into an open group.
 fn put_all(
     open: &mut Changed,
     under: &mut MemBlocks,
-    first: u64,
-    count: u64,
+    blocks: &[u64],
     from: &[u8],
 ) -> Result<(), AllocError>
     requires ascends { Ascends «open».old }
@@ -39,18 +38,17 @@ fn put_all(
     ensures sized { AreOfSize (length from.now) «open».new }
 {
     let mut call = Overlay::begin(open, under);
-    let done = set_all(&mut call, first, count, from);
+    let done = set_all(&mut call, blocks, from);
     call.keep();
     done
 }
 
-/// A group of so many blocks from one on, filled with one byte. It is the entries from `numbers[0]` to `numbers[1]`, and leaves
-/// `numbers[2]` used blocks.
-pub(crate) fn group_of(
+/// A group of these blocks, filled with one byte. It is the entries from `numbers[0]` to `numbers[1]`, and leaves `numbers[2]` used
+/// blocks.
+pub(crate) fn group_with(
     alloc: Global,
     numbers: [u64; 3],
-    first: u64,
-    count: u64,
+    blocks: &[u64],
     size: usize,
     fill: u8,
 ) -> Result<Group, AllocError>
@@ -61,7 +59,7 @@ pub(crate) fn group_of(
     let from = vec![in alloc; fill; size]?;
     let mut open = Changed::new(alloc);
     let mut under = MemBlocks::new(Vec::new(alloc), size as u32);
-    put_all(&mut open, &mut under, first, count, &from)?;
+    put_all(&mut open, &mut under, blocks, &from)?;
     let [first, last, used] = numbers;
     Ok(Group {
         first,
@@ -127,14 +125,14 @@ pub(crate) fn is_next(sup: &Super, left: u64, used: u64, group: &Group) -> bool
 }
 
 /// A device over this disk with three groups sealed.
-pub(crate) fn loaded(
+fn loaded<D: Disk + Drop>(
     alloc: Global,
-    mut disk: MemDisk,
+    mut disk: D,
     sup: Super,
     one: Group,
     two: Group,
     three: Group,
-) -> Option<Device<MemDisk>>
+) -> Option<Device<D>>
     requires valid { IsValid sup }
     requires ascends { Ascends one.blocks × Ascends two.blocks × Ascends three.blocks }
     requires sized { AreOfSize sup.block_size one.blocks × AreOfSize sup.block_size two.blocks × AreOfSize sup.block_size three.blocks }
@@ -143,7 +141,7 @@ pub(crate) fn loaded(
     let Ok(sectors) = disk.sectors() else {
         return None;
     };
-    let needed = u64::from(geometry.block_size / 512).checked_mul(geometry.blocks)?;
+    let needed = u64::from(geometry.block_size / 512) * geometry.blocks;
     if sectors < needed || sup.log_start != sup.log_end {
         return None;
     }
@@ -165,47 +163,110 @@ pub(crate) fn loaded(
     Some(device)
 }
 
-/// A device over this volume with groups of so many blocks sealed: of bytes 1, 2 and 3, each from the first block that may be
-/// changed on, so that a later one covers an earlier one. They leave 21, 22 and 23 used blocks, but for a group without blocks.
-pub(crate) fn sealed(alloc: Global, volume: &Volume, sizes: [u64; 3]) -> Option<Device<MemDisk>> {
-    let Ok(sup) = Super::parse(&volume.fields().print()) else {
-        return None;
-    };
-    let Ok(bytes) = volume.bytes(alloc) else {
+/// A device over this disk, which has the volume of these fields, with three groups sealed: of these entries and used blocks, with these
+/// blocks, each filled with its byte.
+pub(crate) fn three_sealed<D: Disk + Drop>(
+    alloc: Global,
+    disk: D,
+    fields: &Super,
+    numbers: [[u64; 3]; 3],
+    blocks: [&[u64]; 3],
+    fills: [u8; 3],
+) -> Option<Device<D>> {
+    let Ok(sup) = Super::parse(&fields.print()) else {
         return None;
     };
     let size = sup.block_size as usize;
     if size > 8192 {
         return None;
     }
+    let Ok(one) = group_with(alloc, numbers[0], blocks[0], size, fills[0]) else {
+        return None;
+    };
+    let Ok(two) = group_with(alloc, numbers[1], blocks[1], size, fills[1]) else {
+        return None;
+    };
+    let Ok(three) = group_with(alloc, numbers[2], blocks[2], size, fills[2]) else {
+        return None;
+    };
+    loaded(alloc, disk, sup, one, two, three)
+}
+
+// So many blocks from one on.
+fn blocks_from(alloc: Global, first: u64, count: u64) -> Result<Vec<u64>, AllocError> {
+    let mut blocks = Vec::new(alloc);
+    for i in 0..count {
+        blocks.push(first.wrapping_add(i))?;
+    }
+    Ok(blocks)
+}
+
+// The first so many of them.
+fn first_of(blocks: &[u64], count: u64) -> &[u64] {
+    match blocks.get(..count as usize) {
+        Some(part) => part,
+        None => blocks,
+    }
+}
+
+/// A device over this volume with groups of so many blocks sealed: of bytes 1, 2 and 3, each from the first block that may be
+/// changed on, so that a later one covers an earlier one. They leave 21, 22 and 23 used blocks, but for a group without blocks.
+pub(crate) fn sealed(alloc: Global, volume: &Volume, sizes: [u64; 3]) -> Option<Device<MemDisk>> {
+    let most = sizes[0].max(sizes[1]).max(sizes[2]);
+    let Ok(all) = blocks_from(alloc, volume.first(), most) else {
+        return None;
+    };
+    let Ok(bytes) = volume.bytes(alloc) else {
+        return None;
+    };
     let used = used_after(sizes);
-    let first = volume.first();
-    let Ok(one) = group_of(alloc, [1, 2, used[0]], first, sizes[0], size, 1) else {
-        return None;
-    };
-    let Ok(two) = group_of(alloc, [3, 3, used[1]], first, sizes[1], size, 2) else {
-        return None;
-    };
-    let Ok(three) = group_of(alloc, [4, 6, used[2]], first, sizes[2], size, 3) else {
-        return None;
-    };
-    loaded(alloc, MemDisk::new(alloc, bytes), sup, one, two, three)
+    three_sealed(
+        alloc,
+        MemDisk::new(alloc, bytes),
+        &volume.fields(),
+        [[1, 2, used[0]], [3, 3, used[1]], [4, 6, used[2]]],
+        [
+            first_of(&all, sizes[0]),
+            first_of(&all, sizes[1]),
+            first_of(&all, sizes[2]),
+        ],
+        [1, 2, 3],
+    )
+}
+
+// The used blocks behind a group of so many: as many as before where it has none.
+fn used_behind(count: u64, before: u64, after: u64) -> u64 {
+    if count == 0 { before } else { after }
 }
 
 /// The used blocks after each of the groups.
 pub(crate) fn used_after(sizes: [u64; 3]) -> [u64; 3] {
-    let one = if sizes[0] == 0 { 20 } else { 21 };
-    let two = if sizes[1] == 0 { one } else { 22 };
-    let three = if sizes[2] == 0 { two } else { 23 };
+    let one = used_behind(sizes[0], 20, 21);
+    let two = used_behind(sizes[1], one, 22);
+    let three = used_behind(sizes[2], two, 23);
     [one, two, three]
 }
 
 /// Makes so many steps. Tells whether each was made.
-pub(crate) fn step_on(device: &mut Device<MemDisk>, steps: u64) -> bool {
+pub(crate) fn step_on<D: Disk>(device: &mut Device<D>, steps: u64) -> bool
+    ensures { IsSameVolume device.old.books.sup device.new.books.sup }
+{
     for _ in 0..steps {
         if device.step().is_err() {
             return false;
         }
     }
     true
+}
+
+/// The image that a crash leaves of a device after so many steps, each sector old or new by the pick.
+pub(crate) fn crash_after(
+    mut device: Device<MemDisk>,
+    steps: u64,
+    pick: u64,
+) -> Result<Vec<u8>, AllocError> {
+    if !step_on(&mut device, steps) {
+        return Err(AllocError);
+    }
+    device.into_disk().crash(pick)
 }

@@ -8,6 +8,8 @@ mod block_tests;
 #[cfg(test)]
 mod device_tests;
 #[cfg(test)]
+mod devices;
+#[cfg(test)]
 mod format_tests;
 #[cfg(test)]
 mod groups;

@@ -98,24 +98,49 @@ fn blocks_come_home_and_the_log_is_empty(rt: HostRuntime) -> Result<(), Fail> {
     Ok(())
 }
 
+// Is this image recovered, to what replay gives?
+fn is_replayed(alloc: Global, image: Vec<u8>) -> Result<bool, AllocError> {
+    if image.len() % 512 != 0 {
+        return Ok(false);
+    }
+    let mut disk = MemDisk::new(alloc, image);
+    if recover(alloc, &mut disk).is_err() {
+        return Ok(false);
+    }
+    Ok(disk.bytes() == replayed(alloc)?)
+}
+
+// Is each image that a crash leaves of this disk?
+fn is_replayed_after(alloc: Global, disk: &MemDisk) -> Result<bool, AllocError> {
+    for pick in [0, u64::MAX, 0xaaaa_aaaa_aaaa_aaaa, 0x5555_5555_5555_5555] {
+        if !is_replayed(alloc, disk.crash(pick)?)? {
+            return Ok(false);
+        }
+    }
+    Ok(true)
+}
+
+// Recovers the volume on a disk that stops after so many calls: whether it is done, and whether each crash is recovered then.
+fn stopped_after(alloc: Global, calls: u64) -> Result<(bool, bool), AllocError> {
+    let bytes = volume(alloc, &[])?;
+    if bytes.len() % 512 != 0 {
+        return Err(AllocError);
+    }
+    let mut disk = Stopping::after(MemDisk::new(alloc, bytes), calls);
+    let done = recover(alloc, &mut disk).is_ok();
+    Ok((done, is_replayed_after(alloc, &disk.inner())?))
+}
+
 #[test]
 fn a_recovery_that_was_stopped_is_done_by_the_next_one(rt: HostRuntime) -> Result<(), Fail> {
     let alloc = rt.alloc();
     // sectors, superblock, two array blocks; for each entry its array block, its block, and the write; then the last three
     for calls in 0..15 {
-        let bytes = volume(alloc, &[])?;
-        assert_eq!(rt; bytes.len() % 512, 0);
-        let mut disk = Stopping::after(MemDisk::new(alloc, bytes), calls);
-        let done = recover(alloc, &mut disk).is_ok();
-        assert_eq!(rt; done, calls >= 13, "after {calls}");
-        let disk = disk.inner();
-        for pick in [0, u64::MAX, 0xaaaa_aaaa_aaaa_aaaa, 0x5555_5555_5555_5555] {
-            let image = disk.crash(pick)?;
-            assert_eq!(rt; image.len() % 512, 0);
-            let mut again = MemDisk::new(alloc, image);
-            assert!(rt; recover(alloc, &mut again).is_ok());
-            assert!(rt; again.bytes() == replayed(alloc)?, "after {calls}");
-        }
+        assert_eq!(rt;
+            stopped_after(alloc, calls)?,
+            (calls >= 13, true),
+            "after {calls}"
+        );
     }
     Ok(())
 }

@@ -1,5 +1,5 @@
 // What recovery makes of each image that a crash leaves of a device.
-use crate::groups::{sealed, step_on, used_after};
+use crate::groups::{crash_after, sealed, step_on, used_after};
 use crate::volumes::Volume;
 use bfs_disk::{MemDisk, Stopping};
 use bfs_replay::recover;
@@ -17,13 +17,10 @@ struct Plan {
 
 // The image that a crash leaves after so many steps, each sector old or new by the pick.
 fn crashed(alloc: Global, plan: &Plan, steps: u64, pick: u64) -> Result<Vec<u8>, AllocError> {
-    let Some(mut device) = sealed(alloc, &plan.volume, plan.sizes) else {
-        return Err(AllocError);
-    };
-    if !step_on(&mut device, steps) {
-        return Err(AllocError);
+    match sealed(alloc, &plan.volume, plan.sizes) {
+        Some(device) => crash_after(device, steps, pick),
+        None => Err(AllocError),
     }
-    device.into_disk().crash(pick)
 }
 
 // Recovers an image, stopped after so many disk calls.
@@ -207,7 +204,37 @@ fn every_crash_of_a_small_volume_is_recovered(rt: HostRuntime) -> Result<(), Fai
     Ok(())
 }
 
-// Stops the recovery of an image after each number of disk calls, again with the same and with one call less, and then lets it end.
+// Stops the recovery of an image after so many calls. Tells whether it is recovered then, and what it is.
+fn stopped_once(
+    alloc: Global,
+    plan: &Plan,
+    groups: usize,
+    image: &[u8],
+    calls: u64,
+    pick: u64,
+) -> Result<(bool, Vec<u8>), AllocError> {
+    let once = stopped(alloc, image.to_vec(alloc)?, calls, pick)?;
+    let right = is_right(alloc, plan, groups, once.to_vec(alloc)?)?;
+    Ok((right, once))
+}
+
+// Stops the recovery of an image after so many disk calls, again with the same and with one call less. Tells whether it is recovered
+// after each.
+fn is_stopped_thrice(
+    alloc: Global,
+    plan: &Plan,
+    groups: usize,
+    image: &[u8],
+    calls: u64,
+    pick: u64,
+) -> Result<bool, AllocError> {
+    let (first, once) = stopped_once(alloc, plan, groups, image, calls, pick)?;
+    let (second, twice) = stopped_once(alloc, plan, groups, &once, calls, pick)?;
+    let (third, _) = stopped_once(alloc, plan, groups, &twice, calls.saturating_sub(1), pick)?;
+    Ok(first && second && third)
+}
+
+// The same after each number of disk calls.
 fn is_stoppable(
     alloc: Global,
     plan: &Plan,
@@ -216,13 +243,19 @@ fn is_stoppable(
     pick: u64,
 ) -> Result<bool, AllocError> {
     for calls in 0..13u64 {
-        let once = stopped(alloc, image.to_vec(alloc)?, calls, pick)?;
-        let twice = stopped(alloc, once.to_vec(alloc)?, calls, pick)?;
-        let thrice = stopped(alloc, twice.to_vec(alloc)?, calls.saturating_sub(1), pick)?;
-        if !is_right(alloc, plan, groups, once)?
-            || !is_right(alloc, plan, groups, twice)?
-            || !is_right(alloc, plan, groups, thrice)?
-        {
+        if !is_stopped_thrice(alloc, plan, groups, image, calls, pick)? {
+            return Ok(false);
+        }
+    }
+    Ok(true)
+}
+
+// The same by four picks, of the image that a crash leaves after so many steps.
+fn is_stoppable_after(alloc: Global, steps: u64, pick: u64) -> Result<bool, AllocError> {
+    let groups = standing(&SMALL, steps, pick & 2 == 2);
+    let image = crashed(alloc, &SMALL, steps, pick)?;
+    for again in [0, u64::MAX, 0x5555_5555_5555_5555, 0xaaaa_aaaa_aaaa_aaaa] {
+        if !is_stoppable(alloc, &SMALL, groups, &image, again)? {
             return Ok(false);
         }
     }
@@ -234,14 +267,7 @@ fn a_recovery_may_be_stopped_three_times(rt: HostRuntime) -> Result<(), Fail> {
     let alloc = rt.alloc();
     for steps in 0..25u64 {
         for pick in [0, u64::MAX, 0x5555_5555_5555_5555, 0xaaaa_aaaa_aaaa_aaaa] {
-            let groups = standing(&SMALL, steps, pick & 2 == 2);
-            let image = crashed(alloc, &SMALL, steps, pick)?;
-            for again in [0, u64::MAX, 0x5555_5555_5555_5555, 0xaaaa_aaaa_aaaa_aaaa] {
-                assert!(rt;
-                    is_stoppable(alloc, &SMALL, groups, &image, again)?,
-                    "{steps} {pick}"
-                );
-            }
+            assert!(rt; is_stoppable_after(alloc, steps, pick)?, "{steps} {pick}");
         }
     }
     Ok(())
@@ -297,12 +323,9 @@ const PLANS: [Plan; 8] = [
     },
 ];
 
-// The sectors of a volume that a crash now may leave old or new, where the two differ.
-fn open_sectors(alloc: Global, volume: &Volume, disk: &MemDisk) -> Result<Vec<u32>, AllocError> {
-    let old = disk.crash(0)?;
-    let new = disk.crash(u64::MAX)?;
-    let mut sectors = Vec::new(alloc);
-    for sector in 0..volume.blocks.wrapping_mul(2) {
+// Pushes those of so many sectors in which two images differ.
+fn push_open(sectors: &mut Vec<u32>, count: u32, old: &[u8], new: &[u8]) -> Result<(), AllocError> {
+    for sector in 0..count {
         let start = (sector as usize).wrapping_mul(512);
         let Some(before) = old.get(start..start.wrapping_add(512)) else {
             return Err(AllocError);
@@ -314,6 +337,15 @@ fn open_sectors(alloc: Global, volume: &Volume, disk: &MemDisk) -> Result<Vec<u3
             sectors.push(sector)?;
         }
     }
+    Ok(())
+}
+
+// The sectors of a volume that a crash now may leave old or new, where the two differ.
+fn open_sectors(alloc: Global, volume: &Volume, disk: &MemDisk) -> Result<Vec<u32>, AllocError> {
+    let old = disk.crash(0)?;
+    let new = disk.crash(u64::MAX)?;
+    let mut sectors = Vec::new(alloc);
+    push_open(&mut sectors, volume.blocks.wrapping_mul(2), &old, &new)?;
     Ok(sectors)
 }
 
@@ -329,28 +361,45 @@ fn is_right_for(
     is_right(alloc, plan, groups, disk.crash(pick)?)
 }
 
-// Is each crash after so many steps recovered? Every pick is tried where at most ten sectors are open, else all old and all new.
-fn is_right_after(alloc: Global, plan: &Plan, steps: u64) -> Result<bool, AllocError> {
-    let Some(mut device) = sealed(alloc, &plan.volume, plan.sizes) else {
-        return Err(AllocError);
-    };
-    if !step_on(&mut device, steps) {
-        return Err(AllocError);
-    }
-    let disk = device.into_disk();
-    let sectors = open_sectors(alloc, &plan.volume, &disk)?;
+// Is each crash of this disk recovered, with these sectors open?
+fn is_right_with(
+    alloc: Global,
+    plan: &Plan,
+    steps: u64,
+    disk: &MemDisk,
+    sectors: &[u32],
+) -> Result<bool, AllocError> {
     if sectors.len() > 10 {
         return Ok(
-            is_right_for(alloc, plan, steps, &disk, 0)?
-                && is_right_for(alloc, plan, steps, &disk, u64::MAX)?,
+            is_right_for(alloc, plan, steps, disk, 0)?
+                && is_right_for(alloc, plan, steps, disk, u64::MAX)?,
         );
     }
     for number in 0..1u64.wrapping_shl(sectors.len() as u32) {
-        if !is_right_for(alloc, plan, steps, &disk, pick_of(&sectors, number))? {
+        if !is_right_for(alloc, plan, steps, disk, pick_of(sectors, number))? {
             return Ok(false);
         }
     }
     Ok(true)
+}
+
+// The same with those that are open.
+fn is_right_of(alloc: Global, plan: &Plan, steps: u64, disk: &MemDisk) -> Result<bool, AllocError> {
+    let sectors = open_sectors(alloc, &plan.volume, disk)?;
+    is_right_with(alloc, plan, steps, disk, &sectors)
+}
+
+// Is each crash after so many steps recovered? Every pick is tried where at most ten sectors are open, else all old and all new.
+fn is_right_after(alloc: Global, plan: &Plan, steps: u64) -> Result<bool, AllocError> {
+    match sealed(alloc, &plan.volume, plan.sizes) {
+        Some(mut device) => {
+            if !step_on(&mut device, steps) {
+                return Err(AllocError);
+            }
+            is_right_of(alloc, plan, steps, &device.into_disk())
+        }
+        None => Err(AllocError),
+    }
 }
 
 #[test]
@@ -381,6 +430,18 @@ fn three_groups_are_recovered(rt: HostRuntime) -> Result<(), Fail> {
     Ok(())
 }
 
+// Stops the recovery of an image with one group twice after so many calls. Tells whether it is recovered then.
+fn is_right_twice(
+    alloc: Global,
+    plan: &Plan,
+    image: &[u8],
+    calls: u64,
+) -> Result<bool, AllocError> {
+    let once = stopped(alloc, image.to_vec(alloc)?, calls, 0x5555_5555_5555_5555)?;
+    let twice = stopped(alloc, once, calls, 0xaaaa_aaaa_aaaa_aaaa)?;
+    is_right(alloc, plan, 1, twice)
+}
+
 #[test]
 fn a_long_recovery_may_be_stopped(rt: HostRuntime) -> Result<(), Fail> {
     let alloc = rt.alloc();
@@ -388,9 +449,7 @@ fn a_long_recovery_may_be_stopped(rt: HostRuntime) -> Result<(), Fail> {
     // Two calls, four array blocks; then four array blocks again and two calls for each of 400 blocks; then three.
     let image = crashed(alloc, &plan, 408, 0)?;
     for calls in [5, 6, 7, 130, 400, 808, 809, 810, 811, 812, 813, 814] {
-        let once = stopped(alloc, image.to_vec(alloc)?, calls, 0x5555_5555_5555_5555)?;
-        let twice = stopped(alloc, once, calls, 0xaaaa_aaaa_aaaa_aaaa)?;
-        assert!(rt; is_right(alloc, &plan, 1, twice)?, "{calls}");
+        assert!(rt; is_right_twice(alloc, &plan, &image, calls)?, "{calls}");
     }
     Ok(())
 }

@@ -1,7 +1,7 @@
 // Volumes of 1,024 bytes a block, made by hand.
-ghost use Rattle.std.specs.Prelude.{◌≡◌, ◌<◌, ◌≤◌, ◌*◌, ◌/◌, length, IfOk};
+ghost use Rattle.std.specs.Prelude.{◌≡◌, ◌<◌, ◌*◌, ◌/◌, length, IfOk};
 
-use bfs_bytes::Run;
+use crate::devices::fields;
 use bfs_super::Super;
 use std::alloc::{AllocError, Global};
 
@@ -22,33 +22,7 @@ impl Volume {
 
     /// The fields of the superblock.
     pub(crate) fn fields(&self) -> Super {
-        let run = |start, len| Run {
-            group: 0,
-            start,
-            len,
-        };
-        Super {
-            name: [0; 32],
-            magic1: 0x42465331,
-            fs_byte_order: 0x42494745,
-            block_size: 1024,
-            block_shift: 10,
-            num_blocks: i64::from(self.blocks),
-            used_blocks: 20,
-            inode_size: 1024,
-            magic2: -586018767,
-            blocks_per_ag: 1,
-            ag_shift: 13,
-            num_ags: 1,
-            flags: 0x434c454e,
-            log_blocks: run(2, self.log),
-            log_start: i64::from(self.place),
-            log_end: i64::from(self.place),
-            magic3: 0x15b6830e,
-            root_dir: run(self.log.wrapping_add(2), 1),
-            indices: run(self.log.wrapping_add(3), 1),
-            rest: [0; 380],
-        }
+        fields(10, i64::from(self.blocks), self.log, i64::from(self.place))
     }
 
     /// The volume's bytes: zeros but for the superblock.

@@ -2,19 +2,17 @@
 // blocks 1 to 3; the inode that bears the attributes is block 4. Its small data has 792 bytes: the node's own name takes 16 of them,
 // and an attribute `f` with 100 bytes takes 113, so that an attribute `a` with 650 bytes fills it.
 ghost use Rattle.std.specs.Prelude.{◌≡◌, ◌≤◌, ◌<◌, ◌+◌, length, IfOk};
-ghost use Rattle.bfs_super.specs.Conditions.{IsValid};
 ghost use Rattle.bfs_sound.specs.Volumes.{sizes};
 ghost use Rattle.bfs_stream.specs.Grown.{IsOfVolume};
 
-use bfs_attr::AttrItem;
+use crate::volumes::{Silent, is_attribute, put_item, superblock};
 use bfs_attrs::AttrsMut;
 use bfs_bitmap::Bitmap;
-use bfs_bytes::{Run, put_bytes, put_run, put_u16, put_u32, run_at};
+use bfs_bytes::run_at;
 use bfs_node::TreeFault;
 use bfs_stream::GrowFault;
 use bfs_stream_pages::MapFault;
-use bfs_super::{Super, SuperFault};
-use bfs_txn::{BlockFault, Blocks, Changed, MemBlocks, Overlay};
+use bfs_txn::{Blocks, Changed, MemBlocks, Overlay};
 use std::alloc::{AllocError, Global};
 use std::test::Fail;
 
@@ -28,84 +26,6 @@ const RAWT: u32 = 0x52415754;
 
 /// The most bytes of `a` that fit.
 const MOST: usize = 650;
-
-/// Blocks in memory, which tell nothing of what they hold, so that a test need not prove what stands there.
-#[derive(Drop)]
-struct Silent {
-    blocks: MemBlocks,
-}
-
-impl Blocks for Silent {
-    ghost use Rattle.std.specs.Prelude.{None, [], false};
-    ghost use Rattle.bfs_txn.specs.Told.{read_last};
-
-    ghost told = { λ s. None };
-
-    ghost size = { λ s. s.blocks.block_size };
-
-    ghost counts = { λ s. record { faults = 0; stops = 0; stop = None } };
-
-    ghost changed = { λ s k. false };
-
-    ghost pairs = { λ s. 0 };
-
-    ghost last = { λ s. read_last s.blocks };
-
-    ghost Note = { Unit {0} };
-
-    ghost frame = { λ s. record { note = tt; names = []; kept = []; below = None } };
-
-    ghost sized = { λ s. tt };
-
-    fn get(&mut self, block: u64, into: &mut [u8]) -> Result<(), BlockFault> {
-        self.blocks.get(block, into)
-    }
-}
-
-/// A run in the first group.
-fn run(start: u16, len: u16) -> Run {
-    Run {
-        group: 0,
-        start,
-        len,
-    }
-}
-
-/// The volume's superblock.
-fn superblock() -> Result<Super, SuperFault>
-    ensures valid { IfOk result IsValid }
-{
-    let mut sector = [0u8; 512];
-    put_u32(&mut sector, 32, 0x42465331);
-    put_u32(&mut sector, 36, 0x42494745);
-    put_u32(&mut sector, 40, 1024);
-    put_u32(&mut sector, 44, 10);
-    put_u32(&mut sector, 48, 20480);
-    put_u32(&mut sector, 64, 1024);
-    put_u32(&mut sector, 68, 0xdd121031);
-    put_u32(&mut sector, 72, 1);
-    put_u32(&mut sector, 76, 13);
-    put_u32(&mut sector, 80, 3);
-    put_run(&mut sector, 88, run(8, 512));
-    put_u32(&mut sector, 112, 0x15b6830e);
-    put_run(&mut sector, 116, run(600, 1));
-    put_run(&mut sector, 124, run(601, 1));
-    Super::parse(&sector)
-}
-
-/// An item of small data, with three bytes behind its name and one behind its bytes.
-fn put_item(bytes: &mut [u8], at: usize, kind: u32, name: &[u8], value: &[u8])
-    requires name { length name.now ≤ 255 }
-    requires value { length value.now ≤ 255 }
-    requires inside { at + 600 ≤ length bytes.old }
-    ensures { length bytes.new ≡ length bytes.old }
-{
-    put_u32(bytes, at, kind);
-    put_u16(bytes, at + 4, name.len() as u16);
-    put_u16(bytes, at + 6, value.len() as u16);
-    put_bytes(bytes, at + 8, name);
-    put_bytes(bytes, at + 8 + name.len() + 3, value);
-}
 
 /// Writes the volume's first eight blocks, which are in use.
 fn put_volume(bytes: &mut [u8])
@@ -130,14 +50,6 @@ fn volume(alloc: Global, size: u32) -> Result<Silent, AllocError>
     Ok(Silent {
         blocks: MemBlocks::new(bytes, size),
     })
-}
-
-/// Is the answer an attribute of this type with these bytes?
-fn is_attribute(found: &Option<AttrItem>, kind: u32, bytes: &[u8]) -> bool {
-    match found {
-        Some(item) => item.kind == kind && item.bytes.as_slice() == bytes,
-        None => false,
-    }
 }
 
 /// Has the inode an attribute directory?
@@ -274,7 +186,7 @@ fn steps(
 
 /// How many of the steps were right on the volume.
 fn stepped(alloc: Global) -> Result<Result<u32, MapFault>, Fail> {
-    let sup = superblock()?;
+    let sup = superblock(1024, 10, 20480, 3, 8)?;
     if sup.block_size != 1024 {
         return Ok(Ok(0));
     }

@@ -2,16 +2,15 @@
 // attribute directory block 5 with the pages in blocks 6 and 7, and two attributes have the inodes 8 and 11. The items of small
 // data stand in any order, one of them is named `.`, and the attribute directory has the rows `.` and `..`.
 ghost use Rattle.std.specs.Prelude.{◌≡◌, ◌≤◌, ◌<◌, ◌+◌, length, IfOk};
-ghost use Rattle.bfs_super.specs.Conditions.{IsValid, natural};
 
-use bfs_attr::{AttrItem, Attrs};
+use crate::volumes::{Silent, is_attribute, put_item, run, superblock};
+use bfs_attr::Attrs;
 use bfs_bitmap::Bitmap;
-use bfs_bytes::{Run, put_bytes, put_i64, put_run, put_u16, put_u32};
+use bfs_bytes::{put_i64, put_run, put_u32};
 use bfs_node::{Header, PAGE, blank, insert_row};
 use bfs_stream_pages::MapFault;
-use bfs_super::{Super, SuperFault};
 use bfs_tree::AttributeRow;
-use bfs_txn::{BlockFault, Blocks, Changed, MemBlocks, Overlay};
+use bfs_txn::{Blocks, Changed, MemBlocks, Overlay};
 use std::alloc::{AllocError, Global};
 use std::test::Fail;
 
@@ -24,84 +23,6 @@ const CSTR: u32 = 0x43535452;
 const LONG: u32 = 0x4c4f4e47;
 
 const RAWT: u32 = 0x52415754;
-
-/// Blocks in memory, which tell nothing of what they hold, so that a test need not prove what stands there.
-#[derive(Drop)]
-struct Silent {
-    blocks: MemBlocks,
-}
-
-impl Blocks for Silent {
-    ghost use Rattle.std.specs.Prelude.{None, [], false};
-    ghost use Rattle.bfs_txn.specs.Told.{read_last};
-
-    ghost told = { λ s. None };
-
-    ghost size = { λ s. s.blocks.block_size };
-
-    ghost counts = { λ s. record { faults = 0; stops = 0; stop = None } };
-
-    ghost changed = { λ s k. false };
-
-    ghost pairs = { λ s. 0 };
-
-    ghost last = { λ s. read_last s.blocks };
-
-    ghost Note = { Unit {0} };
-
-    ghost frame = { λ s. record { note = tt; names = []; kept = []; below = None } };
-
-    ghost sized = { λ s. tt };
-
-    fn get(&mut self, block: u64, into: &mut [u8]) -> Result<(), BlockFault> {
-        self.blocks.get(block, into)
-    }
-}
-
-/// A run in the first group.
-fn run(start: u16, len: u16) -> Run {
-    Run {
-        group: 0,
-        start,
-        len,
-    }
-}
-
-/// The superblock of a volume of 4,096 blocks.
-fn superblock() -> Result<Super, SuperFault>
-    ensures valid { IfOk result IsValid }
-{
-    let mut sector = [0u8; 512];
-    put_u32(&mut sector, 32, 0x42465331);
-    put_u32(&mut sector, 36, 0x42494745);
-    put_u32(&mut sector, 40, 1024);
-    put_u32(&mut sector, 44, 10);
-    put_u32(&mut sector, 48, 4096);
-    put_u32(&mut sector, 64, 1024);
-    put_u32(&mut sector, 68, 0xdd121031);
-    put_u32(&mut sector, 72, 1);
-    put_u32(&mut sector, 76, 13);
-    put_u32(&mut sector, 80, 1);
-    put_run(&mut sector, 88, run(12, 512));
-    put_u32(&mut sector, 112, 0x15b6830e);
-    put_run(&mut sector, 116, run(600, 1));
-    put_run(&mut sector, 124, run(601, 1));
-    Super::parse(&sector)
-}
-
-/// An item of small data, with three bytes behind its name and one behind its bytes.
-fn put_item(bytes: &mut [u8], at: usize, kind: u32, name: &[u8], value: &[u8])
-    requires name { length name.now ≤ 255 }
-    requires value { length value.now ≤ 255 }
-    requires inside { at + 600 ≤ length bytes.old }
-    ensures { length bytes.new ≡ length bytes.old }
-{
-    put_u32(bytes, at, kind);
-    put_u16(bytes, at + 4, name.len() as u16);
-    put_u16(bytes, at + 6, value.len() as u16);
-    put_bytes(bytes, at + 8, name);
-    put_bytes(bytes, at + 8 + name.len() + 3, value);
-}
 
 /// The header and the leaf of an attribute directory with the rows `.` and `..`.
 fn put_tree(pages: &mut [u8])
@@ -187,14 +108,6 @@ fn is_long(bytes: &[u8]) -> bool {
         right = right && bytes[at] == long_byte(at);
     }
     right
-}
-
-/// Is the answer an attribute of this type with these bytes?
-fn is_attribute(found: &Option<AttrItem>, kind: u32, bytes: &[u8]) -> bool {
-    match found {
-        Some(item) => item.kind == kind && item.bytes.as_slice() == bytes,
-        None => false,
-    }
 }
 
 /// The attribute of a name is looked up, and is one of this type with these bytes.
@@ -311,7 +224,7 @@ fn asks(
 
 /// The answer of one call on the volume.
 fn asked(alloc: Global, call: u32) -> Result<Result<bool, MapFault>, Fail> {
-    let sup = superblock()?;
+    let sup = superblock(1024, 10, 4096, 1, 12)?;
     if sup.block_size != 1024 {
         return Ok(Ok(false));
     }

@@ -1,19 +1,18 @@
 // Nodes are made on the volume that `mk --blocks 4096` makes at 1,000 seconds, whose root is at block 514 and whose first 529 blocks are
 // used, and one is given another mode: what the calls that read answer then.
-ghost use Rattle.std.specs.Prelude.{◌≡◌, ◌≤◌, IfSome, length};
+ghost use Rattle.std.specs.Prelude.{◌≡◌, ◌≤◌, length};
 ghost use Rattle.bfs_super.specs.Conditions.{IsValid};
 ghost use Rattle.bfs_stream.specs.Sizes.{sizes_of};
 ghost use Rattle.bfs_stream.specs.Grown.{IsOfVolume};
 
+use crate::volumes::{Silent, blocks_of, new_image, superblock_of};
 use bfs_bitmap::Bitmap;
 use bfs_calls::{make, set_mode, set_mode_refusal};
-use bfs_disk::{Disk, MemDisk};
 use bfs_look::{list, lookup, read_link, stat};
-use bfs_mkfs::{format, layout_of};
 use bfs_stream_pages::MapFault;
 use bfs_super::Super;
 use bfs_tree::{Bytes, Kind, MakeKind, Reply};
-use bfs_txn::{BlockFault, Blocks, Changed, MemBlocks, Overlay};
+use bfs_txn::{Blocks, Changed, Overlay};
 use std::alloc::{AllocError, Global};
 use std::test::Fail;
 
@@ -24,67 +23,6 @@ const STAMP: i64 = 131_072_000;
 
 /// The stamp of the call that sets a mode: 3,000 seconds.
 const LATER: i64 = 196_608_000;
-
-/// Blocks in memory, which tell nothing of what they hold, so that a test need not prove what stands there.
-#[derive(Drop)]
-struct Silent {
-    blocks: MemBlocks,
-}
-
-impl Blocks for Silent {
-    ghost use Rattle.std.specs.Prelude.{None, [], false};
-    ghost use Rattle.bfs_txn.specs.Told.{read_last};
-
-    ghost told = { λ s. None };
-
-    ghost size = { λ s. s.blocks.block_size };
-
-    ghost counts = { λ s. record { faults = 0; stops = 0; stop = None } };
-
-    ghost changed = { λ s k. false };
-
-    ghost pairs = { λ s. 0 };
-
-    ghost last = { λ s. read_last s.blocks };
-
-    ghost Note = { Unit {0} };
-
-    ghost frame = { λ s. record { note = tt; names = []; kept = []; below = None } };
-
-    ghost sized = { λ s. tt };
-
-    fn get(&mut self, block: u64, into: &mut [u8]) -> Result<(), BlockFault> {
-        self.blocks.get(block, into)
-    }
-}
-
-fn zeros(alloc: Global, count: usize) -> Result<Vec<u8>, AllocError> {
-    vec![in alloc; 0u8; count]
-}
-
-/// The blocks of 1,024 bytes of such an image.
-fn blocks_of(bytes: Vec<u8>) -> Silent
-    requires { length bytes.items ≡ 4194304 }
-    ensures { result.blocks.block_size ≡ 1024 }
-{
-    Silent {
-        blocks: MemBlocks::new(bytes, 1024),
-    }
-}
-
-/// Formats a disk that is large enough with 4,096 blocks of 1,024 bytes, and tells whether it worked.
-fn formats(alloc: Global, disk: &mut MemDisk) -> bool {
-    let Ok(geometry) = layout_of(4096, 1024) else {
-        return false;
-    };
-    let Ok(sectors) = disk.sectors() else {
-        return false;
-    };
-    if sectors < geometry.blocks * u64::from(geometry.block_size / 512) {
-        return false;
-    }
-    format(alloc, disk, &geometry, b"untitled", 65_536_000).is_ok()
-}
 
 /// What is made, and where.
 struct Want<'a> {
@@ -437,49 +375,66 @@ fn link_to(alloc: Global, target: &[u8]) -> Result<MakeKind, AllocError> {
     Ok(MakeKind::Link { target })
 }
 
-/// The superblock of an image.
-fn superblock(bytes: &[u8]) -> Option<Super>
-    ensures valid { IfSome result IsValid }
+/// What the calls on a volume tell: the ids of the five nodes, how many blocks are used then, what is found, what is changed, that no
+/// block is written by what changes nothing, and which calls are refused.
+fn told(
+    alloc: Global,
+    sup: &Super,
+    bitmap: &mut Bitmap,
+    edits: &mut Overlay<'_, Silent>,
+    link: &MakeKind,
+    long: &MakeKind,
+) -> Result<[bool; 7], MapFault>
+    requires valid { IsValid sup.now }
+    requires size { edits.old.under.now.blocks.block_size ≡ sup.now.block_size }
+    requires volume { IsOfVolume (sizes_of sup.now) bitmap.old }
 {
-    if bytes.len() < 1024 {
+    let made = makes(alloc, sup, bitmap, edits, link, long)?;
+    let found = answers(alloc, sup, bitmap, edits)?;
+    let before = edits.pairs();
+    let changed = changes(alloc, sup, bitmap, edits)?;
+    let written = edits.pairs();
+    let refused = refusals(alloc, sup, bitmap, edits)?;
+    let since = edits.pairs();
+    Ok([
+        made == [529, 530, 533, 536, 537],
+        bitmap.used() == 539,
+        found == [true; 6],
+        changed == [true; 6],
+        written == before,
+        refused == [1, 2, 3, 4],
+        since == written,
+    ])
+}
+
+/// The same on a new volume; nothing where this is none.
+fn told_of(
+    alloc: Global,
+    bytes: Vec<u8>,
+    link: &MakeKind,
+    long: &MakeKind,
+) -> Option<Result<[bool; 7], MapFault>>
+    requires { length bytes.items ≡ 4194304 }
+{
+    let sup = superblock_of(&bytes)?;
+    if sup.block_size != 1024 {
         return None;
     }
-    let mut sector = [0u8; 512];
-    sector.copy_from_slice(&bytes[512..1024]);
-    Super::parse(&sector).ok()
+    let mut under = blocks_of(bytes);
+    let mut bitmap = Bitmap::of(alloc, &sup);
+    let mut open = Changed::new(alloc);
+    let mut edits = Overlay::begin(&mut open, &mut under);
+    let told = told(alloc, &sup, &mut bitmap, &mut edits, link, long);
+    edits.drop_call();
+    Some(told)
 }
 
 #[test]
 fn nodes_are_made_at_the_lowest_free_blocks_and_found(rt: HostRuntime) -> Result<(), Fail> {
     let alloc = rt.alloc();
-    let image = zeros(alloc, 4_194_304)?;
-    assert_eq!(rt; image.len(), 4_194_304);
-    let mut disk = MemDisk::new(alloc, image);
-    assert!(rt; formats(alloc, &mut disk));
-    let bytes = disk.bytes().to_vec(alloc)?;
-    assert_eq!(rt; bytes.len(), 4_194_304);
-    let sup = superblock(&bytes).expect(&rt, "the volume that was made");
-    assert_eq!(rt; sup.block_size, 1024);
     let link = link_to(alloc, b"d/b")?;
     let long = link_to(alloc, &[b'x'; 200])?;
-    let mut under = blocks_of(bytes);
-    let mut bitmap = Bitmap::of(alloc, &sup);
-    let mut open = Changed::new(alloc);
-    let mut edits = Overlay::begin(&mut open, &mut under);
-    let made = makes(alloc, &sup, &mut bitmap, &mut edits, &link, &long);
-    let found = answers(alloc, &sup, &mut bitmap, &mut edits);
-    let before = edits.pairs();
-    let changed = changes(alloc, &sup, &mut bitmap, &mut edits);
-    let written = edits.pairs();
-    let refused = refusals(alloc, &sup, &mut bitmap, &mut edits);
-    let since = edits.pairs();
-    edits.drop_call();
-    assert_eq!(rt; made?, [529, 530, 533, 536, 537]);
-    assert_eq!(rt; bitmap.used(), 539);
-    assert_eq!(rt; found?, [true; 6]);
-    assert_eq!(rt; changed?, [true; 6]);
-    assert_eq!(rt; written, before);
-    assert_eq!(rt; refused?, [1, 2, 3, 4]);
-    assert_eq!(rt; since, written);
+    let told = told_of(alloc, new_image(alloc)?, &link, &long);
+    assert_eq!(rt; told.ok_or("no volume")??, [true; 7]);
     Ok(())
 }

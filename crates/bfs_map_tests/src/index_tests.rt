@@ -3,17 +3,16 @@
 ghost use Rattle.std.specs.Prelude.{◌≡◌, ◌≤◌, ◌<◌, ◌^◌, length, IfOk};
 ghost use Rattle.bfs_base.specs.Keys.{IsKey};
 ghost use Rattle.bfs_base.specs.declared.kind.KeyKind.TheVariants.{Text, I64};
-ghost use Rattle.bfs_super.specs.Conditions.{IsValid};
 ghost use Rattle.bfs_node.specs.Search.{IsSought};
 ghost use Rattle.bfs_stream.specs.Grown.{IsOfVolume};
 
+use crate::volumes::{Silent, run, superblock};
 use bfs_bitmap::Bitmap;
-use bfs_bytes::{Run, put_i64, put_run, put_u32};
+use bfs_bytes::{put_i64, put_run};
 use bfs_index::{Index, Pair};
 use bfs_node::{Header, KeyKind, PAGE, blank};
 use bfs_stream_pages::MapFault;
-use bfs_super::{Super, SuperFault};
-use bfs_txn::{BlockFault, Blocks, Changed, MemBlocks, Overlay};
+use bfs_txn::{Blocks, Changed, MemBlocks, Overlay};
 use std::alloc::{AllocError, Global};
 use std::test::Fail;
 
@@ -25,70 +24,6 @@ const IDS: usize = 130;
 
 /// How many pairs there may be: those of ten keys.
 const PAIRS: usize = 1300;
-
-/// Blocks in memory, which tell nothing of what they hold, so that a test need not prove what stands there.
-#[derive(Drop)]
-struct Silent {
-    blocks: MemBlocks,
-}
-
-impl Blocks for Silent {
-    ghost use Rattle.std.specs.Prelude.{None, [], false};
-    ghost use Rattle.bfs_txn.specs.Told.{read_last};
-
-    ghost told = { λ s. None };
-
-    ghost size = { λ s. s.blocks.block_size };
-
-    ghost counts = { λ s. record { faults = 0; stops = 0; stop = None } };
-
-    ghost changed = { λ s k. false };
-
-    ghost pairs = { λ s. 0 };
-
-    ghost last = { λ s. read_last s.blocks };
-
-    ghost Note = { Unit {0} };
-
-    ghost frame = { λ s. record { note = tt; names = []; kept = []; below = None } };
-
-    ghost sized = { λ s. tt };
-
-    fn get(&mut self, block: u64, into: &mut [u8]) -> Result<(), BlockFault> {
-        self.blocks.get(block, into)
-    }
-}
-
-/// A run in the first group.
-fn run(start: u16, len: u16) -> Run {
-    Run {
-        group: 0,
-        start,
-        len,
-    }
-}
-
-/// The volume's superblock.
-fn superblock() -> Result<Super, SuperFault>
-    ensures valid { IfOk result IsValid }
-{
-    let mut sector = [0u8; 512];
-    put_u32(&mut sector, 32, 0x42465331);
-    put_u32(&mut sector, 36, 0x42494745);
-    put_u32(&mut sector, 40, 1024);
-    put_u32(&mut sector, 44, 10);
-    put_u32(&mut sector, 48, 20480);
-    put_u32(&mut sector, 64, 1024);
-    put_u32(&mut sector, 68, 0xdd121031);
-    put_u32(&mut sector, 72, 1);
-    put_u32(&mut sector, 76, 13);
-    put_u32(&mut sector, 80, 3);
-    put_run(&mut sector, 88, run(4, 512));
-    put_u32(&mut sector, 112, 0x15b6830e);
-    put_run(&mut sector, 116, run(600, 1));
-    put_run(&mut sector, 124, run(601, 1));
-    Super::parse(&sector)
-}
 
 /// The header and the empty leaf of an index with keys of this data type.
 fn put_tree(pages: &mut [u8], data_type: u32)
@@ -305,11 +240,29 @@ fn goes(
     Ok(half && beside && none)
 }
 
+/// So many ids come, and go.
+fn comes_and_goes(
+    index: &mut Index,
+    edits: &mut Overlay<'_, Silent>,
+    bitmap: &mut Bitmap,
+    count: u64,
+) -> Result<bool, MapFault>
+    requires kind { index.old.kind ≡ I64 }
+    requires count { count < 1000 }
+    requires size { edits.old.under.now.blocks.block_size ≡ index.old.origin.sizes.block_size }
+    requires volume { IsOfVolume index.old.origin.sizes bitmap.old }
+{
+    match comes(index, edits, bitmap, count) {
+        Ok(true) => goes(index, edits, bitmap, count),
+        other => other,
+    }
+}
+
 /// The same on a new volume.
 fn comes_and_goes_on(alloc: Global, count: u64) -> Result<Result<bool, MapFault>, Fail>
     requires { count < 1000 }
 {
-    let sup = superblock()?;
+    let sup = superblock(1024, 10, 20480, 3, 4)?;
     if sup.block_size != 1024 {
         return Ok(Ok(false));
     }
@@ -321,10 +274,7 @@ fn comes_and_goes_on(alloc: Global, count: u64) -> Result<Result<bool, MapFault>
     let mut bitmap = Bitmap::of(alloc, &sup);
     let mut edits = Overlay::begin(&mut open, &mut under);
     let mut index = Index::at(alloc, 4, KeyKind::I64, &sup);
-    let result = match comes(&mut index, &mut edits, &mut bitmap, count) {
-        Ok(true) => goes(&mut index, &mut edits, &mut bitmap, count),
-        other => other,
-    };
+    let result = comes_and_goes(&mut index, &mut edits, &mut bitmap, count);
     edits.drop_call();
     Ok(result)
 }
@@ -468,7 +418,7 @@ fn runs(
 
 /// The same on a new volume.
 fn runs_on(alloc: Global, calls: u32, seed: u64) -> Result<Result<bool, MapFault>, Fail> {
-    let sup = superblock()?;
+    let sup = superblock(1024, 10, 20480, 3, 4)?;
     if sup.block_size != 1024 {
         return Ok(Ok(false));
     }

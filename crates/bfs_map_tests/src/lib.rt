@@ -13,6 +13,8 @@ mod chain_tests;
 #[cfg(test)]
 mod index_tests;
 #[cfg(test)]
+mod leaf;
+#[cfg(test)]
 mod look_tests;
 #[cfg(test)]
 mod number_tests;
@@ -20,3 +22,5 @@ mod number_tests;
 mod page_tests;
 #[cfg(test)]
 mod reader_tests;
+#[cfg(test)]
+mod volumes;

@@ -1,81 +1,19 @@
 // The calls that read, over the volume that `mk --blocks 4096` makes at 1,000 seconds: the root alone, at block 514. Behind it
 // stand its two pages, and from block 517 on the index directory and the indices, none of which is a node.
-ghost use Rattle.std.specs.Prelude.{◌≡◌, IfOk, length};
+ghost use Rattle.std.specs.Prelude.{◌≡◌, length};
 ghost use Rattle.bfs_super.specs.Conditions.{IsValid};
 
+use crate::volumes::{Silent, blocks_of, new_image, superblock_of};
 use bfs_bitmap::Bitmap;
-use bfs_disk::{Disk, MemDisk};
 use bfs_look::{list, lookup, node_at, read_link, stat};
-use bfs_mkfs::{format, layout_of};
 use bfs_stream_pages::MapFault;
 use bfs_super::Super;
 use bfs_tree::{Kind, Reply};
-use bfs_txn::{BlockFault, Blocks, Changed, MemBlocks, Overlay};
-use std::alloc::{AllocError, Global};
+use bfs_txn::{Blocks, Changed, Overlay};
+use std::alloc::Global;
 use std::test::Fail;
 
 const ROOT: u64 = 514;
-
-/// Blocks in memory, which tell nothing of what they hold, so that a test need not prove what stands there.
-#[derive(Drop)]
-struct Silent {
-    blocks: MemBlocks,
-}
-
-impl Blocks for Silent {
-    ghost use Rattle.std.specs.Prelude.{None, [], false};
-    ghost use Rattle.bfs_txn.specs.Told.{read_last};
-
-    ghost told = { λ s. None };
-
-    ghost size = { λ s. s.blocks.block_size };
-
-    ghost counts = { λ s. record { faults = 0; stops = 0; stop = None } };
-
-    ghost changed = { λ s k. false };
-
-    ghost pairs = { λ s. 0 };
-
-    ghost last = { λ s. read_last s.blocks };
-
-    ghost Note = { Unit {0} };
-
-    ghost frame = { λ s. record { note = tt; names = []; kept = []; below = None } };
-
-    ghost sized = { λ s. tt };
-
-    fn get(&mut self, block: u64, into: &mut [u8]) -> Result<(), BlockFault> {
-        self.blocks.get(block, into)
-    }
-}
-
-fn zeros(alloc: Global, count: usize) -> Result<Vec<u8>, AllocError> {
-    vec![in alloc; 0u8; count]
-}
-
-/// The blocks of 1,024 bytes of such an image.
-fn blocks_of(bytes: Vec<u8>) -> Silent
-    requires { length bytes.items ≡ 4194304 }
-    ensures { result.blocks.block_size ≡ 1024 }
-{
-    Silent {
-        blocks: MemBlocks::new(bytes, 1024),
-    }
-}
-
-/// Formats a disk that is large enough with 4,096 blocks of 1,024 bytes, and tells whether it worked.
-fn make(alloc: Global, disk: &mut MemDisk) -> bool {
-    let Ok(geometry) = layout_of(4096, 1024) else {
-        return false;
-    };
-    let Ok(sectors) = disk.sectors() else {
-        return false;
-    };
-    if sectors < geometry.blocks * u64::from(geometry.block_size / 512) {
-        return false;
-    }
-    format(alloc, disk, &geometry, b"untitled", 65_536_000).is_ok()
-}
 
 /// Which of some numbers are nodes: a directory, or none.
 fn are_nodes(
@@ -207,27 +145,42 @@ fn answers(
     Ok([empty, absent, nowhere, root, file])
 }
 
-#[test]
-fn the_root_of_a_new_volume_is_its_one_node(rt: HostRuntime) -> Result<(), Fail> {
-    let alloc = rt.alloc();
-    let image = zeros(alloc, 4_194_304)?;
-    assert_eq!(rt; image.len(), 4_194_304);
-    let mut disk = MemDisk::new(alloc, image);
-    assert!(rt; make(alloc, &mut disk));
-    let bytes = disk.bytes().to_vec(alloc)?;
-    assert_eq!(rt; bytes.len(), 4_194_304);
-    let mut sector = [0u8; 512];
-    sector.copy_from_slice(&bytes[512..1024]);
-    let sup = Super::parse(&sector)?;
-    assert_eq!(rt; sup.block_size, 1024);
+/// Whether the nodes are those, and the answers.
+fn told(
+    alloc: Global,
+    sup: &Super,
+    bitmap: &mut Bitmap,
+    edits: &mut Overlay<'_, Silent>,
+) -> Result<[bool; 2], MapFault>
+    requires valid { IsValid sup.now }
+    requires size { edits.old.under.now.blocks.block_size ≡ sup.now.block_size }
+{
+    let nodes = are_nodes(alloc, sup, bitmap, edits)?;
+    let replies = answers(alloc, sup, bitmap, edits)?;
+    Ok([nodes == [true; 5], replies == [true; 5]])
+}
+
+/// The same on a new volume; nothing where this is none.
+fn told_of(alloc: Global, bytes: Vec<u8>) -> Option<Result<[bool; 2], MapFault>>
+    requires { length bytes.items ≡ 4194304 }
+{
+    let sup = superblock_of(&bytes)?;
+    if sup.block_size != 1024 {
+        return None;
+    }
     let mut under = blocks_of(bytes);
     let mut bitmap = Bitmap::of(alloc, &sup);
     let mut open = Changed::new(alloc);
     let mut edits = Overlay::begin(&mut open, &mut under);
-    let nodes = are_nodes(alloc, &sup, &mut bitmap, &mut edits);
-    let replies = answers(alloc, &sup, &mut bitmap, &mut edits);
+    let told = told(alloc, &sup, &mut bitmap, &mut edits);
     edits.drop_call();
-    assert_eq!(rt; nodes?, [true; 5]);
-    assert_eq!(rt; replies?, [true; 5]);
+    Some(told)
+}
+
+#[test]
+fn the_root_of_a_new_volume_is_its_one_node(rt: HostRuntime) -> Result<(), Fail> {
+    let alloc = rt.alloc();
+    let told = told_of(alloc, new_image(alloc)?);
+    assert_eq!(rt; told.ok_or("no volume")??, [true; 2]);
     Ok(())
 }

@@ -1,21 +1,15 @@
 // Numbers added to the keys of one leaf and taken out again, in memory, beside plain tables.
-ghost use Rattle.std.specs.Prelude.{◌≡◌, ◌<◌, ◌^◌, length};
+ghost use Rattle.std.specs.Prelude.{◌≡◌, ◌<◌, ◌^◌};
 
+use crate::leaf::{LEAF, form_of, has_all, is_last, meant, stream_of, takes, value_at, writes};
 use bfs_dups_add::dups_add;
-use bfs_dups_remove::dups_remove;
-use bfs_node::{
-    Header, KeyKind, PAGE, TreeFault, blank, check, has_room, insert_row, row_count, row_value,
-};
-use bfs_pages::{MemPages, is_child};
+use bfs_node::{Header, KeyKind, PAGE, TreeFault, blank, has_room, insert_row, row_count};
+use bfs_pages::MemPages;
 use bfs_txn::{Pages, Steps};
-use bfs_values::{Link, Numbers, link_of, numbers_of, set_value};
 use std::alloc::{AllocError, Global};
 use std::marker::Brand;
 use std::sync::ledger::{Blank, Ledger};
 use std::test::Fail;
-
-/// Where the only leaf of a test's tree begins.
-const LEAF: u64 = 1024;
 
 /// A tree of one leaf with so many keys of one letter, each with a plain number of its own.
 fn make_tree(bytes: &mut Vec<u8>, keys: u8) -> Result<(), AllocError> {
@@ -42,15 +36,6 @@ fn make_tree(bytes: &mut Vec<u8>, keys: u8) -> Result<(), AllocError> {
     Ok(())
 }
 
-/// Whole pages, as a stream.
-fn stream_of(bytes: Vec<u8>) -> Option<MemPages> {
-    if bytes.len() % 1024 == 0 && bytes.len() > 1024 {
-        Some(MemPages::new(bytes))
-    } else {
-        None
-    }
-}
-
 fn added<L: Ledger>(
     pages: &mut MemPages,
     value: i64,
@@ -66,76 +51,6 @@ fn added<L: Ledger>(
     dups_add(pages, KeyKind::Text, LEAF, value, number, &mut steps)
 }
 
-fn meant<L: Ledger>(
-    alloc: Global,
-    pages: &mut MemPages,
-    value: i64,
-    ledger: Blank,
-) -> Result<Numbers, TreeFault<AllocError>>
-    requires name { ledger.name ≡ L.name }
-    requires parts { ledger.parts ≡ L.parts }
-    requires some { L.parts ≡ 1 }
-{
-    let mut steps = Steps::<L>::begin(ledger);
-    numbers_of(alloc, pages, KeyKind::Text, LEAF, value, &mut steps)
-}
-
-fn read<L: Ledger>(pages: &mut MemPages, page: &mut [u8], ledger: Blank) -> bool
-    requires page { length page.old ≡ 1024 }
-    requires name { ledger.name ≡ L.name }
-    requires parts { ledger.parts ≡ L.parts }
-    requires some { L.parts ≡ 1 }
-    ensures length { length page.new ≡ 1024 }
-{
-    let mut steps = Steps::<L>::begin(ledger);
-    if pages.length() <= LEAF {
-        return false;
-    }
-    match pages.get(LEAF, page, &mut steps) {
-        Ok(()) => true,
-        Err(_) => false,
-    }
-}
-
-/// The value of a row of the leaf.
-fn value_at(pages: &mut MemPages, row: usize) -> Option<i64> {
-    let mut page = [0u8; PAGE];
-    if !read::<Brand>(pages, &mut page, Blank::new(1)) {
-        return None;
-    }
-    match check(&page, KeyKind::Text) {
-        Ok(()) => {
-            if row < row_count(&page) {
-                Some(row_value(&page, row))
-            } else {
-                None
-            }
-        }
-        Err(_) => None,
-    }
-}
-
-fn write_value<L: Ledger>(pages: &mut MemPages, row: usize, value: i64, ledger: Blank) -> bool
-    requires name { ledger.name ≡ L.name }
-    requires parts { ledger.parts ≡ L.parts }
-    requires some { L.parts ≡ 1 }
-{
-    let mut steps = Steps::<L>::begin(ledger);
-    if row >= 64 || !is_child(LEAF, pages.length()) {
-        return false;
-    }
-    let key = [b'A' + row as u8];
-    match set_value(pages, KeyKind::Text, LEAF, &key, value, &mut steps) {
-        Ok(()) => true,
-        Err(_) => false,
-    }
-}
-
-/// Writes the value of a row of the leaf.
-fn writes(pages: &mut MemPages, row: usize, value: i64) -> bool {
-    write_value::<Brand>(pages, row, value, Blank::new(1))
-}
-
 /// Adds a number to a row of the leaf.
 fn adds(pages: &mut MemPages, row: usize, number: u64) -> bool {
     if number >= 1_000_000_000 {
@@ -148,42 +63,6 @@ fn adds(pages: &mut MemPages, row: usize, number: u64) -> bool {
     match added::<Brand>(pages, value, number, Blank::new(1)) {
         Ok(new) => writes(pages, row, new),
         Err(_) => false,
-    }
-}
-
-/// Whether a row means the numbers from one on up to another, without a step.
-fn has_all(alloc: Global, pages: &mut MemPages, row: usize, first: u64, last: u64) -> bool {
-    let value = match value_at(pages, row) {
-        Some(value) => value,
-        None => return false,
-    };
-    let found = match meant::<Brand>(alloc, pages, value, Blank::new(1)) {
-        Ok(found) => found,
-        Err(_) => return false,
-    };
-    let numbers = found.as_slice();
-    let mut next = first;
-    for at in 0..numbers.len() {
-        if next > last || numbers[at] != next {
-            return false;
-        }
-        if next < 1_000_000_000 {
-            next += 1;
-        }
-    }
-    last < 1_000_000_000 && next == last + 1
-}
-
-/// Which form a row's value has: 1 a plain number, 2 a fragment, 3 a chain.
-fn form_of(pages: &mut MemPages, row: usize) -> u8 {
-    match value_at(pages, row) {
-        Some(value) => match link_of(value) {
-            Link::Number(_) => 1,
-            Link::Fragment { .. } => 2,
-            Link::Chain { .. } => 3,
-            Link::Nothing => 0,
-        },
-        None => 0,
     }
 }
 
@@ -217,51 +96,6 @@ fn is_table(alloc: Global, pages: &mut MemPages, table: &[bool], row: usize) -> 
 fn next_seed(seed: u64) -> u64 {
     seed.wrapping_mul(6364136223846793005)
         .wrapping_add(1442695040888963407)
-}
-
-fn removed<L: Ledger>(
-    pages: &mut MemPages,
-    value: i64,
-    number: u64,
-    ledger: Blank,
-) -> Result<Option<i64>, TreeFault<AllocError>>
-    requires number { number < 2 ^ 62 }
-    requires name { ledger.name ≡ L.name }
-    requires parts { ledger.parts ≡ L.parts }
-    requires some { L.parts ≡ 1 }
-{
-    let mut steps = Steps::<L>::begin(ledger);
-    dups_remove(pages, KeyKind::Text, LEAF, value, number, &mut steps)
-}
-
-/// Takes a number out of a row of the leaf; whether some number was left.
-fn takes(pages: &mut MemPages, row: usize, number: u64) -> bool {
-    if number >= 1_000_000_000 {
-        return false;
-    }
-    let value = match value_at(pages, row) {
-        Some(value) => value,
-        None => return false,
-    };
-    match removed::<Brand>(pages, value, number, Blank::new(1)) {
-        Ok(Some(new)) => writes(pages, row, new),
-        _ => false,
-    }
-}
-
-/// Whether no number is left of a row without this one.
-fn is_last(pages: &mut MemPages, row: usize, number: u64) -> bool {
-    if number >= 1_000_000_000 {
-        return false;
-    }
-    let value = match value_at(pages, row) {
-        Some(value) => value,
-        None => return false,
-    };
-    match removed::<Brand>(pages, value, number, Blank::new(1)) {
-        Ok(None) => true,
-        _ => false,
-    }
 }
 
 /// From eight numbers to seven and back, so often, without a page more.

@@ -6,8 +6,8 @@ ghost use Rattle.bfs_stream.specs.Sizes.{sizes_of};
 ghost use Rattle.bfs_stream.specs.Grown.{IsOfVolume};
 ghost use Rattle.bfs_stream_pages.specs.Held.{Held};
 
+use crate::volumes::{self, Silent};
 use bfs_bitmap::Bitmap;
-use bfs_bytes::{Run, put_run, put_u32};
 use bfs_stream::GrowFault;
 use bfs_stream_pages::StreamPages;
 use bfs_super::{Super, SuperFault};
@@ -17,69 +17,13 @@ use std::marker::Brand;
 use std::sync::ledger::{Blank, Ledger};
 use std::test::Fail;
 
-/// Blocks in memory, which tell nothing of what they hold, so that a test need not prove what stands there.
-#[derive(Drop)]
-struct Silent {
-    blocks: MemBlocks,
-}
-
-impl Blocks for Silent {
-    ghost use Rattle.std.specs.Prelude.{None, [], false};
-    ghost use Rattle.bfs_txn.specs.Told.{read_last};
-
-    ghost told = { λ s. None };
-
-    ghost size = { λ s. s.blocks.block_size };
-
-    ghost counts = { λ s. record { faults = 0; stops = 0; stop = None } };
-
-    ghost changed = { λ s k. false };
-
-    ghost pairs = { λ s. 0 };
-
-    ghost last = { λ s. read_last s.blocks };
-
-    ghost Note = { Unit {0} };
-
-    ghost frame = { λ s. record { note = tt; names = []; kept = []; below = None } };
-
-    ghost sized = { λ s. tt };
-
-    fn get(&mut self, block: u64, into: &mut [u8]) -> Result<(), BlockFault> {
-        self.blocks.get(block, into)
-    }
-}
-
 /// The superblock of a volume with blocks of this size, 4,096 of them behind two whole groups.
 pub(crate) fn superblock(size: u32, shift: u32) -> Result<Super, SuperFault>
     requires small { size ≤ 8192 }
     requires low { shift ≤ 13 }
     ensures valid { IfOk result IsValid }
 {
-    let mut sector = [0u8; 512];
-    put_u32(&mut sector, 32, 0x42465331);
-    put_u32(&mut sector, 36, 0x42494745);
-    put_u32(&mut sector, 40, size);
-    put_u32(&mut sector, 44, shift);
-    put_u32(&mut sector, 48, 16 * size + 4096);
-    put_u32(&mut sector, 64, size);
-    put_u32(&mut sector, 68, 0xdd121031);
-    put_u32(&mut sector, 72, 1);
-    put_u32(&mut sector, 76, shift + 3);
-    put_u32(&mut sector, 80, 3);
-    put_run(&mut sector, 88, run(4, 512));
-    put_u32(&mut sector, 112, 0x15b6830e);
-    put_run(&mut sector, 116, run(600, 1));
-    put_run(&mut sector, 124, run(601, 1));
-    Super::parse(&sector)
-}
-
-fn run(start: u16, len: u16) -> Run {
-    Run {
-        group: 0,
-        start,
-        len,
-    }
+    volumes::superblock(size, shift, 16 * size + 4096, 3, 4)
 }
 
 /// The first six blocks of the volume, with so many bytes of the bitmap set.

@@ -420,6 +420,16 @@ fn leads_to(tree: &Model, name: &[u8], target: &[u8]) -> Result<bool, AllocError
     }
 }
 
+/// How many of the calls have their replies, and whether the link `b` leads to `x` then.
+fn done_and_leads(
+    alloc: Global,
+    tree: &mut Model,
+    rows: &[(u8, &'static str)],
+) -> Result<(usize, bool), AllocError> {
+    let count = done(alloc, tree, rows)?;
+    Ok((count, leads_to(tree, b"b", b"x")?))
+}
+
 #[test]
 fn a_link_takes_the_place_of_another(rt: HostRuntime) -> Result<(), Fail> {
     let mut tree = Model::new(rt.alloc(), ROOT, 0)?;
@@ -430,9 +440,7 @@ fn a_link_takes_the_place_of_another(rt: HostRuntime) -> Result<(), Fail> {
         (44, "ok b"),
         (46, "ok b=b"),
     ];
-    let count = done(rt.alloc(), &mut tree, &rows)?;
-    let leads = leads_to(&tree, b"b", b"x")?;
-    assert_eq!(rt; (count, leads), (5, true));
+    assert_eq!(rt; done_and_leads(rt.alloc(), &mut tree, &rows)?, (5, true));
     Ok(())
 }
 
@@ -535,13 +543,16 @@ fn makes_in_folder(tree: &mut Model) -> Result<(), AllocError> {
     Ok(())
 }
 
+/// Whether the file is there then, and as it was made.
+fn made_in_folder(tree: &mut Model) -> Result<[bool; 2], AllocError> {
+    makes_in_folder(tree)?;
+    Ok([lists(tree, 0, b"f")?, is_as_made(tree, 1, 65_536_002)?])
+}
+
 #[test]
 fn a_file_in_a_folder_has_the_stamps_of_its_entry(rt: HostRuntime) -> Result<(), Fail> {
     let mut tree = Model::new(rt.alloc(), ROOT, 65_536_000)?;
-    makes_in_folder(&mut tree)?;
-    let listed = lists(&tree, 0, b"f")?;
-    let made = is_as_made(&tree, 1, 65_536_002)?;
-    assert_eq!(rt; (listed, made), (true, true));
+    assert_eq!(rt; made_in_folder(&mut tree)?, [true, true]);
     Ok(())
 }
 
@@ -588,18 +599,23 @@ fn sized(alloc: Global, tree: &Model) -> Result<Vec<u8>, AllocError> {
     text(alloc, &found)
 }
 
+/// Whether the files are listed, and three of them once they have other sizes.
+fn listed_by_size(alloc: Global, tree: &mut Model) -> Result<[bool; 2], AllocError> {
+    let listed = are_listed(tree)?;
+    resize(tree, 0, 5, 2)?;
+    resize(tree, 4, 5, 3)?;
+    resize(tree, 2, 1, 4)?;
+    let found = sized(alloc, tree)?;
+    Ok([
+        listed,
+        found.as_slice() == b"ok 1=f002 5=f000 5=f004".as_slice(),
+    ])
+}
+
 #[test]
 fn an_index_lists_by_key_and_then_in_the_order_of_making(rt: HostRuntime) -> Result<(), Fail> {
     let mut tree = Model::new(rt.alloc(), ROOT, 0)?;
-    let listed = are_listed(&mut tree)?;
-    resize(&mut tree, 0, 5, 2)?;
-    resize(&mut tree, 4, 5, 3)?;
-    resize(&mut tree, 2, 1, 4)?;
-    let found = sized(rt.alloc(), &tree)?;
-    assert_eq!(rt;
-        (listed, found.as_slice()),
-        (true, b"ok 1=f002 5=f000 5=f004".as_slice())
-    );
+    assert_eq!(rt; listed_by_size(rt.alloc(), &mut tree)?, [true, true]);
     Ok(())
 }
 
@@ -619,12 +635,15 @@ fn are_made(tree: &mut Model) -> Result<bool, AllocError> {
     Ok(true)
 }
 
+/// Whether they are made, and whether one more is refused.
+fn made_and_refused(tree: &mut Model) -> Result<[bool; 2], AllocError> {
+    Ok([are_made(tree)?, makes_index(tree, b"more", "indexcount")?])
+}
+
 #[test]
 fn a_volume_has_thirty_two_indices(rt: HostRuntime) -> Result<(), Fail> {
     let mut tree = Model::new(rt.alloc(), ROOT, 0)?;
-    let made = are_made(&mut tree)?;
-    let refused = makes_index(&mut tree, b"more", "indexcount")?;
-    assert_eq!(rt; (made, refused), (true, true));
+    assert_eq!(rt; made_and_refused(&mut tree)?, [true, true]);
     Ok(())
 }
 
@@ -642,12 +661,17 @@ fn is_read_back(
     leads_to(tree, name, target)
 }
 
+/// Whether a short link and a long one are.
+fn are_read_back(alloc: Global, tree: &mut Model) -> Result<[bool; 2], AllocError> {
+    let short = is_read_back(alloc, tree, b"s", &[b't'; 143])?;
+    let long = is_read_back(alloc, tree, b"l", &[b't'; 144])?;
+    Ok([short, long])
+}
+
 #[test]
 fn links_give_their_targets_back(rt: HostRuntime) -> Result<(), Fail> {
     let mut tree = Model::new(rt.alloc(), ROOT, 0)?;
-    let short = is_read_back(rt.alloc(), &mut tree, b"s", &[b't'; 143])?;
-    let long = is_read_back(rt.alloc(), &mut tree, b"l", &[b't'; 144])?;
-    assert_eq!(rt; (short, long), (true, true));
+    assert_eq!(rt; are_read_back(rt.alloc(), &mut tree)?, [true, true]);
     Ok(())
 }
 
@@ -682,14 +706,21 @@ fn makes_another(tree: &mut Model) -> Result<(), AllocError> {
     Ok(())
 }
 
+/// Whether a sync is answered, whether nothing is there behind it, and what is there once those calls are made.
+fn synced_and_named(alloc: Global, tree: &mut Model) -> Result<[bool; 3], AllocError> {
+    let durable = synced(tree)?;
+    let before = has_names(alloc, tree, "ok")?;
+    makes_another(tree)?;
+    Ok([durable, before, has_names(alloc, tree, "ok b")?])
+}
+
 #[test]
 fn a_name_is_free_again_and_a_sync_changes_nothing(rt: HostRuntime) -> Result<(), Fail> {
     let mut tree = Model::new(rt.alloc(), ROOT, 0)?;
-    let durable = synced(&mut tree)?;
-    let before = has_names(rt.alloc(), &tree, "ok")?;
-    makes_another(&mut tree)?;
-    let after = has_names(rt.alloc(), &tree, "ok b")?;
-    assert_eq!(rt; (durable, before, after), (true, true, true));
+    assert_eq!(rt;
+        synced_and_named(rt.alloc(), &mut tree)?,
+        [true, true, true]
+    );
     Ok(())
 }
 
@@ -749,14 +780,21 @@ fn remove_all(tree: &mut Model, there: &mut [bool; 200]) -> Result<bool, AllocEr
     Ok(true)
 }
 
+/// Whether they are listed as they are made and removed, and whether none is left.
+fn made_and_removed(alloc: Global, tree: &mut Model) -> Result<[bool; 3], AllocError> {
+    let mut there = [false; 200];
+    let made = make_all(tree, &mut there)?;
+    let removed = remove_all(tree, &mut there)?;
+    Ok([made, removed, has_names(alloc, tree, "ok")?])
+}
+
 #[test]
 fn two_hundred_long_names_are_listed_after_each_call(rt: HostRuntime) -> Result<(), Fail> {
     let mut tree = Model::new(rt.alloc(), ROOT, 0)?;
-    let mut there = [false; 200];
-    let made = make_all(&mut tree, &mut there)?;
-    let removed = remove_all(&mut tree, &mut there)?;
-    let left = has_names(rt.alloc(), &tree, "ok")?;
-    assert_eq!(rt; (made, removed, left), (true, true, true));
+    assert_eq!(rt;
+        made_and_removed(rt.alloc(), &mut tree)?,
+        [true, true, true]
+    );
     Ok(())
 }
 
@@ -883,11 +921,24 @@ fn takes(
     Ok(taken == want && named)
 }
 
+/// How many of the entries are taken or not, as they should be, before the first that isn't.
+fn followed(
+    alloc: Global,
+    tree: &mut Model,
+    rows: &[(u8, bool, &'static str)],
+) -> Result<usize, AllocError> {
+    for (i, row) in rows.iter().enumerate() {
+        if !takes(alloc, tree, row.0, row.1, row.2)? {
+            return Ok(i);
+        }
+    }
+    Ok(rows.len())
+}
+
 #[test]
 fn a_history_is_followed_where_its_entries_may_come(rt: HostRuntime) -> Result<(), Fail> {
     let mut tree = Model::new(rt.alloc(), ROOT, 0)?;
-    let mut wrong = 0;
-    for (number, want, names) in [
+    let rows = [
         (3, false, "ok"),
         (2, false, "ok"),
         (1, true, "ok f"),
@@ -902,11 +953,7 @@ fn a_history_is_followed_where_its_entries_may_come(rt: HostRuntime) -> Result<(
         (10, true, "ok"),
         (10, false, "ok"),
         (5, true, "ok"),
-    ] {
-        if wrong == 0 && !takes(rt.alloc(), &mut tree, number, want, names)? {
-            wrong = number;
-        }
-    }
-    assert_eq!(rt; wrong, 0);
+    ];
+    assert_eq!(rt; followed(rt.alloc(), &mut tree, &rows)?, 14);
     Ok(())
 }

@@ -342,119 +342,140 @@ fn line_of(alloc: Global, session: u32, call: Call, reply: Reply) -> Result<Vec<
     text(alloc, &history)
 }
 
+// One of the answers below.
+fn answer(alloc: Global, number: u8) -> Result<Reply, AllocError> {
+    match number {
+        1 => Ok(Reply::Done),
+        2 => Ok(Reply::Made { id: 600 }),
+        3 => Ok(Reply::Synced { upto: 3 }),
+        4 => Ok(Reply::Names {
+            names: names(alloc)?,
+        }),
+        5 => Ok(Reply::Info { info: info(alloc)? }),
+        6 => Ok(Reply::Target {
+            bytes: bytes(alloc, b"x y")?,
+        }),
+        7 => Ok(Reply::Attr {
+            kind: 0x5241_5754,
+            bytes: bytes(alloc, b"\x0a\xff")?,
+        }),
+        8 => Ok(Reply::Attr {
+            kind: 0x4c4f_4e20,
+            bytes: bytes(alloc, b"")?,
+        }),
+        9 => Ok(Reply::Attrs {
+            rows: attributes(alloc)?,
+        }),
+        10 => Ok(Reply::Indices {
+            rows: indices(alloc)?,
+        }),
+        _ => Ok(Reply::Rows { rows: rows(alloc)? }),
+    }
+}
+
+fn has_answer(alloc: Global, number: u8, want: &[u8]) -> Result<bool, AllocError> {
+    let reply = answer(alloc, number)?;
+    Ok(line_of(alloc, 1, Call::IndexList, reply)?.as_slice() == want)
+}
+
 #[test]
 fn answers_have_their_words(rt: HostRuntime) -> Result<(), Fail> {
     let alloc = rt.alloc();
-    let cases: [(Reply, &[u8]); 11] = [
-        (Reply::Done, b"7 1 ok\n"),
-        (Reply::Made { id: 600 }, b"7 1 ok\n"),
-        (Reply::Synced { upto: 3 }, b"7 1 ok\n"),
-        (
-            Reply::Names {
-                names: names(alloc)?,
-            },
-            b"7 1 ok 2 a%20b c%3D%25\n",
-        ),
-        (
-            Reply::Info { info: info(alloc)? },
-            b"7 1 ok file 0644 0 -1 5 65536002 65536003 65536004\n",
-        ),
-        (
-            Reply::Target {
-                bytes: bytes(alloc, b"x y")?,
-            },
-            b"7 1 ok x%20y\n",
-        ),
-        (
-            Reply::Attr {
-                kind: 0x5241_5754,
-                bytes: bytes(alloc, b"\x0a\xff")?,
-            },
-            b"7 1 ok RAWT 2 0aff\n",
-        ),
-        (
-            Reply::Attr {
-                kind: 0x4c4f_4e20,
-                bytes: bytes(alloc, b"")?,
-            },
-            b"7 1 ok LON%20 0\n",
-        ),
-        (
-            Reply::Attrs {
-                rows: attributes(alloc)?,
-            },
-            b"7 1 ok 1 RAWT=x\n",
-        ),
-        (
-            Reply::Indices {
-                rows: indices(alloc)?,
-            },
-            b"7 1 ok 1 LLNG=size\n",
-        ),
-        (
-            Reply::Rows { rows: rows(alloc)? },
-            b"7 1 ok 2 -5=/ b=%C3%A9\n",
-        ),
+    let cases: [(u8, &[u8]); 11] = [
+        (1, b"7 1 ok\n"),
+        (2, b"7 1 ok\n"),
+        (3, b"7 1 ok\n"),
+        (4, b"7 1 ok 2 a%20b c%3D%25\n"),
+        (5, b"7 1 ok file 0644 0 -1 5 65536002 65536003 65536004\n"),
+        (6, b"7 1 ok x%20y\n"),
+        (7, b"7 1 ok RAWT 2 0aff\n"),
+        (8, b"7 1 ok LON%20 0\n"),
+        (9, b"7 1 ok 1 RAWT=x\n"),
+        (10, b"7 1 ok 1 LLNG=size\n"),
+        (11, b"7 1 ok 2 -5=/ b=%C3%A9\n"),
     ];
-    for (reply, want) in cases {
-        assert!(rt; line_of(alloc, 1, Call::IndexList, reply)?.as_slice() == want);
+    for (number, want) in cases {
+        assert!(rt; has_answer(alloc, number, want)?);
     }
     Ok(())
+}
+
+// One of the refusals below, or of the two answers behind them.
+fn refusal(number: u8) -> Reply {
+    match number {
+        1 => Reply::NotFound,
+        2 => Reply::NotDir,
+        3 => Reply::NotFile,
+        4 => Reply::NotLink,
+        5 => Reply::NameBad,
+        6 => Reply::TooBig,
+        7 => Reply::Exists,
+        8 => Reply::NotEmpty,
+        9 => Reply::Inside,
+        10 => Reply::NoAttr,
+        11 => Reply::FloatIndex,
+        12 => Reply::IndexCount,
+        13 => Reply::NoIndex,
+        14 => Reply::BuiltIn,
+        15 => Reply::KeyKind,
+        16 => Reply::PastEnd { size: 5 },
+        17 => Reply::Held { session: 3 },
+        18 => Reply::NoSpace { free: 1, needed: 2 },
+        19 => Reply::NoLogRoom { blocks: 7, room: 3 },
+        20 => Reply::DiskFault {
+            before: 0,
+            after: 1,
+            stops: true,
+        },
+        21 => Reply::Stopped {
+            durable: 4,
+            faults: 1,
+        },
+        22 => Reply::Damaged { block: 9 },
+        23 => Reply::Found {
+            id: 1,
+            kind: Kind::Dir,
+        },
+        _ => Reply::Done,
+    }
+}
+
+fn has_refusal(alloc: Global, number: u8, want: &[u8]) -> Result<bool, AllocError> {
+    let reply = refusal(number);
+    Ok(line_of(alloc, 2, Call::IndexList, reply)?.as_slice() == want)
 }
 
 #[test]
 fn refusals_have_their_words(rt: HostRuntime) -> Result<(), Fail> {
     let alloc = rt.alloc();
-    let cases: [(Reply, &[u8]); 24] = [
-        (Reply::NotFound, b"7 2 notfound\n"),
-        (Reply::NotDir, b"7 2 notdir\n"),
-        (Reply::NotFile, b"7 2 notfile\n"),
-        (Reply::NotLink, b"7 2 notlink\n"),
-        (Reply::NameBad, b"7 2 namebad\n"),
-        (Reply::TooBig, b"7 2 toobig\n"),
-        (Reply::Exists, b"7 2 exists\n"),
-        (Reply::NotEmpty, b"7 2 notempty\n"),
-        (Reply::Inside, b"7 2 inside\n"),
-        (Reply::NoAttr, b"7 2 noattr\n"),
-        (Reply::FloatIndex, b"7 2 floatindex\n"),
-        (Reply::IndexCount, b"7 2 indexcount\n"),
-        (Reply::NoIndex, b"7 2 noindex\n"),
-        (Reply::BuiltIn, b"7 2 builtin\n"),
-        (Reply::KeyKind, b"7 2 keykind\n"),
-        (Reply::PastEnd { size: 5 }, b"7 2 pastend 5\n"),
-        (Reply::Held { session: 3 }, b""),
-        (Reply::NoSpace { free: 1, needed: 2 }, b"7 2 nospace 1\n"),
-        (
-            Reply::NoLogRoom { blocks: 7, room: 3 },
-            b"7 2 nologroom 7 3\n",
-        ),
-        (
-            Reply::DiskFault {
-                before: 0,
-                after: 1,
-                stops: true,
-            },
-            b"7 2 diskfault\n",
-        ),
-        (
-            Reply::Stopped {
-                durable: 4,
-                faults: 1,
-            },
-            b"7 2 stopped 4\n",
-        ),
-        (Reply::Damaged { block: 9 }, b"7 2 damaged 9\n"),
-        (
-            Reply::Found {
-                id: 1,
-                kind: Kind::Dir,
-            },
-            b"7 2 ok\n",
-        ),
-        (Reply::Done, b"7 2 ok\n"),
+    let cases: [(u8, &[u8]); 24] = [
+        (1, b"7 2 notfound\n"),
+        (2, b"7 2 notdir\n"),
+        (3, b"7 2 notfile\n"),
+        (4, b"7 2 notlink\n"),
+        (5, b"7 2 namebad\n"),
+        (6, b"7 2 toobig\n"),
+        (7, b"7 2 exists\n"),
+        (8, b"7 2 notempty\n"),
+        (9, b"7 2 inside\n"),
+        (10, b"7 2 noattr\n"),
+        (11, b"7 2 floatindex\n"),
+        (12, b"7 2 indexcount\n"),
+        (13, b"7 2 noindex\n"),
+        (14, b"7 2 builtin\n"),
+        (15, b"7 2 keykind\n"),
+        (16, b"7 2 pastend 5\n"),
+        (17, b""),
+        (18, b"7 2 nospace 1\n"),
+        (19, b"7 2 nologroom 7 3\n"),
+        (20, b"7 2 diskfault\n"),
+        (21, b"7 2 stopped 4\n"),
+        (22, b"7 2 damaged 9\n"),
+        (23, b"7 2 ok\n"),
+        (24, b"7 2 ok\n"),
     ];
-    for (reply, want) in cases {
-        assert!(rt; line_of(alloc, 2, Call::IndexList, reply)?.as_slice() == want);
+    for (number, want) in cases {
+        assert!(rt; has_refusal(alloc, number, want)?);
     }
     Ok(())
 }
@@ -495,25 +516,29 @@ fn push(
 }
 
 // A read and a write by turns of two sessions, a read that failed, and an entry of session 0.
-fn pieces(alloc: Global) -> Result<Vec<Entry>, AllocError> {
-    let mut history = Vec::new(alloc);
-    push(&mut history, 1, hold(false), Reply::Done)?;
-    push(&mut history, 2, hold(true), Reply::Held { session: 1 })?;
-    push(&mut history, 1, release(alloc, true)?, Reply::Done)?;
-    push(&mut history, 2, hold(true), Reply::Done)?;
-    push(&mut history, 2, release(alloc, true)?, Reply::Done)?;
-    push(&mut history, 1, hold(false), Reply::PastEnd { size: 1 })?;
-    push(&mut history, 2, hold(false), Reply::Done)?;
-    push(&mut history, 2, release(alloc, false)?, Reply::Done)?;
+fn push_pieces(history: &mut Vec<Entry>, alloc: Global) -> Result<(), AllocError> {
+    push(history, 1, hold(false), Reply::Done)?;
+    push(history, 2, hold(true), Reply::Held { session: 1 })?;
+    push(history, 1, release(alloc, true)?, Reply::Done)?;
+    push(history, 2, hold(true), Reply::Done)?;
+    push(history, 2, release(alloc, true)?, Reply::Done)?;
+    push(history, 1, hold(false), Reply::PastEnd { size: 1 })?;
+    push(history, 2, hold(false), Reply::Done)?;
+    push(history, 2, release(alloc, false)?, Reply::Done)?;
     push(
-        &mut history,
+        history,
         0,
         Call::Sync,
         Reply::Stopped {
             durable: 0,
             faults: 1,
         },
-    )?;
+    )
+}
+
+fn pieces(alloc: Global) -> Result<Vec<Entry>, AllocError> {
+    let mut history = Vec::new(alloc);
+    push_pieces(&mut history, alloc)?;
     Ok(history)
 }
 
@@ -640,14 +665,27 @@ fn commands_have_their_calls(rt: HostRuntime) -> Result<(), Fail> {
     Ok(())
 }
 
+// What is due: 1 a sync, 2 nothing, 0 anything else.
+fn next_due(alloc: Global, calls: &mut Calls) -> Result<u8, AllocError> {
+    match calls.due(alloc)? {
+        Due::Sync => Ok(1),
+        Due::Nothing => Ok(2),
+        _ => Ok(0),
+    }
+}
+
+// What is due of a sync that was held, and once it is answered.
+fn held_and_answered(alloc: Global, calls: &mut Calls) -> Result<[u8; 2], AllocError> {
+    calls.answered(&Reply::Held { session: 2 });
+    let again = next_due(alloc, calls)?;
+    calls.answered(&Reply::Synced { upto: 1 });
+    Ok([again, next_due(alloc, calls)?])
+}
+
 #[test]
 fn a_held_call_is_due_again(rt: HostRuntime) -> Result<(), Fail> {
-    let alloc = rt.alloc();
     let command = Command::Sync;
     let mut calls = Calls::of(5, &command);
-    calls.answered(&Reply::Held { session: 2 });
-    assert!(rt; matches!(calls.due(alloc)?, Due::Sync));
-    calls.answered(&Reply::Synced { upto: 1 });
-    assert!(rt; matches!(calls.due(alloc)?, Due::Nothing));
+    assert_eq!(rt; held_and_answered(rt.alloc(), &mut calls)?, [1, 2]);
     Ok(())
 }

@@ -11,6 +11,37 @@ fn words(alloc: Global, texts: &[&str]) -> Result<Vec<Argument>, AllocError> {
     Ok(words)
 }
 
+/// What words ask for, with its numbers and its bytes.
+#[derive(Clone, Copy, Debug, PartialEq, Eq)]
+enum Wish<'a> {
+    Usage,
+    Label(&'a [u8]),
+    Make(u64, u32, &'a [u8]),
+    Check,
+    Shell,
+    Soak(u64, u32),
+    Faulty,
+}
+
+fn wish_of<'a>(command: &Command<'a>) -> Wish<'a> {
+    match command {
+        Command::Usage => Wish::Usage,
+        Command::Label(name) => Wish::Label(name),
+        Command::Make(volume) => Wish::Make(volume.blocks, volume.block_size, volume.label),
+        Command::Check => Wish::Check,
+        Command::Shell => Wish::Shell,
+        Command::Soak(workload) => Wish::Soak(workload.seed, workload.count),
+        Command::Faulty(_) => Wish::Faulty,
+    }
+}
+
+/// Do these words ask for this?
+fn asks(alloc: Global, texts: &[&str], want: Wish<'_>) -> Result<bool, AllocError> {
+    let words = words(alloc, texts)?;
+    let command = read_words(alloc, &words)?;
+    Ok(wish_of(&command) == want)
+}
+
 #[test]
 fn every_other_spelling_is_faulty(rt: HostRuntime) -> Result<(), Fail> {
     let alloc = rt.alloc();
@@ -77,9 +108,7 @@ fn every_other_spelling_is_faulty(rt: HostRuntime) -> Result<(), Fail> {
         &["soak", "--seed=1", "--count=2"],
     ];
     for texts in cases {
-        let words = words(alloc, texts)?;
-        let command = read_words(alloc, &words)?;
-        assert!(rt; matches!(command, Command::Faulty(_)));
+        assert!(rt; asks(alloc, texts, Wish::Faulty)?);
     }
     Ok(())
 }
@@ -138,15 +167,7 @@ fn options_stand_in_any_order(rt: HostRuntime) -> Result<(), Fail> {
         (&["mk", "--blocks", "529", "--"], 529, 1024, b"untitled"),
     ];
     for (texts, blocks, size, label) in cases {
-        let words = words(alloc, texts)?;
-        match read_words(alloc, &words)? {
-            Command::Make(volume) => {
-                assert!(rt;
-                    volume.blocks == blocks && volume.block_size == size && volume.label == label
-                );
-            }
-            _ => return Err("the words of `mk`".into()),
-        }
+        assert!(rt; asks(alloc, texts, Wish::Make(blocks, size, label))?);
     }
     Ok(())
 }
@@ -160,20 +181,14 @@ fn a_hyphen_begins_a_name_behind_two(rt: HostRuntime) -> Result<(), Fail> {
         (&["label", "help"], b"help"),
     ];
     for (texts, want) in cases {
-        let words = words(alloc, texts)?;
-        match read_words(alloc, &words)? {
-            Command::Label(name) => assert!(rt; name == want),
-            _ => return Err("the words of `label`".into()),
-        }
+        assert!(rt; asks(alloc, texts, Wish::Label(want))?);
     }
     Ok(())
 }
 
 #[test]
 fn a_check_takes_no_more_words(rt: HostRuntime) -> Result<(), Fail> {
-    let alloc = rt.alloc();
-    let words = words(alloc, &["check"])?;
-    assert!(rt; matches!(read_words(alloc, &words)?, Command::Check));
+    assert!(rt; asks(rt.alloc(), &["check"], Wish::Check)?);
     Ok(())
 }
 
@@ -189,9 +204,7 @@ fn a_shell_has_one_worker(rt: HostRuntime) -> Result<(), Fail> {
         &["sh", "--"],
     ];
     for texts in cases {
-        let words = words(alloc, texts)?;
-        let command = read_words(alloc, &words)?;
-        assert!(rt; matches!(command, Command::Shell));
+        assert!(rt; asks(alloc, texts, Wish::Shell)?);
     }
     Ok(())
 }
@@ -217,21 +230,13 @@ fn a_workload_has_a_seed_and_a_count(rt: HostRuntime) -> Result<(), Fail> {
         (&["soak", "1", "2", "--"], 1, 2),
     ];
     for (texts, seed, count) in cases {
-        let words = words(alloc, texts)?;
-        match read_words(alloc, &words)? {
-            Command::Soak(workload) => {
-                assert!(rt; workload.seed == seed && workload.count == count);
-            }
-            _ => return Err("the words of `soak`".into()),
-        }
+        assert!(rt; asks(alloc, texts, Wish::Soak(seed, count))?);
     }
     Ok(())
 }
 
 #[test]
 fn no_words_ask_for_the_usage(rt: HostRuntime) -> Result<(), Fail> {
-    let alloc = rt.alloc();
-    let words = words(alloc, &[])?;
-    assert!(rt; matches!(read_words(alloc, &words)?, Command::Usage));
+    assert!(rt; asks(rt.alloc(), &[], Wish::Usage)?);
     Ok(())
 }

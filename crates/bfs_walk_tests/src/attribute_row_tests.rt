@@ -1,83 +1,20 @@
 // The address of an attribute directory in a volume of 16 blocks of 1,024 bytes, whose group has 8,192; and such a directory: it is at block 6
 // with two pages of a tree in blocks 7 and 8, and names the attributes `a` at block 9 with its bytes in block 10, and `b` at block 11.
-ghost use Rattle.std.specs.Prelude.{◌≡◌, ◌<◌, IfOk, length, true};
+ghost use Rattle.std.specs.Prelude.{◌≡◌, ◌<◌, IfOk, length};
 ghost use Rattle.bfs_super.specs.Conditions.{IsValid, natural};
 
+use crate::volumes::{
+    Untold, is_meant, over, put_header, put_inode, put_leaf, put_values, run, superblock,
+};
 use bfs_attr_walk::{directory_of, visit_stored};
-use bfs_bytes::{Run, put_i64, put_run, put_u32};
+use bfs_bytes::{Run, put_run};
 use bfs_claims::Claims;
 use bfs_finding::Finding;
 use bfs_inode_walk::VisitFault;
-use bfs_super::{Super, SuperFault};
-use bfs_txn::{BlockFault, Blocks, MemBlocks};
+use bfs_super::Super;
+use bfs_txn::{Blocks, MemBlocks};
 use std::alloc::{AllocError, Global};
 use std::test::Fail;
-
-/// Blocks in memory, which tell nothing of what they hold.
-#[derive(Drop)]
-struct Untold {
-    blocks: MemBlocks,
-}
-
-impl Blocks for Untold {
-    ghost use Rattle.std.specs.Prelude.{None, [], false};
-    ghost use Rattle.bfs_txn.specs.Told.{read_last};
-
-    ghost told = { λ s. None };
-
-    ghost size = { λ s. s.blocks.block_size };
-
-    ghost counts = { λ s. record { faults = 0; stops = 0; stop = None } };
-
-    ghost changed = { λ s k. false };
-
-    ghost pairs = { λ s. 0 };
-
-    ghost last = { λ s. read_last s.blocks };
-
-    ghost Note = { Unit {0} };
-
-    ghost frame = { λ s. record { note = tt; names = []; kept = []; below = None } };
-
-    ghost sized = { λ s. tt };
-
-    fn get(&mut self, block: u64, into: &mut [u8]) -> Result<(), BlockFault> {
-        match self.blocks.get(block, into) {
-            Ok(()) => Ok(()),
-            Err(_) => Err(BlockFault::NoMemory),
-        }
-    }
-}
-
-fn run(start: u16, len: u16) -> Run {
-    Run {
-        group: 0,
-        start,
-        len,
-    }
-}
-
-/// The superblock of the volume.
-fn superblock() -> Result<Super, SuperFault>
-    ensures valid { IfOk result IsValid }
-{
-    let mut sector = [0u8; 512];
-    put_u32(&mut sector, 32, 0x42465331);
-    put_u32(&mut sector, 36, 0x42494745);
-    put_u32(&mut sector, 40, 1024);
-    put_u32(&mut sector, 44, 10);
-    put_u32(&mut sector, 48, 16);
-    put_u32(&mut sector, 64, 1024);
-    put_u32(&mut sector, 68, 0xdd121031);
-    put_u32(&mut sector, 72, 1);
-    put_u32(&mut sector, 76, 13);
-    put_u32(&mut sector, 80, 1);
-    put_run(&mut sector, 88, run(2, 2));
-    put_u32(&mut sector, 112, 0x15b6830e);
-    put_run(&mut sector, 116, run(4, 1));
-    put_run(&mut sector, 124, run(5, 1));
-    Super::parse(&sector)
-}
 
 /// An inode's bytes with this address.
 fn inode_with(group: i32, start: u16, len: u16) -> [u8; 1024]
@@ -112,7 +49,7 @@ fn told_by(sup: Super, group: i32, start: u16, len: u16) -> Seen
 fn an_address_is_zero_or_names_a_block_or_is_wrong_in_one_number(
     rt: HostRuntime,
 ) -> Result<(), Fail> {
-    let sup = superblock()?;
+    let sup = superblock(16, 1, [run(2, 2), run(4, 1), run(5, 1)])?;
     let table: [(i32, u16, u16, Seen); 6] = [
         (0, 0, 0, Seen::Nothing),
         (0, 7, 1, Seen::At(7)),
@@ -127,62 +64,6 @@ fn an_address_is_zero_or_names_a_block_or_is_wrong_in_one_number(
     Ok(())
 }
 
-/// Writes an inode with this mode, whose stream is one run of so many bytes.
-fn put_inode(bytes: &mut [u8], block: u16, mode: u32, blocks: Run, size: i64)
-    requires size { length bytes.old ≡ 16384 }
-    requires inside { block < 16 }
-    ensures { length bytes.new ≡ 16384 }
-{
-    let at = 1024 * usize::from(block);
-    put_u32(bytes, at, 0x3bbe0ad9);
-    put_run(bytes, at + 4, run(block, 1));
-    put_u32(bytes, at + 20, mode);
-    put_u32(bytes, at + 24, 1);
-    put_u32(bytes, at + 64, 1024);
-    put_run(bytes, at + 72, blocks);
-    put_i64(bytes, at + 168, size);
-    put_i64(bytes, at + 208, size);
-}
-
-/// Writes the header of the directory's tree.
-fn put_header(bytes: &mut [u8])
-    requires size { length bytes.old ≡ 16384 }
-    ensures { length bytes.new ≡ 16384 }
-{
-    put_u32(bytes, 7168, 0x69f6c2e8);
-    put_u32(bytes, 7172, 1024);
-    put_u32(bytes, 7176, 1);
-    put_i64(bytes, 7184, 1024);
-    put_i64(bytes, 7192, -1);
-    put_i64(bytes, 7200, 2048);
-}
-
-/// Writes the names of the only leaf: `.`, `..`, `a` and `b`.
-fn put_leaf(bytes: &mut [u8])
-    requires size { length bytes.old ≡ 16384 }
-    ensures { length bytes.new ≡ 16384 }
-{
-    put_i64(bytes, 8192, -1);
-    put_i64(bytes, 8200, -1);
-    put_i64(bytes, 8208, -1);
-    put_u32(bytes, 8216, 0x50004);
-    put_u32(bytes, 8220, 0x612e2e2e);
-    put_u32(bytes, 8224, 0x62);
-    put_u32(bytes, 8232, 0x30001);
-    put_u32(bytes, 8236, 0x50004);
-}
-
-/// Writes the values of the four rows, of which `b` has this one.
-fn put_values(bytes: &mut [u8], other: i64)
-    requires size { length bytes.old ≡ 16384 }
-    ensures { length bytes.new ≡ 16384 }
-{
-    put_i64(bytes, 8240, 6);
-    put_i64(bytes, 8248, 4);
-    put_i64(bytes, 8256, 9);
-    put_i64(bytes, 8264, other);
-}
-
 /// Writes the directory and its attributes, where the row `b` has this value, and the bytes of the inode at block 11 are in this block.
 fn put_all(bytes: &mut [u8], other: i64, first: u16)
     requires size { length bytes.old ≡ 16384 }
@@ -194,14 +75,6 @@ fn put_all(bytes: &mut [u8], other: i64, first: u16)
     put_header(bytes);
     put_leaf(bytes);
     put_values(bytes, other);
-}
-
-/// Blocks of 1,024 bytes over these.
-fn over(bytes: Vec<u8>) -> MemBlocks
-    requires { length bytes.items ≡ 16384 }
-    ensures { result.block_size ≡ 1024 }
-{
-    MemBlocks::new(bytes, 1024)
 }
 
 /// The blocks of the volume.
@@ -255,20 +128,9 @@ fn visit(alloc: Global, sup: &Super, under: &mut Untold, taken: u64) -> Result<S
     }
 }
 
-/// Has the volume the blocks that are meant?
-fn is_meant(sup: Super) -> bool
-    ensures size { result ≡ true → sup.block_size ≡ 1024 }
-    ensures blocks { result ≡ true → natural sup.num_blocks ≡ 16 }
-{
-    if sup.block_size != 1024 || sup.num_blocks != 16 {
-        return false;
-    }
-    true
-}
-
 /// Goes over it where the row `b` has this value, the bytes of the inode at block 11 are in this block, and this one is claimed at first.
 fn visit_with(alloc: Global, other: i64, first: u16, taken: u64) -> Result<Stored, Fail> {
-    let sup = superblock()?;
+    let sup = superblock(16, 1, [run(2, 2), run(4, 1), run(5, 1)])?;
     let meant = is_meant(sup);
     if !meant || taken >= 16 {
         return Ok(Stored::Other);

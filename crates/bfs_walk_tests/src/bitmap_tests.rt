@@ -1,39 +1,18 @@
 // Bitmaps of a volume of 20,480 blocks of 1,024 bytes, of which some are claimed.
-ghost use Rattle.std.specs.Prelude.{◌≡◌, ◌<◌, ◌≤◌, IfOk, length};
+ghost use Rattle.std.specs.Prelude.{◌≡◌, ◌<◌, IfOk, length};
 ghost use Rattle.bfs_super.specs.Conditions.{IsValid, natural};
 
+use crate::volumes::superblock;
 use bfs_bitmap_check::{BitFault, check_bitmap};
-use bfs_bytes::{Run, put_run, put_u32};
+use bfs_bytes::Run;
 use bfs_claims::Claims;
-use bfs_super::{Super, SuperFault};
+use bfs_super::Super;
 use bfs_txn::MemBlocks;
 use std::alloc::{AllocError, Global};
 use std::test::Fail;
 
 fn run(group: i32, start: u16, len: u16) -> Run {
     Run { group, start, len }
-}
-
-/// The superblock of the volume.
-fn superblock() -> Result<Super, SuperFault>
-    ensures valid { IfOk result IsValid }
-{
-    let mut sector = [0u8; 512];
-    put_u32(&mut sector, 32, 0x42465331);
-    put_u32(&mut sector, 36, 0x42494745);
-    put_u32(&mut sector, 40, 1024);
-    put_u32(&mut sector, 44, 10);
-    put_u32(&mut sector, 48, 20480);
-    put_u32(&mut sector, 64, 1024);
-    put_u32(&mut sector, 68, 0xdd121031);
-    put_u32(&mut sector, 72, 1);
-    put_u32(&mut sector, 76, 13);
-    put_u32(&mut sector, 80, 3);
-    put_run(&mut sector, 88, run(0, 4, 512));
-    put_u32(&mut sector, 112, 0x15b6830e);
-    put_run(&mut sector, 116, run(0, 600, 1));
-    put_run(&mut sector, 124, run(0, 601, 1));
-    Super::parse(&sector)
 }
 
 /// Four blocks, of which the last three are a bitmap that marks the blocks 0 to 15, 8,192 and 20,479, and bits past the volume's end.
@@ -91,7 +70,7 @@ fn found(
 #[test]
 fn the_first_bit_that_differs_is_told_with_its_way(rt: HostRuntime) -> Result<(), Fail> {
     let alloc = rt.alloc();
-    let sup = superblock()?;
+    let sup = superblock(20480, 3, [run(0, 4, 512), run(0, 600, 1), run(0, 601, 1)])?;
     assert_eq!(rt; sup.block_size, 1024);
     assert_eq!(rt; sup.num_blocks, 20480);
     let claims = claims(alloc)?;

@@ -1,84 +1,19 @@
 // A volume of 20 blocks of 1,024 bytes, whole and broken. The index directory is at block 5 with two pages of a tree in blocks 6 and 7,
 // which names the indices at blocks 8, 9 and 10; these have their pages in blocks 11 to 16.
-ghost use Rattle.std.specs.Prelude.{◌≡◌, ◌≤◌, ◌<◌, ◌+◌, IfOk, length, true};
+ghost use Rattle.std.specs.Prelude.{◌≡◌, ◌<◌, ◌+◌, IfOk, length, true};
 ghost use Rattle.bfs_super.specs.Conditions.{IsValid, natural};
 
+use crate::volumes::{Untold, run, superblock};
 use bfs_bytes::{Run, put_bytes, put_i64, put_run, put_u16, put_u32};
 use bfs_claims::Claims;
 use bfs_finding::{Finding, InodePart, PagePart};
 use bfs_index_walk::{FoundIndex, find_index_owner, visit_indices};
 use bfs_inode_walk::VisitFault;
 use bfs_node::KeyKind;
-use bfs_super::{Super, SuperFault};
-use bfs_txn::{BlockFault, Blocks, MemBlocks};
+use bfs_super::Super;
+use bfs_txn::{Blocks, MemBlocks};
 use std::alloc::{AllocError, Global};
 use std::test::Fail;
-
-/// Blocks in memory, which tell nothing of what they hold.
-#[derive(Drop)]
-struct Untold {
-    blocks: MemBlocks,
-}
-
-impl Blocks for Untold {
-    ghost use Rattle.std.specs.Prelude.{None, [], false};
-    ghost use Rattle.bfs_txn.specs.Told.{read_last};
-
-    ghost told = { λ s. None };
-
-    ghost size = { λ s. s.blocks.block_size };
-
-    ghost counts = { λ s. record { faults = 0; stops = 0; stop = None } };
-
-    ghost changed = { λ s k. false };
-
-    ghost pairs = { λ s. 0 };
-
-    ghost last = { λ s. read_last s.blocks };
-
-    ghost Note = { Unit {0} };
-
-    ghost frame = { λ s. record { note = tt; names = []; kept = []; below = None } };
-
-    ghost sized = { λ s. tt };
-
-    fn get(&mut self, block: u64, into: &mut [u8]) -> Result<(), BlockFault> {
-        match self.blocks.get(block, into) {
-            Ok(()) => Ok(()),
-            Err(_) => Err(BlockFault::NoMemory),
-        }
-    }
-}
-
-fn run(start: u16, len: u16) -> Run {
-    Run {
-        group: 0,
-        start,
-        len,
-    }
-}
-
-/// The superblock of the volume, with this run of its index directory.
-fn superblock(indices: Run) -> Result<Super, SuperFault>
-    ensures valid { IfOk result IsValid }
-{
-    let mut sector = [0u8; 512];
-    put_u32(&mut sector, 32, 0x42465331);
-    put_u32(&mut sector, 36, 0x42494745);
-    put_u32(&mut sector, 40, 1024);
-    put_u32(&mut sector, 44, 10);
-    put_u32(&mut sector, 48, 20);
-    put_u32(&mut sector, 64, 1024);
-    put_u32(&mut sector, 68, 0xdd121031);
-    put_u32(&mut sector, 72, 1);
-    put_u32(&mut sector, 76, 13);
-    put_u32(&mut sector, 80, 1);
-    put_run(&mut sector, 88, run(2, 2));
-    put_u32(&mut sector, 112, 0x15b6830e);
-    put_run(&mut sector, 116, run(4, 1));
-    put_run(&mut sector, 124, indices);
-    Super::parse(&sector)
-}
 
 /// Writes an inode that is marked as a part of the index, whose stream has the two blocks from this one on.
 fn put_inode(bytes: &mut [u8], block: u16, pages: u16)
@@ -284,7 +219,7 @@ fn is_meant(sup: Super) -> bool
 
 /// Goes over them in the volume with this run of the index directory, where another number stands in the eight bytes from a place on.
 fn walk_with(alloc: Global, indices: Run, at: usize, number: i64) -> Result<Seen, Fail> {
-    let sup = superblock(indices)?;
+    let sup = superblock(20, 1, [run(2, 2), run(4, 1), indices])?;
     let meant = is_meant(sup);
     if !meant {
         return Ok(Seen::Other);
@@ -297,7 +232,7 @@ fn walk_with(alloc: Global, indices: Run, at: usize, number: i64) -> Result<Seen
 
 /// Finds which of them has a block in the whole volume, with this run of the index directory.
 fn owner_with(alloc: Global, indices: Run, block: u64) -> Result<Seen, Fail> {
-    let sup = superblock(indices)?;
+    let sup = superblock(20, 1, [run(2, 2), run(4, 1), indices])?;
     let meant = is_meant(sup);
     if !meant {
         return Ok(Seen::Other);

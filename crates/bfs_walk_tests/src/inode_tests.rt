@@ -2,12 +2,13 @@
 ghost use Rattle.std.specs.Prelude.{◌≡◌, ◌<◌, ◌≤◌, ◌+◌, IfOk, length};
 ghost use Rattle.bfs_super.specs.Conditions.{IsValid, natural};
 
-use bfs_bytes::{Run, put_i64, put_run, put_u32};
+use crate::volumes::{over, run, superblock};
+use bfs_bytes::{put_i64, put_run, put_u32};
 use bfs_claims::Claims;
 use bfs_finding::{Finding, InodePart};
 use bfs_inode_walk::{VisitFault, visit_inode};
 use bfs_node_check::Role;
-use bfs_super::{Super, SuperFault};
+use bfs_super::Super;
 use bfs_txn::{BlockFault, Blocks, MemBlocks};
 use std::alloc::{AllocError, Global};
 use std::test::Fail;
@@ -59,36 +60,6 @@ impl Blocks for Failing {
     }
 }
 
-fn run(start: u16, len: u16) -> Run {
-    Run {
-        group: 0,
-        start,
-        len,
-    }
-}
-
-/// The superblock of the volume.
-fn superblock() -> Result<Super, SuperFault>
-    ensures valid { IfOk result IsValid }
-{
-    let mut sector = [0u8; 512];
-    put_u32(&mut sector, 32, 0x42465331);
-    put_u32(&mut sector, 36, 0x42494745);
-    put_u32(&mut sector, 40, 1024);
-    put_u32(&mut sector, 44, 10);
-    put_u32(&mut sector, 48, 16);
-    put_u32(&mut sector, 64, 1024);
-    put_u32(&mut sector, 68, 0xdd121031);
-    put_u32(&mut sector, 72, 1);
-    put_u32(&mut sector, 76, 13);
-    put_u32(&mut sector, 80, 1);
-    put_run(&mut sector, 88, run(2, 2));
-    put_u32(&mut sector, 112, 0x15b6830e);
-    put_run(&mut sector, 116, run(4, 1));
-    put_run(&mut sector, 124, run(5, 1));
-    Super::parse(&sector)
-}
-
 /// Writes the inode and another number in its block at a place.
 fn put_inode(bytes: &mut [u8], at: usize, other: u32)
     requires size { length bytes.old ≡ 16384 }
@@ -105,14 +76,6 @@ fn put_inode(bytes: &mut [u8], at: usize, other: u32)
     put_i64(bytes, inode + 168, 2048);
     put_i64(bytes, inode + 208, 1500);
     put_u32(bytes, inode + at, other);
-}
-
-/// Blocks of 1,024 bytes over these.
-fn over(bytes: Vec<u8>) -> MemBlocks
-    requires { length bytes.items ≡ 16384 }
-    ensures { result.block_size ≡ 1024 }
-{
-    MemBlocks::new(bytes, 1024)
 }
 
 /// The blocks of the volume, with another number in the inode's block at a place.
@@ -190,7 +153,7 @@ fn visit_with(
     taken: u64,
     bad: u64,
 ) -> Result<Seen, Fail> {
-    let sup = superblock()?;
+    let sup = superblock(16, 1, [run(2, 2), run(4, 1), run(5, 1)])?;
     if sup.block_size != 1024 || sup.num_blocks != 16 || at > 1020 {
         return Ok(Seen::Other);
     }

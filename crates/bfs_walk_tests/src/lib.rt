@@ -22,6 +22,8 @@ mod name_tests;
 #[cfg(test)]
 mod node_tests;
 #[cfg(test)]
+mod pages;
+#[cfg(test)]
 mod plain_tests;
 #[cfg(test)]
 mod stream_tests;
@@ -31,3 +33,5 @@ mod super_tests;
 mod tree_tests;
 #[cfg(test)]
 mod value_tests;
+#[cfg(test)]
+mod volumes;

@@ -1,9 +1,10 @@
 // The pages of a small tree in memory, as they should be and with one thing broken.
 ghost use Rattle.std.specs.Prelude.{◌≡◌, IfOk, length};
 
+use crate::pages::page_of;
 use bfs_bytes::{put_bytes, put_i64, put_u16};
 use bfs_finding::PagePart;
-use bfs_node::{KeyKind, blank, has_room, insert_row, set_overflow_link};
+use bfs_node::KeyKind;
 use bfs_pages::{MemPages, is_child};
 use bfs_txn::{Pages, Steps};
 use bfs_walk::{Frame, TreeWrong, WalkFault, enter, look_at_interior, look_at_leaf, step};
@@ -11,19 +12,6 @@ use std::alloc::{AllocError, Global};
 use std::marker::Brand;
 use std::sync::ledger::{Blank, Ledger};
 use std::test::Fail;
-
-/// A page with one row, whose key is `m`.
-fn page_of(value: i64, overflow: i64) -> [u8; 1024]
-    ensures { length result ≡ 1024 }
-{
-    let mut page = [0u8; 1024];
-    blank(&mut page);
-    if has_room(&page, b"m") {
-        insert_row(&mut page, 0, b"m", value);
-    }
-    set_overflow_link(&mut page, overflow);
-    page
-}
 
 /// Four pages: room for a header, an interior page at 1,024, and its two children, which are leaves.
 fn tree(alloc: Global, size: usize) -> Result<Vec<u8>, AllocError>

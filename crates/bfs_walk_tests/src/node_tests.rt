@@ -1,83 +1,18 @@
 // A volume of 16 blocks of 1,024 bytes, whole and broken: the root is at block 4 with two pages of a tree in blocks 6 and 7, which names
 // the files `a` and `b` at blocks 8 and 9, each with a stream of a block or with none.
-ghost use Rattle.std.specs.Prelude.{◌≡◌, ◌<◌, IfOk, length, true};
+ghost use Rattle.std.specs.Prelude.{◌≡◌, ◌<◌, IfOk, length};
 ghost use Rattle.bfs_super.specs.Conditions.{IsValid, natural, block_of_run};
 
+use crate::volumes::{Untold, is_meant, over, run, superblock};
 use bfs_bytes::{Run, put_i64, put_run, put_u32};
 use bfs_claims::Claims;
 use bfs_finding::{Finding, InodePart};
 use bfs_inode_walk::VisitFault;
 use bfs_nodes_walk::walk_nodes;
-use bfs_super::{Super, SuperFault};
-use bfs_txn::{BlockFault, Blocks, MemBlocks};
+use bfs_super::Super;
+use bfs_txn::{Blocks, MemBlocks};
 use std::alloc::{AllocError, Global};
 use std::test::Fail;
-
-/// Blocks in memory, which tell nothing of what they hold.
-#[derive(Drop)]
-struct Untold {
-    blocks: MemBlocks,
-}
-
-impl Blocks for Untold {
-    ghost use Rattle.std.specs.Prelude.{None, [], false};
-    ghost use Rattle.bfs_txn.specs.Told.{read_last};
-
-    ghost told = { λ s. None };
-
-    ghost size = { λ s. s.blocks.block_size };
-
-    ghost counts = { λ s. record { faults = 0; stops = 0; stop = None } };
-
-    ghost changed = { λ s k. false };
-
-    ghost pairs = { λ s. 0 };
-
-    ghost last = { λ s. read_last s.blocks };
-
-    ghost Note = { Unit {0} };
-
-    ghost frame = { λ s. record { note = tt; names = []; kept = []; below = None } };
-
-    ghost sized = { λ s. tt };
-
-    fn get(&mut self, block: u64, into: &mut [u8]) -> Result<(), BlockFault> {
-        match self.blocks.get(block, into) {
-            Ok(()) => Ok(()),
-            Err(_) => Err(BlockFault::NoMemory),
-        }
-    }
-}
-
-fn run(start: u16, len: u16) -> Run {
-    Run {
-        group: 0,
-        start,
-        len,
-    }
-}
-
-/// The superblock of the volume.
-fn superblock() -> Result<Super, SuperFault>
-    ensures valid { IfOk result IsValid }
-{
-    let mut sector = [0u8; 512];
-    put_u32(&mut sector, 32, 0x42465331);
-    put_u32(&mut sector, 36, 0x42494745);
-    put_u32(&mut sector, 40, 1024);
-    put_u32(&mut sector, 44, 10);
-    put_u32(&mut sector, 48, 16);
-    put_u32(&mut sector, 64, 1024);
-    put_u32(&mut sector, 68, 0xdd121031);
-    put_u32(&mut sector, 72, 1);
-    put_u32(&mut sector, 76, 13);
-    put_u32(&mut sector, 80, 1);
-    put_run(&mut sector, 88, run(2, 2));
-    put_u32(&mut sector, 112, 0x15b6830e);
-    put_run(&mut sector, 116, run(4, 1));
-    put_run(&mut sector, 124, run(5, 1));
-    Super::parse(&sector)
-}
 
 /// Writes an inode with this mode, whose parent is the root.
 fn put_inode(bytes: &mut [u8], block: u16, mode: u32)
@@ -175,14 +110,6 @@ fn put_all(bytes: &mut [u8], case: Case)
     put_file(bytes, 9, 0x62, case.second);
 }
 
-/// Blocks of 1,024 bytes over these.
-fn over(bytes: Vec<u8>) -> MemBlocks
-    requires { length bytes.items ≡ 16384 }
-    ensures { result.block_size ≡ 1024 }
-{
-    MemBlocks::new(bytes, 1024)
-}
-
 /// The blocks of a volume.
 fn volume(alloc: Global, size: usize, case: Case) -> Result<MemBlocks, AllocError>
     requires size { size ≡ 16384 }
@@ -238,20 +165,9 @@ fn walk(alloc: Global, sup: &Super, under: &mut Untold, root: u64) -> Result<See
     }
 }
 
-/// Has the volume the blocks that are meant?
-fn is_meant(sup: Super) -> bool
-    ensures size { result ≡ true → sup.block_size ≡ 1024 }
-    ensures blocks { result ≡ true → natural sup.num_blocks ≡ 16 }
-{
-    if sup.block_size != 1024 || sup.num_blocks != 16 {
-        return false;
-    }
-    true
-}
-
 /// Goes over the nodes of such a volume.
 fn walk_with(alloc: Global, case: Case) -> Result<Seen, Fail> {
-    let sup = superblock()?;
+    let sup = superblock(16, 1, [run(2, 2), run(4, 1), run(5, 1)])?;
     let meant = is_meant(sup);
     if !meant {
         return Ok(Seen::Other);

@@ -2,37 +2,16 @@
 ghost use Rattle.std.specs.Prelude.{◌≡◌, ◌<◌, ◌≤◌, ◌+◌, ◌*◌, IfOk, length};
 ghost use Rattle.bfs_super.specs.Conditions.{IsValid, natural};
 
-use bfs_bytes::{Run, put_i64, put_run, put_u32};
+use crate::volumes::superblock;
+use bfs_bytes::{Run, put_i64, put_run};
 use bfs_stream_check::{ReadFault, read_stream};
-use bfs_super::{Super, SuperFault};
+use bfs_super::Super;
 use bfs_txn::MemBlocks;
 use std::alloc::{AllocError, Global};
 use std::test::Fail;
 
 fn run(group: i32, start: u16, len: u16) -> Run {
     Run { group, start, len }
-}
-
-/// The superblock of the volume.
-fn superblock() -> Result<Super, SuperFault>
-    ensures valid { IfOk result IsValid }
-{
-    let mut sector = [0u8; 512];
-    put_u32(&mut sector, 32, 0x42465331);
-    put_u32(&mut sector, 36, 0x42494745);
-    put_u32(&mut sector, 40, 1024);
-    put_u32(&mut sector, 44, 10);
-    put_u32(&mut sector, 48, 20480);
-    put_u32(&mut sector, 64, 1024);
-    put_u32(&mut sector, 68, 0xdd121031);
-    put_u32(&mut sector, 72, 1);
-    put_u32(&mut sector, 76, 13);
-    put_u32(&mut sector, 80, 3);
-    put_run(&mut sector, 88, run(0, 4, 512));
-    put_u32(&mut sector, 112, 0x15b6830e);
-    put_run(&mut sector, 116, run(0, 600, 1));
-    put_run(&mut sector, 124, run(0, 601, 1));
-    Super::parse(&sector)
 }
 
 /// Writes so many runs of one block.
@@ -157,7 +136,7 @@ fn runs_of(alloc: Global, sup: &Super, bytes: Vec<u8>) -> Option<(usize, usize, 
 #[test]
 fn a_whole_stream_is_read_with_its_arrays(rt: HostRuntime) -> Result<(), Fail> {
     let alloc = rt.alloc();
-    let sup = superblock()?;
+    let sup = superblock(20480, 3, [run(0, 4, 512), run(0, 600, 1), run(0, 601, 1)])?;
     assert_eq!(rt; sup.block_size, 1024);
     assert_eq!(rt; sup.num_blocks, 20480);
     let bytes = stream(alloc, 14336)?;
@@ -177,7 +156,7 @@ fn a_whole_stream_is_read_with_its_arrays(rt: HostRuntime) -> Result<(), Fail> {
 #[test]
 fn each_run_that_breaks_the_format_is_found(rt: HostRuntime) -> Result<(), Fail> {
     let alloc = rt.alloc();
-    let sup = superblock()?;
+    let sup = superblock(20480, 3, [run(0, 4, 512), run(0, 600, 1), run(0, 601, 1)])?;
     assert_eq!(rt; sup.block_size, 1024);
     assert_eq!(rt; sup.num_blocks, 20480);
     let rows: [(usize, Run, i64, i64); 10] = [
@@ -206,7 +185,7 @@ fn each_run_that_breaks_the_format_is_found(rt: HostRuntime) -> Result<(), Fail>
 #[test]
 fn each_range_and_the_size_are_held_against_the_runs(rt: HostRuntime) -> Result<(), Fail> {
     let alloc = rt.alloc();
-    let sup = superblock()?;
+    let sup = superblock(20480, 3, [run(0, 4, 512), run(0, 600, 1), run(0, 601, 1)])?;
     assert_eq!(rt; sup.block_size, 1024);
     assert_eq!(rt; sup.num_blocks, 20480);
     let rows: [(usize, i64, i64); 5] = [

@@ -1,0 +1,69 @@
+// The ports in memory, and the system's clock.
+use bfs_ports::{Clock, Fixed, Mem, Sink, Source, SystemClock};
+use std::alloc::{AllocError, Global};
+use std::test::Fail;
+
+fn bytes(alloc: Global, text: &[u8]) -> Result<Vec<u8>, AllocError> {
+    text.to_vec(alloc)
+}
+
+#[test]
+fn a_source_gives_its_bytes_and_then_ends(rt: HostRuntime) -> Result<(), Fail> {
+    let mut source = Mem::source(rt.alloc(), bytes(rt.alloc(), b"abcdefg")?);
+    let mut into = [0u8; 4];
+    assert_eq!(rt; source.take(&mut into), Ok(4));
+    assert!(rt; into == *b"abcd");
+    assert_eq!(rt; source.take(&mut into), Ok(3));
+    assert!(rt; into == *b"efgd");
+    assert_eq!(rt; source.take(&mut into), Ok(0));
+    Ok(())
+}
+
+#[test]
+fn a_sink_takes_as_much_as_it_has_room_for_and_then_nothing(rt: HostRuntime) -> Result<(), Fail> {
+    let mut sink = Mem::full_sink(rt.alloc(), 5);
+    assert_eq!(rt; sink.put(b"abc"), Ok(3));
+    assert_eq!(rt; sink.put(b"defg"), Ok(2));
+    assert_eq!(rt; sink.put(b"fg"), Ok(0));
+    assert!(rt; sink.bytes() == b"abcde".as_slice());
+    Ok(())
+}
+
+#[test]
+fn a_sink_fails_exactly_its_planned_calls(rt: HostRuntime) -> Result<(), Fail> {
+    let alloc = rt.alloc();
+    let plan = vec![in alloc; 2u64, 4]?;
+    let mut sink = Mem::failing_sink(alloc, plan);
+    for call in 1..6u64 {
+        assert_eq!(rt; sink.put(b"ab").is_ok(), call != 2 && call != 4);
+    }
+    assert!(rt; sink.bytes() == b"ababab".as_slice());
+    Ok(())
+}
+
+#[test]
+fn a_source_fails_exactly_its_planned_calls(rt: HostRuntime) -> Result<(), Fail> {
+    let alloc = rt.alloc();
+    let plan = vec![in alloc; 1u64, 3]?;
+    let mut source = Mem::failing_source(bytes(alloc, b"abcd")?, plan);
+    let mut into = [0u8; 2];
+    for call in 1..5u64 {
+        assert_eq!(rt; source.take(&mut into).is_ok(), call != 1 && call != 3);
+    }
+    assert!(rt; into == *b"cd");
+    Ok(())
+}
+
+#[test]
+fn a_fixed_clock_stands_below_its_end(rt: HostRuntime) -> Result<(), Fail> {
+    assert_eq!(rt; Fixed::clock(1000).seconds(), 1000);
+    assert_eq!(rt; Fixed::clock(1 << 40).seconds(), (1 << 40) - 1);
+    Ok(())
+}
+
+#[test]
+fn the_clock_of_the_system_stands_after_2026_began(rt: HostRuntime) -> Result<(), Fail> {
+    let seconds = SystemClock::over(&rt).seconds();
+    assert!(rt; seconds > 1_767_225_600);
+    Ok(())
+}

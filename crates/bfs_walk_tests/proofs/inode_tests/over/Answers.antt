@@ -1,4 +1,0 @@
-use Rattle.bfs_walk_tests.proofs.inode_tests.over.Goals as goal
-
-pub new-requires : goal.new-requires
-new-requires c = (16, c.requires)

@@ -9,7 +9,7 @@ root=$(dirname "$(dirname "$(readlink -f "$0")")")
 work=$(mktemp -d -p /dev/shm)
 trap 'rm -rf "$work"' EXIT
 "$root/bfs" "$work/none.img" >/dev/null
-program=${BFS_PROGRAM:-$root/crates/bfs_tool/out/bfs_tool}
+program=${BFS_PROGRAM:-$root/crates/bfs_main/out/bfs_main}
 [ $# -gt 0 ] || set -- 1000 10000 100000
 
 for files in "$@"; do

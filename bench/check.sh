@@ -7,7 +7,7 @@ root=$(dirname "$(dirname "$(readlink -f "$0")")")
 work=$(mktemp -d)
 trap 'rm -rf "$work"' EXIT
 "$root/bfs" "$work/none.img" >/dev/null
-program=$root/crates/bfs_tool/out/bfs_tool
+program=$root/crates/bfs_main/out/bfs_main
 [ $# -gt 0 ] || set -- 300 10000 100000
 
 # The median time and the peak memory of 5 runs of a command, and how many calls of the system it makes.

@@ -18,7 +18,7 @@ root = sys.argv[1]
 RUNS = 15
 SIZES = [(4096, "4 MiB"), (65536, "64 MiB"), (262144, "256 MiB"), (4194304, "4 GiB")]  # blocks of 1,024 bytes
 TOOLS = [
-    ("bfs mk", [f"{root}/crates/bfs_tool/out/bfs_tool", "IMAGE", "mk", "--blocks", "BLOCKS"]),
+    ("bfs mk", [f"{root}/crates/bfs_main/out/bfs_main", "IMAGE", "mk", "--blocks", "BLOCKS"]),
     ("mke2fs -t ext2", ["mke2fs", "-q", "-F", "-t", "ext2", "-b", "1024", "-E", "nodiscard", "IMAGE"]),
     ("mke2fs -t ext4", ["mke2fs", "-q", "-F", "-t", "ext4", "-b", "1024", "-E", "nodiscard", "IMAGE"]),
     ("mformat", ["mformat", "-i", "IMAGE", "-T", "SECTORS", "-h", "64", "-s", "32", "::"]),

@@ -8,7 +8,7 @@ root=$(dirname "$(dirname "$(readlink -f "$0")")")
 work=$(mktemp -d)
 trap 'rm -rf "$work"' EXIT
 "$root/bfs" "$work/none.img" >/dev/null
-program=${BFS_PROGRAM:-$root/crates/bfs_tool/out/bfs_tool}
+program=${BFS_PROGRAM:-$root/crates/bfs_main/out/bfs_main}
 [ $# -gt 0 ] || set -- 300 2000 10000 100000
 exec python3 - "$program" "$work" "$@" <<'END'
 import os

@@ -4,20 +4,23 @@
 . "$(dirname "$(readlink -f "$0")")/checks.sh"
 
 "$root/bfs" "$work/none.img" >/dev/null
-program=$root/crates/bfs_tool/out/bfs_tool
+program=$root/crates/bfs_main/out/bfs_main
 image=$work/volume.img
 
-# Runs the program with the descriptors closed that the first word names.
+script=$work/script
+printf '1 mkdir /a\n1 make /a/b\n1 size /a/b 3\n1 write /a/b 0 :abc\n1 sync\n' >"$script"
+
+# Runs the program with the descriptors closed that the first word names; else its standard input is a script.
 with_closed() {
     closed=$1
     shift
     case $closed in
     0) "$program" "$@" <&- >"$work/out" 2>"$work/err" ;;
-    1) "$program" "$@" >&- 2>"$work/err" ;;
-    2) "$program" "$@" >"$work/out" 2>&- ;;
+    1) "$program" "$@" <"$script" >&- 2>"$work/err" ;;
+    2) "$program" "$@" <"$script" >"$work/out" 2>&- ;;
     01) "$program" "$@" <&- >&- 2>"$work/err" ;;
     02) "$program" "$@" <&- >"$work/out" 2>&- ;;
-    12) "$program" "$@" >&- 2>&- ;;
+    12) "$program" "$@" <"$script" >&- 2>&- ;;
     012) "$program" "$@" <&- >&- 2>&- ;;
     esac
 }
@@ -46,6 +49,25 @@ labelled_alike() {
     [ $? -eq 0 ] && cmp -s "$image" "$work/plain.img"
 }
 
+# A script or a workload leaves the volume as it does with nothing closed, within one second.
+run_alike() {
+    closed=$1
+    want=$2
+    shift 2
+    for _ in 1 2 3 4 5; do
+        rm -f "$image"
+        truncate -s 4M "$image"
+        before=$(date +%s)
+        "$program" "$image" mk --blocks 4096 >/dev/null
+        cp "$image" "$work/plain.img"
+        "$program" "$work/plain.img" "$@" <"$script" >/dev/null
+        with_closed "$closed" "$image" "$@"
+        status=$?
+        [ "$(date +%s)" = "$before" ] && break
+    done
+    cmp -s "$image" "$work/plain.img" && [ "$status" -eq "$want" ]
+}
+
 untouched() {
     cp "$work/plain.img" "$image"
     with_closed "$@"
@@ -64,5 +86,15 @@ for closed in 0 1 2 01 02 12 012; do
     check "status $want" test "$status" -eq "$want"
     check "faulty words with $closed closed" untouched "$closed" "$image" label
     check "status 2" test "$status" -eq 2
+    check "check with $closed closed" untouched "$closed" "$image" check
+    check "status $want" test "$status" -eq "$want"
+    case $closed in
+    *0*)
+        check "sh with $closed closed" untouched "$closed" "$image" sh
+        check "status 5" test "$status" -eq 5
+        ;;
+    *) check "sh with $closed closed" run_alike "$closed" "$want" sh ;;
+    esac
+    check "soak with $closed closed" run_alike "$closed" "$want" soak 7 100
 done
 finish

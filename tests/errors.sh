@@ -4,7 +4,7 @@
 . "$(dirname "$(readlink -f "$0")")/checks.sh"
 
 "$root/bfs" "$work/none.img" >/dev/null
-program=$root/crates/bfs_tool/out/bfs_tool
+program=$root/crates/bfs_main/out/bfs_main
 image=$work/volume.img
 usage='usage: bfs IMAGE (label NAME | mk --blocks N [--block-size B] [--name NAME] | check | sh [-j N] | soak SEED COUNT [-j N])'
 
@@ -62,7 +62,7 @@ few() {
         "$program" "$image" label new
     )
 }
-check 'too few descriptors' ends 4 '' 'bfs: neither /dev/null nor / can be opened: Too many open files (os error 24)' few
+check 'too few descriptors' ends 4 '' 'bfs: neither / nor /dev/null can be opened: Too many open files (os error 24)' few
 check 'the image is as it was' cmp -s "$image" "$work/before.img"
 
 # Status 4: a call of the open image fails, as strace makes it.
@@ -79,6 +79,18 @@ if strace -o "$work/calls" -P "$image" -e inject=read:error=EIO:when=1 true 2>/d
     check 'a failed write' ends 4 '' "bfs: $image: a write to it failed, and it may be changed: $io" failing write 1 label new
     check 'a failed barrier' ends 4 '' "bfs: $image: it could not be brought to its medium, and it may be changed: $io" failing fsync 1 label new
     check 'a failed barrier of mk' ends 4 '' "bfs: $image: it could not be brought to its medium, and it may be changed: $io" failing fsync 2 mk --blocks 4096
+    interrupted() { # CALL WORDS..: the first call of the image is interrupted, and has done nothing
+        call=$1
+        shift
+        strace -o "$work/calls" -P "$image" -e "inject=$call:error=EINTR:when=1" "$program" "$image" "$@"
+    }
+    fresh
+    for call in read write; do
+        check "an interrupted $call goes on" ends 0 '' '' interrupted "$call" label "$call"
+        cp "$work/before.img" "$work/plain.img"
+        "$program" "$work/plain.img" label "$call"
+        check "and the label is there" cmp -s "$image" "$work/plain.img"
+    done
 else
     skip 'strace is not installed, or may not trace'
 fi

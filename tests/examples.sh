@@ -3,7 +3,7 @@
 . "$(dirname "$(readlink -f "$0")")/checks.sh"
 
 "$root/bfs" "$work/none.img" >/dev/null
-BFS=$root/crates/bfs_tool/out/bfs_tool
+BFS=$root/crates/bfs_main/out/bfs_main
 export BFS
 image=$work/volume.img
 folder=$work/folder

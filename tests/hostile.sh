@@ -3,4 +3,4 @@
 . "$(dirname "$(readlink -f "$0")")/checks.sh"
 
 "$root/bfs" "$work/none.img" >/dev/null
-python3 "$root/tests/hostile.py" "$root/crates/bfs_tool/out/bfs_tool" "$work" 200
+python3 "$root/tests/hostile.py" "$root/crates/bfs_main/out/bfs_main" "$work" 200

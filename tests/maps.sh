@@ -3,4 +3,4 @@
 . "$(dirname "$(readlink -f "$0")")/checks.sh"
 
 "$root/bfs" "$work/none.img" >/dev/null
-python3 "$root/tests/maps.py" "$root/crates/bfs_tool/out/bfs_tool" "$work" 10000
+python3 "$root/tests/maps.py" "$root/crates/bfs_main/out/bfs_main" "$work" 10000

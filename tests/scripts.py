@@ -123,15 +123,26 @@ def indices():
 
 
 def attributes():
-    """An attribute that just fills the small data, and one with a byte more."""
-    fresh()
-    says("an attribute of 765 bytes", ["1 make /a", "1 attr /a x RAWT*765"], ["ok", "ok"])
-    is_whole("fits into the small data", 2, 530)
-    says("and of 766", ["1 attr /a x RAWT*766"], ["ok"])
-    is_whole("takes an attribute directory", 2, 535)
-    says("and of one", ["1 attr /a x RAWT*1", "1 attrs /a"], ["ok", "ok 1 RAWT=x"])
-    is_whole("is in the small data again", 2, 530)
-    says("and of too many", ["1 attr /a x RAWT*65537"], ["toobig"])
+    """An attribute that just fills the small data, and one with a byte more, to and fro, for each block size.
+
+    The area has what its block has but 232 bytes; the item of the name `a` takes 14 of them, and one of a name of a letter 13 beside its bytes. A new volume
+    has the superblock, a block of the bitmap, the log's 512, and five trees of an inode and two pages of 1,024 bytes. The attribute directory takes a tree
+    more, and the attribute in it an inode and a block."""
+    for size in (1024, 2048, 4096, 8192):
+        fresh(4096, size)
+        tree = 1 + (2048 + size - 1) // size
+        most = size - 232 - 14 - 13
+        own = 514 + 5 * tree + 1
+        says(f"an attribute of {most} bytes", ["1 make /a", f"1 attr /a x RAWT*{most}"], ["ok", "ok"])
+        is_whole("fits into the small data", 2, own)
+        for _ in range(2):
+            says(f"and of {most + 1}", [f"1 attr /a x RAWT*{most + 1}"], ["ok"])
+            is_whole("takes an attribute directory", 2, own + tree + 2)
+            says(f"and of {most} again", [f"1 attr /a x RAWT*{most}"], ["ok"])
+            is_whole("is in the small data again", 2, own)
+        says("and of one", ["1 attr /a x RAWT*1", "1 attrs /a"], ["ok", "ok 1 RAWT=x"])
+        is_whole("is in the small data still", 2, own)
+        says("and of too many", ["1 attr /a x RAWT*65537"], ["toobig"])
 
 
 def files():

@@ -4,7 +4,7 @@
 . "$(dirname "$(readlink -f "$0")")/checks.sh"
 
 "$root/bfs" "$work/none.img" >/dev/null
-program=$root/crates/bfs_tool/out/bfs_tool
+program=$root/crates/bfs_main/out/bfs_main
 image=$work/volume.img
 
 fresh() { # BLOCK_SIZE

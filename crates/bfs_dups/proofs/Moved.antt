@@ -2,7 +2,7 @@
 use Rattle.std.proofs.Common.{◌≡◌, ◌⊎◌, ◌≤◌, ◌<◌, ◌+◌, ◌*◌, ◌-◌, ◌^◌, ℕ, zero, suc, List, ◌∷◌, ◌++◌, length, inl, inr, refl, ap, sym, ◌∙◌, arith}
 use Rattle.bfs_bytes.specs.Fields.{Puts, unsigned_at, unsigned_bytes}
 use Rattle.bfs_bytes.proofs.Lengths.{length-unsigned_bytes}
-use Rattle.bfs_node.proofs.Kept.{unsigned-kept, unsigned-put}
+use Rattle.bfs_bytes.proofs.Kept.{unsigned-kept, unsigned-put}
 use Rattle.bfs_values.specs.Values.{numbers_from}
 use Rattle.bfs_dups.specs.Slots.{SameBut}
 

@@ -4,8 +4,8 @@ use Rattle.std.specs.Int.{w32}
 use Rattle.bfs_bytes.specs.declared.Run.{Run}
 use Rattle.bfs_bytes.specs.Fields.{Puts, run_in, run_bytes}
 use Rattle.bfs_bytes.proofs.Lengths.{length-run_bytes}
+use Rattle.bfs_bytes.proofs.Kept.{AreApart, run-kept, run-put}
 use Rattle.bfs_inode.specs.Inode.{runs_in}
-use Rattle.bfs_inode.proofs.Kept.{AreApart, run-kept, run-put}
 
 pub length-runs_in : (n : ℕ) (bytes : List ℕ) (at : ℕ) → length (runs_in n bytes at) ≡ n
 unfolding runs_in

@@ -5,8 +5,8 @@ use Rattle.std.proofs.lemmas.List.{take_at, append-nil, drop_all}
 use Rattle.bfs_bytes.specs.declared.Run.{Run}
 use Rattle.bfs_bytes.specs.Fields.{Puts, unsigned_bytes, signed32_bytes, signed64_bytes, run_bytes}
 use Rattle.bfs_bytes.proofs.Lengths.{length-unsigned_bytes, length-signed32_bytes, length-signed64_bytes, length-run_bytes}
+use Rattle.bfs_bytes.proofs.Kept.{AreApart, puts-length, bytes-kept, bytes-put, rest-kept_behind, unsigned-kept, signed32-kept, signed64-kept, run-kept, unsigned-put, signed32-put, signed64-put, run-put}
 use Rattle.bfs_inode.specs.Inode.{KeepsOutside, inode_at, stream_at, runs_in}
-use Rattle.bfs_inode.proofs.Kept.{AreApart, puts-length, bytes-kept, bytes-put, rest-kept_behind, unsigned-kept, signed32-kept, signed64-kept, run-kept, unsigned-put, signed32-put, signed64-put, run-put}
 use Rattle.bfs_inode.proofs.Runs.{runs-kept, runs-put}
 
 -- a part of what lies apart lies apart

@@ -8,9 +8,9 @@ use Rattle.bfs_bytes.specs.Fields.{Puts, signed64_at, unsigned_at}
 use Rattle.bfs_bytes.proofs.Lengths.{length-unsigned_bytes, length-signed64_bytes}
 use Rattle.bfs_node.specs.declared.links.Links.{Links}
 use Rattle.bfs_bytes.proofs.Puts.{puts_then}
+use Rattle.bfs_bytes.proofs.Kept.{puts-length, bytes-kept, bytes-put, signed64-kept, signed64-put}
 use Rattle.bfs_node.specs.Page.{head_bytes, links_of, left_of, right_of, overflow_of}
 use Rattle.bfs_node.specs.Written.{part, two, eight}
-use Rattle.bfs_node.proofs.Kept.{puts-length, bytes-kept, bytes-put, signed64-kept, signed64-put}
 
 pub begun : (p p1 p2 p3 p4 p5 : List ℕ) (links : Links) (count bytes : ℕ) → length p ≡ 1024
     → Puts 0 (eight links.left) p p1 → Puts 8 (eight links.right) p1 p2 → Puts 16 (eight links.overflow) p2 p3 → Puts 24 (two count) p3 p4 → Puts 26 (two bytes) p4 p5

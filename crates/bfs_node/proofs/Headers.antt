@@ -9,9 +9,9 @@ use Rattle.byteorder.specs.Numbers.{little_number-reads_back}
 use Rattle.bfs_bytes.specs.Fields.{Puts, unsigned_at, signed64_at, unsigned_bytes, signed64_bytes}
 use Rattle.bfs_bytes.proofs.Lengths.{length-unsigned_bytes, length-signed64_bytes}
 use Rattle.bfs_bytes.proofs.Puts.{puts_then}
+use Rattle.bfs_bytes.proofs.Kept.{bytes-put}
 use Rattle.bfs_node.specs.declared.header.Header.{Header}
 use Rattle.bfs_node.specs.Header.{header_at, header_bytes}
-use Rattle.bfs_node.proofs.Kept.{bytes-put}
 
 pub header-put : (h : Header) (p p1 p2 p3 p4 p5 p6 p7 : List ℕ) → length p ≡ 1024 → Puts 0 (unsigned_bytes 4 h.magic) p p1 → Puts 4 (unsigned_bytes 4 h.node_size) p1 p2 → Puts 8 (unsigned_bytes 4 h.levels) p2 p3 → Puts 12 (unsigned_bytes 4 h.data_type) p3 p4 → Puts 16 (signed64_bytes h.root_pointer) p4 p5 → Puts 24 (signed64_bytes h.free_pointer) p5 p6 → Puts 32 (signed64_bytes h.maximum_size) p6 p7 → Puts 0 (header_bytes h) p p7
 unfolding header_bytes

@@ -1,7 +1,6 @@
 pub mod AllRows
 mod Begun
 mod Headers
-pub mod Kept
 pub mod Linked
 mod Made
 mod Numbers

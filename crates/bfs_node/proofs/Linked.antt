@@ -4,8 +4,8 @@ use Rattle.std.specs.Int.{w64, cast_signed}
 use Rattle.byteorder.specs.Endian.{little_number}
 use Rattle.bfs_bytes.specs.Fields.{Puts, unsigned_at, signed64_at, signed64_bytes}
 use Rattle.bfs_bytes.proofs.Lengths.{length-signed64_bytes}
+use Rattle.bfs_bytes.proofs.Kept.{puts-length, rest-kept_behind, signed64-kept, signed64-put}
 use Rattle.bfs_node.specs.Page.{Row, count_at, key_bytes_at, base_at, base_of, end_at, start_at, row_at, rows_from, rows_of, HasLayout, links_of}
-use Rattle.bfs_node.proofs.Kept.{puts-length, rest-kept_behind, signed64-kept, signed64-put}
 
 module _ (p q : List ℕ) (same : drop 24 p ≡ drop 24 q) where
   drop-same : (a : ℕ) → 24 ≤ a → drop a p ≡ drop a q

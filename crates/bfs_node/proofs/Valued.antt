@@ -3,8 +3,8 @@ use Rattle.std.proofs.Common.{◌≡◌, ◌⊎◌, ◌<◌, ◌≤◌, ◌+◌,
 use Rattle.std.specs.Int.{w64}
 use Rattle.bfs_bytes.specs.Fields.{Puts, unsigned_at, signed64_at, signed64_bytes}
 use Rattle.bfs_bytes.proofs.Lengths.{length-signed64_bytes}
+use Rattle.bfs_bytes.proofs.Kept.{puts-length, bytes-kept, unsigned-kept, signed64-kept, signed64-put}
 use Rattle.bfs_node.specs.Page.{Row, key_of, count_at, key_bytes_at, base_at, base_of, end_at, start_at, row_at, rows_from, rows_of, row_in, links_of, HasLayout}
-use Rattle.bfs_node.proofs.Kept.{puts-length, bytes-kept, unsigned-kept, signed64-kept, signed64-put}
 use Rattle.bfs_node.proofs.PageLayout.{end-within, row_in-rows_of}
 
 module _ (p q : List ℕ) (layout : HasLayout p) (i : ℕ) (v : ℤ) (inside : i < count_at p) (puts : Puts (base_at p + 2 * count_at p + 8 * i) (signed64_bytes v) p q) (range : FitsSigned w64 v) where

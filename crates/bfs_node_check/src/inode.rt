@@ -18,9 +18,11 @@ use crate::target::{is_short_link, target_length};
 use bfs_bytes::{i32_at, u32_at};
 use bfs_finding::{Finding, InodePart};
 use bfs_inode::{InodeFault, SMALL_DATA, check};
+use thiserror::Error;
 
 /// What is wrong with an inode, and what was found there.
-#[derive(Clone, Copy, Debug, PartialEq, Eq)]
+#[derive(Clone, Copy, Debug, PartialEq, Eq, Error)]
+#[error("a part of the inode is wrong, where {found} was found")]
 pub struct InodeWrong {
     pub part: InodePart,
     pub found: i64,

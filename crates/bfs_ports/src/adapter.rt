@@ -1,12 +1,46 @@
 // Ports over std's readers and writers and the system's clock.
-ghost use Rattle.std.specs.Prelude.{◌≡◌, None};
+ghost use Rattle.std.specs.Prelude.{◌≡◌, ◌≢◌, ◌≤◌, length, None, IfOk, IfErr};
+ghost use Rattle.std.specs.IoError.{error_kind};
 
 use crate::{Clock, Failed, Sink, Source};
-use std::io::{Read, Write};
-use std::time;
+use std::io::{ErrorKind, Read, Write};
 use std::time::{SystemTime, UNIX_EPOCH};
+use std::{io, time};
 
-/// A source over a reader. It tells no bytes.
+// Nothing says that the signals end, and a loop has to, so it counts. Nobody waits for this number.
+const TRIES: u64 = u64::MAX;
+
+// One read, made again where a signal interrupts it.
+fn read_retrying<R: Read>(reader: &mut R, into: &mut [u8]) -> io::Result<usize>
+    ensures bound { IfOk result (λ n. n ≤ length into.old) }
+    ensures tried { IfErr result (λ e. error_kind e ≢ ErrorKind.Interrupted) }
+{
+    for _ in 0..TRIES {
+        match reader.read(into) {
+            Ok(n) => return Ok(n),
+            Err(error) if error.kind() == ErrorKind::Interrupted => {}
+            Err(error) => return Err(error),
+        }
+    }
+    Err(ErrorKind::TimedOut.into())
+}
+
+// One write, made again where a signal interrupts it.
+fn write_retrying<W: Write>(writer: &mut W, from: &[u8]) -> io::Result<usize>
+    ensures bound { IfOk result (λ n. n ≤ length from.now) }
+    ensures tried { IfErr result (λ e. error_kind e ≢ ErrorKind.Interrupted) }
+{
+    for _ in 0..TRIES {
+        match writer.write(from) {
+            Ok(n) => return Ok(n),
+            Err(error) if error.kind() == ErrorKind::Interrupted => {}
+            Err(error) => return Err(error),
+        }
+    }
+    Err(ErrorKind::TimedOut.into())
+}
+
+/// A source over a reader. It tells no bytes. A call that a signal interrupts is made again.
 #[derive(Drop)]
 pub struct Input<R> {
     reader: R,
@@ -28,7 +62,7 @@ impl<R: Read> Source for Input<R> {
     ghost faults = { λ s. s.faults };
 
     fn take(&mut self, into: &mut [u8]) -> Result<usize, Failed> {
-        match self.reader.read(into) {
+        match read_retrying(&mut self.reader, into) {
             Ok(n) => Ok(n),
             Err(_) => {
                 self.faults = self.faults.saturating_add(1);
@@ -38,7 +72,7 @@ impl<R: Read> Source for Input<R> {
     }
 }
 
-/// A sink over a writer. It tells no bytes.
+/// A sink over a writer. It tells no bytes. A call that a signal interrupts is made again.
 #[derive(Drop)]
 pub struct Output<W> {
     writer: W,
@@ -60,7 +94,7 @@ impl<W: Write> Sink for Output<W> {
     ghost faults = { λ s. s.faults };
 
     fn put(&mut self, from: &[u8]) -> Result<usize, Failed> {
-        match self.writer.write(from) {
+        match write_retrying(&mut self.writer, from) {
             Ok(n) => {
                 if n == 0 {
                     self.faults = self.faults.saturating_add(1);

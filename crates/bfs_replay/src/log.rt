@@ -18,11 +18,14 @@ use bfs_bytes::Run;
 use bfs_disk::Disk;
 use bfs_log::{EntryFault, Place, Runs, log_entry, ring_next};
 use bfs_super::Super;
+use thiserror::Error;
 
 /// Why a walk over the log ends early: a disk call failed, or an entry is malformed.
-#[derive(Clone, Copy, Debug, PartialEq, Eq)]
+#[derive(Clone, Copy, Debug, PartialEq, Eq, Error)]
 pub enum Halt {
+    #[error("a disk call failed")]
     Failed,
+    #[error("{0}")]
     Malformed(EntryFault),
 }
 

@@ -45,11 +45,14 @@ use bfs_super::Super;
 use bfs_tree::{Call, Hold, Reply};
 use bfs_txn::{Blocks, Changed};
 use std::alloc::Global;
+use thiserror::Error;
 
 /// Why a call has no reply: no memory was found for it, or it is put off until the log is empty.
-#[derive(Clone, Copy, Debug, PartialEq, Eq)]
+#[derive(Clone, Copy, Debug, PartialEq, Eq, Error)]
 pub enum NoReply {
+    #[error("no memory was found")]
     NoMemory,
+    #[error("the call waits until the log is empty")]
     Drain,
 }
 

@@ -5,6 +5,7 @@ ghost use Rattle.bfs_super.specs.Geometry.{IsBlockSize, IsShift, IsPlan, log_len
 
 use crate::Super;
 use bfs_bytes::Run;
+use thiserror::Error;
 
 /// The layout of a volume. Places and lengths are in blocks, the block size in bytes.
 #[derive(Clone, Copy, Debug, PartialEq, Eq)]
@@ -24,7 +25,8 @@ pub struct Geometry {
 }
 
 /// The volume would have fewer blocks than its own structures take.
-#[derive(Clone, Copy, Debug, PartialEq, Eq)]
+#[derive(Clone, Copy, Debug, PartialEq, Eq, Error)]
+#[error("the volume has {have} blocks where {need} are needed")]
 pub struct TooSmall {
     pub have: u64,
     pub need: u64,

@@ -1,8 +1,9 @@
 -- Look-ups in lists of pairs, and what an edit of one leaves of its order and its look-ups.
-use Rattle.std.proofs.Common.{◌≡◌, ◌≢◌, ◌≤◌, ◌<◌, ◌+◌, ◌-◌, ℕ, zero, suc, List, [], ◌∷◌, ◌++◌, length, take, drop, get_or, set, insert, remove, Option, Some, None, Bool, true, false, cond, refl, sym, ap, ◌∙◌, subst, arith, ◌==◌, length-set, length-append, length-drop, ◌||◌, is_some, IfSome, Result, Ok, Err, OnOk, OnErr, ◌⊎◌, inl, inr}
-use Rattle.std.proofs.lemmas.List.{set_split, set-get_or, get_or-set_same, get_or-set_other, take-append-drop, set-append_left, get_or_append_left, get_or-take, get_or-drop, take-set-le, take-append-le, take-take, length-take-le}
-use Rattle.std.proofs.lemmas.List.Edits.{length-insert, get_or-insert_below, get_or-insert_at, get_or-insert_above, insert-append_left}
+use Rattle.std.proofs.Common.{◌≡◌, ◌≢◌, ◌≤◌, ◌<◌, ◌+◌, ◌-◌, ℕ, zero, suc, List, [], ◌∷◌, ◌++◌, length, take, drop, get_or, set, insert, Option, Some, None, Bool, true, false, cond, refl, sym, ap, ◌∙◌, subst, arith, ◌==◌, length-set, length-drop, ◌||◌, is_some, IfSome, Result, Ok, Err, OnOk, OnErr, ◌⊎◌, inl, inr}
+use Rattle.std.proofs.lemmas.List.{set_split, set-get_or, get_or-set_same, get_or-set_other, take-append-drop, get_or-take, get_or-drop, take-set-le, take-append-le, take-take, length-take-le}
+use Rattle.std.proofs.lemmas.List.Edits.{length-insert, get_or-insert_below, get_or-insert_at, get_or-insert_above}
 use Rattle.bfs_txn.specs.Changed.{newest, or_else, over, number_at, bytes_at, Ascends, AscendsIn, AreOfSize, AreLayered, IsAt, IsGap}
+use Rattle.bfs_txn.specs.Merging.{IsCut}
 use Rattle.bfs_txn.specs.Told.{with_block}
 use Rattle.bfs_txn.specs.Laws.{newest_sized}
 use Rattle.std.specs.Option.{option_map}
@@ -30,10 +31,10 @@ found (p ∷ ps) (suc i) k inside is last =
     let rest : newest ps k ≡ Some (bytes_at ps i) = found ps i k (omega arith) is (λ j a b. last (suc j) (omega arith) (omega arith)) in
     rw rest refl
 
-not_less : (a b : ℕ) → a < b → b ≢ a
+pub not_less : (a b : ℕ) → a < b → b ≢ a
 not_less a b h e = omega arith
 
-not_more : (a b : ℕ) → a < b → a ≢ b
+pub not_more : (a b : ℕ) → a < b → a ≢ b
 not_more a b h e = omega arith
 
 -- a look-up in both parts
@@ -128,7 +129,7 @@ newest-insert ps i b v k last =
     newest-middle (take i ps) (drop i ps) b v k (none_behind ps i b last) ∙ ap (λ l. cond (k == b) (Some v) (newest l k)) (take-append-drop i ps)
 
 -- the blocks stay where bytes change
-number-set : (ps : Pairs) (i b : ℕ) (v : List ℕ) → i < length ps → number_at ps i ≡ b → (j : ℕ) → number_at (set ps i (b, v)) j ≡ number_at ps j
+pub number-set : (ps : Pairs) (i b : ℕ) (v : List ℕ) → i < length ps → number_at ps i ≡ b → (j : ℕ) → number_at (set ps i (b, v)) j ≡ number_at ps j
 number-set ps i b v inside is j = here (split j i)
   where
     split : (j m : ℕ) → (j ≡ m) ⊎ (j ≢ m)
@@ -138,7 +139,7 @@ number-set ps i b v inside is j = here (split j i)
     here (inl e) = ap (number_at (set ps i (b, v))) e ∙ ap (λ p. p.0) (get_or-set_same ps i (b, v) (0, []) inside) ∙ sym is ∙ ap (number_at ps) (sym e)
     here (inr ne) = ap (λ p. p.0) (get_or-set_other ps i j (b, v) (0, []) ne)
 
-ascends-same : (ps qs : Pairs) (from to : ℕ) → ((j : ℕ) → number_at qs j ≡ number_at ps j) → AscendsIn ps from to → AscendsIn qs from to
+pub ascends-same : (ps qs : Pairs) (from to : ℕ) → ((j : ℕ) → number_at qs j ≡ number_at ps j) → AscendsIn ps from to → AscendsIn qs from to
 ascends-same ps qs from to same asc i j a b c = rw (same i, same j) (asc i j a b c)
 
 pub ascends-set : (ps : Pairs) (from to i b : ℕ) (v : List ℕ) → i < length ps → number_at ps i ≡ b → AscendsIn ps from to → AscendsIn (set ps i (b, v)) from to
@@ -218,7 +219,7 @@ layered-set mark size ps i b v layered at long = record {
 take-insert : (ps : Pairs) (i m : ℕ) (x : ℕ × List ℕ) → m ≤ i → i ≤ length ps → take m (insert ps i x) ≡ take m ps
 take-insert ps i m x le room = take-append-le m (take i ps) (x ∷ drop i ps) (omega (arith, length-take-le i ps room)) ∙ take-take m i ps le
 
-number-insert_below : (ps : Pairs) (i b : ℕ) (v : List ℕ) (j : ℕ) → j < i → i ≤ length ps → number_at (insert ps i (b, v)) j ≡ number_at ps j
+pub number-insert_below : (ps : Pairs) (i b : ℕ) (v : List ℕ) (j : ℕ) → j < i → i ≤ length ps → number_at (insert ps i (b, v)) j ≡ number_at ps j
 number-insert_below ps i b v j h room = ap (λ p. p.0) (get_or-insert_below ps i (b, v) (0, []) j h room)
 
 pub layered-insert : (mark size : ℕ) (ps : Pairs) (i b : ℕ) (v : List ℕ) → AreLayered mark size ps → IsGap ps mark (length ps) b i → length v ≡ size → AreLayered mark size (insert ps i (b, v))
@@ -243,7 +244,7 @@ pub put-insert : (ps : Pairs) (mark b i : ℕ) (v : List ℕ) → IsGap ps mark 
 put-insert ps mark b i v gap k = newest-insert ps i b v k (λ j a h. not_less b (number_at ps j) (gap.above j a h))
 
 -- A pair that sinks among those before it: xs are the pairs before it, ys those behind.
-sunk : (xs ys zs : Pairs) (x : ℕ × List ℕ) → ((k : ℕ) → newest zs k ≡ cond (k == x.0) (Some x.1) (newest xs k)) → (k : ℕ) → newest (zs ++ ys) k ≡ newest (xs ++ x ∷ ys) k
+pub sunk : (xs ys zs : Pairs) (x : ℕ × List ℕ) → ((k : ℕ) → newest zs k ≡ cond (k == x.0) (Some x.1) (newest xs k)) → (k : ℕ) → newest (zs ++ ys) k ≡ newest (xs ++ x ∷ ys) k
 sunk xs ys zs x put k =
     newest-append zs ys k
     ∙ ap (λ o. or_else (newest ys k) o) (put k ∙ sym (as_cond (k == x.0) (newest xs k)))
@@ -254,94 +255,22 @@ sunk xs ys zs x put k =
     as_cond true n = refl
     as_cond false n = refl
 
-whole_at : (ps : Pairs) (i : ℕ) → i < length ps → take i ps ++ get_or ps i (0, []) ∷ drop (suc i) ps ≡ ps
+pub whole_at : (ps : Pairs) (i : ℕ) → i < length ps → take i ps ++ get_or ps i (0, []) ∷ drop (suc i) ps ≡ ps
 whole_at ps i h = sym (set_split ps i (get_or ps i (0, [])) h) ∙ set-get_or ps i (0, [])
 
-number-take : (ps : Pairs) (n i : ℕ) → i < n → number_at (take n ps) i ≡ number_at ps i
+pub number-take : (ps : Pairs) (n i : ℕ) → i < n → number_at (take n ps) i ≡ number_at ps i
 number-take ps n i h = ap (λ p. p.0) (get_or-take n ps i (0, []) h)
 
--- places among the first pairs
-at_first : (ps : Pairs) (i b at : ℕ) → i < length ps → IsAt ps 0 i b at → IsAt (take i ps) 0 (length (take i ps)) b at
-at_first ps i b at h is = record {
-  from_on = omega arith;
-  before_to = let lt = is.before_to in omega (arith, length-take-le i ps (omega arith));
-  is = number-take ps i at is.before_to ∙ is.is;
-}
-
-gap_first : (ps : Pairs) (i b at : ℕ) → i < length ps → IsGap ps 0 i b at → IsGap (take i ps) 0 (length (take i ps)) b at
-gap_first ps i b at h gap = record {
-  from_on = omega arith;
-  up_to = let le = gap.up_to in omega (arith, length-take-le i ps (omega arith));
-  below = λ j a c. rw (number-take ps i j (let le = gap.up_to in omega arith)) (gap.below j a c);
-  above = λ j a c. let lt : j < i = omega (arith, length-take-le i ps (omega arith)) in rw (number-take ps i j lt) (gap.above j a lt);
-}
-
-ascends_first : (ps : Pairs) (i : ℕ) → i < length ps → AscendsIn ps 0 i → AscendsIn (take i ps) 0 (length (take i ps))
-ascends_first ps i h asc j l a b c = let lt : l < i = omega (arith, length-take-le i ps (omega arith)) in rw (number-take ps i j (omega arith), number-take ps i l lt) (asc j l a b lt)
-
-ascends_front : (zs ys : Pairs) (n : ℕ) → n ≤ length zs → AscendsIn zs 0 n → AscendsIn (zs ++ ys) 0 n
-ascends_front zs ys n le asc j l a b c =
-    let e : number_at (zs ++ ys) j ≡ number_at zs j = ap (λ p. p.0) (get_or_append_left zs ys (0, []) j (omega arith)) in
-    let f : number_at (zs ++ ys) l ≡ number_at zs l = ap (λ p. p.0) (get_or_append_left zs ys (0, []) l (omega arith)) in
-    rw (e, f) (asc j l a b c)
-
--- where its block is there
-pub record Sunk (old new : Pairs) (n lost : ℕ) : Type 0 where
-  pub ascends : AscendsIn new 0 n
-  pub reads : (k : ℕ) → newest new k ≡ newest old k
-  pub sized : (size : ℕ) → AreOfSize size old → AreOfSize size new
-  pub len : length new + lost ≡ length old
-
-sized-take : (size : ℕ) (ps : Pairs) (n : ℕ) → n ≤ length ps → AreOfSize size ps → AreOfSize size (take n ps)
+pub sized-take : (size : ℕ) (ps : Pairs) (n : ℕ) → n ≤ length ps → AreOfSize size ps → AreOfSize size (take n ps)
 sized-take size ps n le sized i h = let lt : i < n = omega (arith, length-take-le n ps le) in ap (λ p. length p.1) (get_or-take n ps i (0, []) lt) ∙ sized i (omega arith)
 
-sized-drop : (size : ℕ) (ps : Pairs) (n : ℕ) → AreOfSize size ps → AreOfSize size (drop n ps)
+pub sized-drop : (size : ℕ) (ps : Pairs) (n : ℕ) → AreOfSize size ps → AreOfSize size (drop n ps)
 sized-drop size ps n sized i h = ap (λ p. length p.1) (get_or-drop n ps i (0, [])) ∙ sized (n + i) (omega (arith, length-drop n ps))
 
-sized-append : (size : ℕ) (xs ys : Pairs) → AreOfSize size xs → AreOfSize size ys → AreOfSize size (xs ++ ys)
+pub sized-append : (size : ℕ) (xs ys : Pairs) → AreOfSize size xs → AreOfSize size ys → AreOfSize size (xs ++ ys)
 sized-append size [] ys a b i h = b i h
 sized-append size (x ∷ xs) ys a b zero h = a zero (omega arith)
 sized-append size (x ∷ xs) ys a b (suc i) h = sized-append size xs ys (λ j g. a (suc j) (omega arith)) b i (omega arith)
-
-pub sunk_old : (ps : Pairs) (i at : ℕ) → i < length ps → AscendsIn ps 0 i → IsAt ps 0 i (number_at ps i) at → Sunk ps (set (remove ps i) at (get_or ps i (0, []))) i 1
-sunk_old ps i at h asc is =
-    let x = get_or ps i (0, []) in
-    let xs = take i ps in
-    let ys = drop (suc i) ps in
-    let long : length (take i ps) ≡ i = length-take-le i ps (omega arith) in
-    let first = at_first ps i (number_at ps i) at h is in
-    let front : AscendsIn (take i ps) 0 (length (take i ps)) = ascends_first ps i h asc in
-    let split : set (remove ps i) at (get_or ps i (0, [])) ≡ set (take i ps) at (get_or ps i (0, [])) ++ drop (suc i) ps = set-append_left (take i ps) (drop (suc i) ps) at (get_or ps i (0, [])) first.before_to in
-    subst (λ (l : Pairs). Sunk ps l i 1) (sym split) (record {
-      ascends = ascends_front (set (take i ps) at (get_or ps i (0, []))) (drop (suc i) ps) i (omega (arith, length-set (take i ps) at (get_or ps i (0, []))))
-          (ascends-set (take i ps) 0 i at (number_at ps i) (bytes_at ps i) first.before_to first.is (subst (λ (n : ℕ). AscendsIn (take i ps) 0 n) long front));
-      reads = λ k.
-          sunk (take i ps) (drop (suc i) ps) (set (take i ps) at (get_or ps i (0, []))) (get_or ps i (0, [])) (λ j. put-set (take i ps) 0 (number_at ps i) at (bytes_at ps i) front first j) k
-          ∙ ap (λ l. newest l k) (whole_at ps i h);
-      sized = λ size s.
-          sized-append size (set (take i ps) at (get_or ps i (0, []))) (drop (suc i) ps) (sized-set size (take i ps) at (number_at ps i) (bytes_at ps i) (sized-take size ps i (omega arith) s) (s i h)) (sized-drop size ps (suc i) s);
-      len = omega (arith, length-append (set (take i ps) at (get_or ps i (0, []))) (drop (suc i) ps), length-set (take i ps) at (get_or ps i (0, [])), length-drop (suc i) ps, long);
-    })
-
--- and where it isn't
-pub sunk_new : (ps : Pairs) (i at : ℕ) → i < length ps → AscendsIn ps 0 i → IsGap ps 0 i (number_at ps i) at → Sunk ps (insert (remove ps i) at (get_or ps i (0, []))) (i + 1) 0
-sunk_new ps i at h asc gap =
-    let long : length (take i ps) ≡ i = length-take-le i ps (omega arith) in
-    let first = gap_first ps i (number_at ps i) at h gap in
-    let room : at ≤ length (take i ps) = first.up_to in
-    let front : AscendsIn (take i ps) 0 (length (take i ps)) = ascends_first ps i h asc in
-    let more : length (insert (take i ps) at (get_or ps i (0, []))) ≡ length (take i ps) + 1 = length-insert (take i ps) at (get_or ps i (0, [])) room in
-    let split : insert (remove ps i) at (get_or ps i (0, [])) ≡ insert (take i ps) at (get_or ps i (0, [])) ++ drop (suc i) ps = insert-append_left (take i ps) (drop (suc i) ps) at (get_or ps i (0, [])) room in
-    subst (λ (l : Pairs). Sunk ps l (i + 1) 0) (sym split) (record {
-      ascends = ascends_front (insert (take i ps) at (get_or ps i (0, []))) (drop (suc i) ps) (i + 1) (omega (arith, more, long))
-          (subst (λ (n : ℕ). AscendsIn (insert (take i ps) at (get_or ps i (0, []))) 0 (n + 1)) long (ascends-insert (take i ps) 0 (length (take i ps)) at (number_at ps i) (bytes_at ps i) (omega arith) front first));
-      reads = λ k.
-          sunk (take i ps) (drop (suc i) ps) (insert (take i ps) at (get_or ps i (0, []))) (get_or ps i (0, [])) (λ j. put-insert (take i ps) 0 (number_at ps i) at (bytes_at ps i) first j) k
-          ∙ ap (λ l. newest l k) (whole_at ps i h);
-      sized = λ size s.
-          sized-append size (insert (take i ps) at (get_or ps i (0, []))) (drop (suc i) ps) (sized-insert size (take i ps) at (number_at ps i) (bytes_at ps i) room (sized-take size ps i (omega arith) s) (s i h)) (sized-drop size ps (suc i) s);
-      len = omega (arith, length-append (insert (take i ps) at (get_or ps i (0, []))) (drop (suc i) ps), more, length-drop (suc i) ps, long);
-    })
 
 -- what a call's change leaves
 pub record IsPut (mark block : ℕ) (v : List ℕ) (ps qs : Pairs) : Type 0 where
@@ -406,3 +335,54 @@ changed_put qs ps b v k put = ap is_some put ∙ here (k == b)
 
 pub found_sized : (size : ℕ) (ps : Pairs) (k : ℕ) (x : List ℕ) → AreOfSize size ps → newest ps k ≡ Some x → length x ≡ size
 found_sized size ps k x sized e = subst (λ (o : Option (List ℕ)). IfSome o (λ bytes. length bytes ≡ size)) e (newest_sized size ps k sized)
+
+-- a cut of a part of a list that ascends
+module _ (ps : Pairs) (from to block at : ℕ) (order : from ≤ to) (inside : to ≤ length ps) (asc : AscendsIn ps from to) (cut : IsCut (take (to - from) (drop from ps)) block at) where
+  part_long : length (take (to - from) (drop from ps)) ≡ to - from
+  part_long = length-take-le (to - from) (drop from ps) (omega (arith, length-drop from ps, inside))
+
+  number_there : (j : ℕ) → from ≤ j → j < to → number_at (take (to - from) (drop from ps)) (j - from) ≡ number_at ps j
+  number_there j a b =
+      let e : from + (j - from) ≡ j = omega arith in
+      ap (λ p. p.0) (get_or-take (to - from) (drop from ps) (j - from) (0, []) (omega arith)) ∙ ap (λ p. p.0) (get_or-drop from ps (j - from) (0, [])) ∙ ap (number_at ps) e
+
+  cut_in : at ≤ to - from
+  cut_in = let e = cut.up_to in omega (arith, part_long, e)
+
+  cut_below : (j : ℕ) → from ≤ j → j < from + at → number_at ps j < block
+  cut_below j a b = let lt : j < to = omega (arith, cut_in, order, b) in omega (arith, cut.below (j - from) (omega arith), number_there j a lt)
+
+  pub cut_past : from + at ≡ to → IsGap ps from to block (from + at)
+  cut_past e = record {
+    from_on = omega arith;
+    up_to = omega (arith, e);
+    below = cut_below;
+    above = λ j a b. absurd (omega (arith, e, a, b));
+  }
+
+  pub cut_gap : from + at ≢ to → number_at ps (from + at) ≢ block → IsGap ps from to block (from + at)
+  cut_gap short ne = record {
+    from_on = omega arith;
+    up_to = omega (arith, cut_in, order);
+    below = cut_below;
+    above = λ j a b. here j a b (split j (from + at));
+  }
+    where
+      split : (j m : ℕ) → (j ≤ m) ⊎ (m < j)
+      split j m = grind arith
+
+      strict : (n : ℕ) → block ≤ n → n ≢ block → block < n
+      strict n h g = grind (arith, h, g)
+
+      lt : from + at < to
+      lt = let le : from + at ≤ to = omega (arith, cut_in, order) in grind (arith, le, short)
+
+      least : block < number_at ps (from + at)
+      least =
+          let e : from + at - from ≡ at = omega arith in
+          let same : number_at (take (to - from) (drop from ps)) at ≡ number_at ps (from + at) = ap (number_at (take (to - from) (drop from ps))) (sym e) ∙ number_there (from + at) (omega arith) lt in
+          strict (number_at ps (from + at)) (omega (arith, cut.above at (omega arith) (omega (arith, part_long, lt)), same)) ne
+
+      here : (j : ℕ) → from + at ≤ j → j < to → (j ≤ from + at) ⊎ (from + at < j) → block < number_at ps j
+      here j a b (inl l) = let e : j ≡ from + at = omega arith in omega (arith, least, ap (number_at ps) e)
+      here j a b (inr l) = let le = least in omega (arith, le, asc (from + at) j (omega arith) l b)

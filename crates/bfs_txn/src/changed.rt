@@ -1,7 +1,9 @@
 // Changed blocks.
 ghost use Rattle.std.specs.Prelude.{◌≡◌, ◌≤◌, ◌<◌, ◌+◌, ◌-◌, ℕ, List, [], ◌∷◌, length, take, drop, OnOk, OnErr, Option, Some, None, MatchOption, MatchResult, IsTrue, if◌then◌else◌};
-ghost use Rattle.std.specs.Prelude.{◌↔◌, ◌==◌, slice_set, slice_index_or, insert, remove};
+ghost use Rattle.std.specs.Prelude.{◌↔◌, ◌==◌, slice_set, slice_index_or, insert};
+ghost use Rattle.std.specs.List.Sorted.{IsPermutation};
 ghost use Rattle.bfs_txn.specs.Changed.{newest, number_at, bytes_at, Ascends, AscendsIn, AreOfSize, AreLayered, IsAt, IsGap};
+ghost use Rattle.bfs_txn.specs.Merging.{AreSettled, AreApart, IsParted, IsCut};
 
 use std::alloc::{AllocError, Global};
 use std::marker::Model;
@@ -144,12 +146,12 @@ impl Changed {
         ensures within { mark ≤ length self.new }
         ensures len { length self.new ≤ length self.old }
     {
-        let mut i = mark;
-        while i < self.len() {
-            if self.sink(i) {
-                i += 1;
-            }
+        let mut own = mark;
+        for i in mark..self.len() {
+            own = self.settle(mark, own, i);
         }
+        self.truncate(own);
+        self.merge_settled(mark);
     }
 }
 
@@ -162,46 +164,77 @@ impl Changed {
         requires ascends { AscendsIn self.now from to }
         ensures { MatchResult result (IsAt self.now from to block) (IsGap self.now from to block) }
     {
-        let mut low = from;
-        let mut high = to;
-        while low < high {
-            let middle = low + (high - low) / 2;
-            let number = self.block(middle);
-            if number == block {
-                return Ok(middle);
-            }
-            if number < block {
-                low = middle + 1;
-            } else {
-                high = middle;
-            }
+        let at = from + count_below(&self.blocks[from..to], block);
+        if at == to {
+            return Err(at);
         }
-        Err(low)
+        let number = self.block(at);
+        if number == block { Ok(at) } else { Err(at) }
     }
 
-    /// Puts the pair at a place among those before it, and tells whether its block is new there.
-    fn sink(&mut self, i: usize) -> bool
+    /// Puts the pair at a place into that of its block among the kept pairs or among the first own ones, which then are as many as before, or makes it
+    /// one of those own ones, and answers where they end.
+    fn settle(&mut self, mark: usize, own: usize, i: usize) -> usize
+        requires own { own ≤ i }
         requires inside { i < length self.old }
-        requires kept { AscendsIn self.old 0 i }
-        ensures ascends { AscendsIn self.new 0 (if result then i + 1 else i) }
-        ensures reads { (k : ℕ) → newest self.new k ≡ newest self.old k }
-        ensures sized { (size : ℕ) → AreOfSize size self.old → AreOfSize size self.new }
-        ensures len { length self.new + (if result then 0 else 1) ≡ length self.old }
+        requires settled { AreSettled mark own self.old }
+        ensures settled { AreSettled mark result self.new }
+        ensures put { (k : ℕ) → newest (take result self.new) k ≡ (if k == number_at self.old i then Some (bytes_at self.old i) else newest (take own self.old) k) }
+        ensures sized { (size : ℕ) → AreOfSize size (take own self.old) → length (bytes_at self.old i) ≡ size → AreOfSize size (take result self.new) }
+        ensures rest { drop (i + 1) self.new ≡ drop (i + 1) self.old }
+        ensures len { length self.new ≡ length self.old }
+        ensures from_on { own ≤ result }
+        ensures up_to { result ≤ i + 1 }
     {
         let block = self.block(i);
-        match self.place_in(0, i, block) {
+        match self.place_in(0, mark, block) {
             Ok(at) => {
-                self.move_onto(i, at);
-                false
+                self.exchange(at, own, i);
+                own
             }
-            Err(at) => {
-                // A pair that stands in its place stays: a list in order is gone through without a move.
-                if at < i {
-                    self.move_before(i, at);
+            Err(_) => match self.place_in(mark, own, block) {
+                Ok(at) => {
+                    self.exchange(at, own, i);
+                    own
                 }
-                true
-            }
+                Err(at) => self.bring(at, own, i),
+            },
         }
+    }
+
+    /// Puts the pairs from the mark on among those before it, which are of other blocks.
+    fn merge_settled(&mut self, mark: usize)
+        requires { AreSettled mark (length self.old) self.old }
+        ensures ascends { Ascends self.new }
+        ensures permutation { IsPermutation self.old self.new }
+        ensures reads { (k : ℕ) → newest self.new k ≡ newest self.old k }
+    {
+        merge_parts(self.blocks.as_mut_slice(), mark);
+    }
+
+    /// Changes two pairs, the first of which is one of the first `own` ones.
+    fn exchange(&mut self, at: usize, own: usize, i: usize)
+        requires at { at < own }
+        requires own { own ≤ i }
+        requires inside { i < length self.old }
+        ensures first { take own self.new ≡ slice_set (take own self.old) at (slice_index_or self.old i (0, [])) }
+        ensures rest { drop (i + 1) self.new ≡ drop (i + 1) self.old }
+        ensures len { length self.new ≡ length self.old }
+    {
+        self.blocks.swap(at, i);
+    }
+
+    /// Brings a pair to a place among the first `own` ones, and answers how many they are then.
+    fn bring(&mut self, at: usize, own: usize, i: usize) -> usize
+        requires at { at ≤ own }
+        requires own { own ≤ i }
+        requires inside { i < length self.old }
+        ensures more { result ≡ own + 1 }
+        ensures first { take (own + 1) self.new ≡ insert (take own self.old) at (slice_index_or self.old i (0, [])) }
+        ensures rest { drop (i + 1) self.new ≡ drop (i + 1) self.old }
+        ensures len { length self.new ≡ length self.old }
+    {
+        bring_among(self.blocks.as_mut_slice(), at, own, i)
     }
 
     /// Changes the bytes at a place.
@@ -223,27 +256,79 @@ impl Changed {
         self.blocks.insert(i, Block { number, bytes })?;
         Ok(())
     }
+}
 
-    /// Moves a pair into the place of an earlier one.
-    fn move_onto(&mut self, i: usize, at: usize)
-        requires inside { i < length self.old }
-        requires earlier { at < i }
-        ensures { self.new ≡ slice_set (remove self.old i) at (slice_index_or self.old i (0, [])) }
-    {
-        let block = self.blocks.remove(i);
-        self.blocks[at] = block;
-    }
+/// Brings a pair to a place among the first `own` ones, and answers how many they are then.
+fn bring_among(blocks: &mut [Block], at: usize, own: usize, i: usize) -> usize
+    requires at { at ≤ own }
+    requires own { own ≤ i }
+    requires inside { i < length blocks.old }
+    ensures more { result ≡ own + 1 }
+    ensures first { take (own + 1) blocks.new ≡ insert (take own blocks.old) at (slice_index_or blocks.old i (0, [])) }
+    ensures rest { drop (i + 1) blocks.new ≡ drop (i + 1) blocks.old }
+    ensures len { length blocks.new ≡ length blocks.old }
+{
+    blocks.swap(own, i);
+    // Where the own pairs ascend, the pair stands in its place now.
+    blocks[at..own + 1].rotate_right(1);
+    own + 1
+}
 
-    /// Moves a pair in front of an earlier one.
-    fn move_before(&mut self, i: usize, at: usize)
-        requires inside { i < length self.old }
-        requires earlier { at ≤ i }
-        ensures { self.new ≡ insert (remove self.old i) at (slice_index_or self.old i (0, [])) }
-    {
-        let block = self.blocks.remove(i);
-        // There is room: a pair was just taken out.
-        let _ = self.blocks.insert(at, block);
+/// Merges two parts of a list, of which each ascends and has none of the other's blocks. The part behind is halved again and again, and each half is
+/// brought to its place as a whole, so that a pair is moved as often as the part's length has binary digits. Takes no memory.
+fn merge_parts(blocks: &mut [Block], mid: usize)
+    requires within { mid ≤ length blocks.old }
+    requires front { Ascends (take mid blocks.old) }
+    requires back { Ascends (drop mid blocks.old) }
+    requires apart { AreApart (take mid blocks.old) (drop mid blocks.old) }
+    ensures ascends { Ascends blocks.new }
+    ensures permutation { IsPermutation blocks.old blocks.new }
+    ensures reads { (k : ℕ) → newest blocks.new k ≡ newest blocks.old k }
+{
+    if mid < blocks.len() {
+        let half = (blocks.len() - mid) / 2;
+        let at = part(blocks, mid, half);
+        merge_parts(&mut blocks[..at + half], at);
+        merge_parts(&mut blocks[at + half + 1..], mid - at);
     }
+}
+
+/// Brings the first pairs of the part behind, and one more, in front of those pairs of the first part that are above them, and answers where.
+fn part(blocks: &mut [Block], mid: usize, half: usize) -> usize
+    requires inside { mid + half < length blocks.old }
+    requires front { Ascends (take mid blocks.old) }
+    requires back { Ascends (drop mid blocks.old) }
+    requires apart { AreApart (take mid blocks.old) (drop mid blocks.old) }
+    ensures { IsParted mid result half blocks.old blocks.new }
+{
+    let middle = &blocks[mid + half];
+    let number = middle.number;
+    let at = count_below(&blocks[..mid], number);
+    blocks[at..mid + half + 1].rotate_left(mid - at);
+    at
+}
+
+/// How many pairs are of blocks below a number.
+fn count_below(blocks: &[Block], number: u64) -> usize
+    requires { Ascends blocks.now }
+    ensures { IsCut blocks.now number result }
+{
+    let mut low = 0;
+    let mut size = blocks.len();
+    // One test for each halving, after which both ways go on with as many.
+    while size > 1 {
+        let half = size / 2;
+        let middle = &blocks[low + half];
+        if middle.number < number {
+            low += half;
+        }
+        size -= half;
+    }
+    if size == 0 {
+        return 0;
+    }
+    let last = &blocks[low];
+    if last.number < number { low + 1 } else { low }
 }
 
 impl Block {

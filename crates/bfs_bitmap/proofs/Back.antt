@@ -51,7 +51,7 @@ and_false true true = refl
 and_false true false = refl
 and_false false b = refl
 
-reserved-push : (gs : List Given) (g : Given) (k : ℕ) → is_reserved (gs ++ g ∷ []) k ≡ (is_reserved gs k || in_run g.first g.len k)
+pub reserved-push : (gs : List Given) (g : Given) (k : ℕ) → is_reserved (gs ++ g ∷ []) k ≡ (is_reserved gs k || in_run g.first g.len k)
 reserved-push [] g k = or_false (in_run g.first g.len k)
   where
     or_false : (t : Bool) → (t || false) ≡ t

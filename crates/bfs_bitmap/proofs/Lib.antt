@@ -1,3 +1,5 @@
+pub mod Covered
+pub mod Listed
 pub mod InBytes
 pub mod Sizes
 pub mod Looks

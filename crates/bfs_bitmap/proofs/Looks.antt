@@ -1,7 +1,7 @@
 -- What looks through the bitmap show.
 use Rattle.std.proofs.Common.{◌≡◌, ◌≤◌, ◌<◌, ◌+◌, ◌-◌, ◌*◌, ◌/◌, ◌%◌, ℕ, List, [], length, drop, get_or, Bool, true, false, not, ◌&&◌, ◌||◌, ◌==◌, nat_lt, Option, Some, unwrap_or, IfSome, refl, sym, ap, ◌∙◌, subst, arith, ◌⊎◌, inl, inr}
 use Rattle.std.proofs.lemmas.List.{drop_more}
-use Rattle.std.proofs.Math.Nat.{mul_comm, mul-le-mul_right, div-add-mod, mod-lt}
+use Rattle.std.proofs.Math.Nat.{mul_comm, mul_assoc, mul-le-mul_right, div-add-mod, mod-lt}
 use Rattle.std.proofs.lemmas.Nat.{div-mul-add, mod-mul-add}
 use Rattle.bfs_bitmap.specs.declared.given.Given.{Given}
 use Rattle.bfs_bitmap.specs.Bits.{bit_of, is_clear, in_run, IsFirst}
@@ -78,6 +78,10 @@ shown v m j told read now new sizes is has inside long of reserved past i h =
         ap (λ t. (is_clear read i && not (is_reserved v.given (per_block v * j + i))) && t) past_end
         ∙ turned (is_clear read i) (not (is_reserved v.given (per_block v * j + i))) (nat_lt (per_block v * j + i) v.blocks)
         ∙ ap (λ t. nat_lt (per_block v * j + i) v.blocks && (t && not (is_reserved v.given (per_block v * j + i)))) (sym mark_is)
+
+-- the first bit of a block is that of a whole byte
+pub whole_bytes : (b s j : ℕ) → b ≡ 8 * s → 8 * (b * j / 8) ≡ b * j
+whole_bytes b s j e = let whole : b * j ≡ 8 * (s * j) = ap (λ (n : ℕ). n * j) e ∙ mul_assoc 8 s j in omega (arith, whole)
 
 pub times_le : (b j : ℕ) → 0 < b → j ≤ b * j
 times_le b j h = let le : 1 * j ≤ b * j = mul-le-mul_right j h in omega (arith, le)

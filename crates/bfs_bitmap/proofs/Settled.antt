@@ -1,7 +1,9 @@
 -- Runs of calls that were kept stand first, whatever is done with the list, and settling them goes from its end.
-use Rattle.std.proofs.Common.{◌≡◌, ◌≤◌, ◌<◌, ℕ, zero, suc, List, [], ◌∷◌, ◌++◌, length, get_or, map, filter, take, drop, set, Bool, true, false, cond, refl, sym, ap, ap₂, ◌∙◌, arith}
+use Rattle.std.proofs.Common.{◌≡◌, ◌≤◌, ◌<◌, ◌-◌, ℕ, zero, suc, List, [], ◌∷◌, ◌++◌, length, get_or, map, filter, take, drop, set, Bool, true, false, not, cond, refl, sym, ap, ap₂, ◌∙◌, arith}
 use Rattle.bfs_bitmap.specs.declared.given.Given.{Given}
-use Rattle.bfs_bitmap.specs.Givens.{settled}
+use Rattle.bfs_bitmap.specs.Givens.{settled, is_left}
+use Rattle.bfs_bitmap.specs.Tallies.{lowered, lowered_by}
+use Rattle.bfs_bitmap.specs.declared.tally.Tally.{Tally}
 use Rattle.bfs_bitmap.specs.Runs.{AreKeptFirst, none_given}
 use Rattle.bfs_bitmap.proofs.Back.{AreAll, all_filter, all_map}
 
@@ -95,3 +97,33 @@ begin_back old at e = whole old ∙ ap (λ (n : ℕ). take n old ++ map settled 
     whole : (gs : List Given) → gs ≡ take (length gs) gs ++ map settled (drop (length gs) gs)
     whole [] = refl
     whole (g ∷ gs) = ap (λ (l : List Given). g ∷ l) (whole gs)
+
+-- where the last run is kept, all are
+pub all_settled : (gs : List Given) → AreKeptFirst gs → 0 < length gs → (get_or gs (length gs - 1) none_given).kept ≡ true → filter (λ g. g.kept) gs ≡ gs
+all_settled gs first some last = all_of gs (λ i low. first i (length gs - 1) (omega (arith, low)) (omega (arith, some)) last)
+  where
+    all_of : (hs : List Given) → ((i : ℕ) → i < length hs → (get_or hs i none_given).kept ≡ true) → filter (λ g. g.kept) hs ≡ hs
+    all_of [] all = refl
+    all_of (h ∷ hs) all = by_test h.kept (all zero (omega arith)) (all_of hs (λ i low. all (suc i) (omega (arith, low))))
+      where
+        by_test : (t : Bool) → t ≡ true → filter (λ g. g.kept) hs ≡ hs → cond t (h ∷ filter (λ g. g.kept) hs) (filter (λ g. g.kept) hs) ≡ h ∷ hs
+        by_test true e rest = ap (λ (l : List Given). h ∷ l) rest
+        by_test false e rest = let bad : false ≡ true = e in cc
+
+-- where the group of no run has left, all stay
+pub none_have_left : (group : ℕ) (gs : List Given) → ((i : ℕ) → i < length gs → is_left group (get_or gs i none_given) ≡ false) → filter (λ g. not (is_left group g)) gs ≡ gs
+none_have_left group [] none = refl
+none_have_left group (h ∷ hs) none = by_test (is_left group h) (none zero (omega arith)) (none_have_left group hs (λ i low. none (suc i) (omega (arith, low))))
+  where
+    by_test : (t : Bool) → t ≡ false → filter (λ g. not (is_left group g)) hs ≡ hs → cond (not t) (h ∷ filter (λ g. not (is_left group g)) hs) (filter (λ g. not (is_left group g)) hs) ≡ h ∷ hs
+    by_test false e rest = ap (λ (l : List Given). h ∷ l) rest
+    by_test true e rest = let bad : true ≡ false = e in cc
+
+-- and the tally isn't lowered
+pub none_lowered : (group : ℕ) (gs : List Given) (t : Tally) → ((i : ℕ) → i < length gs → is_left group (get_or gs i none_given) ≡ false) → lowered_by group gs t ≡ t
+none_lowered group [] t none = refl
+none_lowered group (h ∷ hs) t none = by_test (is_left group h) (none zero (omega arith)) (none_lowered group hs t (λ i low. none (suc i) (omega (arith, low))))
+  where
+    by_test : (b : Bool) → b ≡ false → lowered_by group hs t ≡ t → lowered_by group hs (cond b (lowered h.first t) t) ≡ t
+    by_test false e rest = rest
+    by_test true e rest = let bad : true ≡ false = e in cc

@@ -6,3 +6,4 @@ pub mod Fills
 pub mod Givens
 pub mod Tallies
 pub mod Counted
+pub mod Reserved

@@ -17,6 +17,8 @@ pub struct Bitmap {
     pub(crate) blocks: u64,
     pub(crate) group_blocks: u64,
     pub(crate) given: Vec<Given>,
+    /// A bit for each block, set where it is reserved; no bytes before a run is given back.
+    pub(crate) reserved: Vec<u8>,
     pub(crate) last: u64,
     /// What is known now, and what was when a call was last kept or dropped.
     pub(crate) tally: Tally,
@@ -25,12 +27,13 @@ pub struct Bitmap {
 
 impl Model for Bitmap {
     ghost use Rattle.bfs_bitmap.specs.Runs.{Room, HasSizes};
+    ghost use Rattle.bfs_bitmap.specs.Reserved.{HasReserved};
 
     ghost Value = { Room };
 
     ghost view = { λ b. record { block_size = b.block_size; blocks = b.blocks; group_blocks = b.group_blocks; given = b.given.items; last = b.last; tally = b.tally; tally_kept = b.tally_kept } };
 
-    ghost invariant = { λ b. HasSizes (record { block_size = b.block_size; blocks = b.blocks; group_blocks = b.group_blocks; given = b.given.items; last = b.last; tally = b.tally; tally_kept = b.tally_kept }) };
+    ghost invariant = { λ b. HasSizes (record { block_size = b.block_size; blocks = b.blocks; group_blocks = b.group_blocks; given = b.given.items; last = b.last; tally = b.tally; tally_kept = b.tally_kept }) × HasReserved b.blocks b.given.items b.reserved.items };
 }
 
 impl Bitmap {
@@ -50,6 +53,7 @@ impl Bitmap {
             blocks,
             group_blocks: power(natural_int(sup.ag_shift)),
             given: Vec::new(alloc),
+            reserved: Vec::new(alloc),
             last: 0,
             tally,
             tally_kept: tally,

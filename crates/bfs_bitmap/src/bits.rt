@@ -1,5 +1,5 @@
 // Bits in a slice of bytes, the lowest bit of a byte first.
-ghost use Rattle.std.specs.Prelude.{◌≡◌, ◌≤◌, ◌<◌, ◌+◌, ◌*◌, ◌/◌, ◌%◌, ◌==◌, ◌&&◌, ℕ, length, not, nat_le, nat_lt, ◌^◌, if◌then◌else◌, IsTrue, get_or};
+ghost use Rattle.std.specs.Prelude.{◌≡◌, ◌≤◌, ◌<◌, ◌+◌, ◌*◌, ◌/◌, ◌%◌, ◌==◌, ◌&&◌, ◌||◌, ℕ, length, not, nat_le, nat_lt, ◌^◌, if◌then◌else◌, IsTrue, get_or};
 ghost use Rattle.std.specs.Int.{bit_at};
 ghost use Rattle.bfs_bitmap.specs.Bits.{bit_of, is_clear, in_run, Fills, IsFirst};
 
@@ -113,14 +113,25 @@ pub fn fill_bits(bytes: &mut [u8], from: usize, to: usize, used: bool)
 
 /// Sets the bits of a run, as far as they are among those of the bytes, the first of which has the number `base`.
 pub fn mark_run(bytes: &mut [u8], base: u64, first: u64, len: u64)
-    requires base { base + 8 * length bytes.old < 2 ^ 62 }
-    requires run { first + len < 2 ^ 62 }
+    requires { base + 8 * length bytes.old < 2 ^ 62 }
     ensures { (i : ℕ) → i < 8 * length bytes.old → is_clear bytes.new i ≡ (is_clear bytes.old i && not (in_run first len (base + i))) }
 {
     let end = base + 8 * bytes.len() as u64;
     let from = first.max(base);
-    let to = (first + len).min(end);
+    let to = first.saturating_add(len).min(end);
     if from < to {
         fill_bits(bytes, (from - base) as usize, (to - base) as usize, true);
+    }
+}
+
+/// Clears the bits of a run, as far as they are among those of the bytes.
+pub fn clear_run(bytes: &mut [u8], first: u64, len: u64)
+    requires { 8 * length bytes.old < 2 ^ 62 }
+    ensures { (i : ℕ) → i < 8 * length bytes.old → is_clear bytes.new i ≡ (in_run first len i || is_clear bytes.old i) }
+{
+    let end = 8 * bytes.len() as u64;
+    let to = first.saturating_add(len).min(end);
+    if first < to {
+        fill_bits(bytes, first as usize, to as usize, false);
     }
 }

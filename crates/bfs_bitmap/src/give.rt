@@ -7,7 +7,9 @@ ghost use Rattle.bfs_bitmap.specs.Fills.{IsBitmapBlock, HasBitOf, IsTold};
 ghost use Rattle.bfs_txn.specs.Faults.{IsCaused};
 ghost use Rattle.bfs_txn.specs.Told.{StaysChanged};
 
-use crate::given::{drop_left, drop_unsettled, number_all, settle_all};
+use crate::bits::mark_run;
+use crate::given::{none_left, number_all, settle_all};
+use crate::reserved::{forget_left, forget_unsettled, get_bits};
 use crate::tally::lower_all;
 use crate::window::Window;
 use crate::{Bitmap, Given};
@@ -61,6 +63,10 @@ impl Bitmap {
         ensures err { OnErr result (self.new ≡ self.old) }
         ensures cause { IfErr result (λ fault. fault ≡ BlockFault.NoMemory) }
     {
+        match get_bits(&mut self.reserved, self.alloc, self.blocks) {
+            Ok(()) => {}
+            Err(_) => return Err(BlockFault::NoMemory),
+        }
         let given = Given {
             first,
             len,
@@ -69,6 +75,7 @@ impl Bitmap {
         };
         match self.given.push(given) {
             Ok(()) => {
+                mark_run(&mut self.reserved, 0, first, len);
                 self.tally.used = self.tally.used.saturating_sub(len);
                 Ok(())
             }
@@ -89,8 +96,8 @@ impl Bitmap {
         self.last = group;
     }
 
-    /// Frees the runs that were given back in groups up to this number. Takes no memory.
-    pub fn release(&mut self, group: u64)
+    // Frees the runs that were given back in groups up to this number, and goes over all that are given back for it.
+    fn release_some(&mut self, group: u64)
         ensures given { self.new ≡ record self.old { given = filter (λ g. not (is_left group g)) self.old.given; tally = lowered_by group self.old.given self.old.tally; tally_kept = lowered_by group self.old.given self.old.tally_kept } }
         ensures reserved { (k : ℕ) → is_reserved self.new.given k ≡ true → is_reserved self.old.given k ≡ true }
         ensures fits { (m : ℕ → Option (List ℕ)) → Fits self.old m → Fits self.new m }
@@ -98,7 +105,20 @@ impl Bitmap {
     {
         self.tally = lower_all(self.tally, &self.given, group);
         self.tally_kept = lower_all(self.tally_kept, &self.given, group);
-        drop_left(&mut self.given, group);
+        forget_left(&mut self.given, &mut self.reserved, group);
+    }
+
+    /// Frees the runs that were given back in groups up to this number. Takes no memory.
+    pub fn release(&mut self, group: u64)
+        ensures given { self.new ≡ record self.old { given = filter (λ g. not (is_left group g)) self.old.given; tally = lowered_by group self.old.given self.old.tally; tally_kept = lowered_by group self.old.given self.old.tally_kept } }
+        ensures reserved { (k : ℕ) → is_reserved self.new.given k ≡ true → is_reserved self.old.given k ≡ true }
+        ensures fits { (m : ℕ → Option (List ℕ)) → Fits self.old m → Fits self.new m }
+        ensures settled { IsSettled self.old → IsSettled self.new }
+    {
+        if none_left(&self.given, group) {
+            return;
+        }
+        self.release_some(group);
     }
 
     /// Keeps what was given back since a call was last kept or dropped. Takes no memory.
@@ -118,7 +138,7 @@ impl Bitmap {
         ensures reserved { (k : ℕ) → is_reserved self.new.given k ≡ true → is_reserved self.old.given k ≡ true }
         ensures settled { IsSettled self.new }
     {
-        drop_unsettled(&mut self.given);
+        forget_unsettled(&mut self.given, &mut self.reserved);
         self.tally = self.tally_kept;
     }
 }

@@ -6,6 +6,7 @@ ghost use Rattle.bfs_txn.specs.Faults.{IsCaused};
 
 use crate::Bitmap;
 use crate::bits::{first_bit, mark_run};
+use crate::reserved::cover;
 use bfs_txn::{BlockFault, Blocks};
 use std::alloc::{AllocError, Global};
 
@@ -38,15 +39,11 @@ impl Window {
 impl Bitmap {
     ghost use Rattle.bfs_bitmap.specs.Windows.{IsShown};
 
-    /// Sets the bits of the reserved blocks among those from `base` on.
-    fn reserve(&self, bytes: &mut [u8], base: u64)
-        requires { base + 8 * length bytes.old < 2 ^ 62 }
-        ensures { (i : ℕ) → i < 8 * length bytes.old → is_clear bytes.new i ≡ (is_clear bytes.old i && not (is_reserved self.now.given (base + i))) }
+    /// Sets the bits of the reserved blocks, where the bytes are those of the bitmap from one on.
+    fn reserve(&self, bytes: &mut [u8], at: u64)
+        ensures { (i : ℕ) → i < 8 * length bytes.old → is_clear bytes.new i ≡ (is_clear bytes.old i && not (is_reserved self.now.given (8 * at + i))) }
     {
-        for i in 0..self.given.len() {
-            let run = &self.given[i];
-            mark_run(bytes, base, run.first, run.len);
-        }
+        cover(bytes, &self.reserved, at as usize);
     }
 
     /// Reads a block of the bitmap, and sets the bits of reserved blocks and of those past the volume's end.
@@ -64,7 +61,7 @@ impl Bitmap {
         let bits = self.per_block();
         let base = bits * j;
         under.get(1 + j, bytes)?;
-        self.reserve(bytes, base);
+        self.reserve(bytes, base / 8);
         mark_run(bytes, base, self.blocks, bits);
         Ok(())
     }

@@ -3,22 +3,26 @@ use Rattle.bfs_bitmap.specs.declared.given.Given.{Given}
 use Rattle.bfs_bitmap.specs.Givens.{settled}
 use Rattle.bfs_bitmap.specs.Runs.{Room, AreKeptFirst, is_reserved}
 use Rattle.bfs_bitmap.proofs.Back.{fits_kept, settled_kept, AreAll, LiesIn, IsClosedBy, all_map, reserved-map}
+use Rattle.bfs_bitmap.proofs.Covered.{reserved_same}
 use Rattle.bfs_bitmap.proofs.Settled.{first_settled}
 use Rattle.bfs_bitmap.proofs.bitmap.Bitmap.keep.Goals as goal
 
 pub invariant_of-self : goal.invariant_of-self
-invariant_of-self c = record {
-  some_bytes = c.self.invariant.some_bytes;
-  few_bytes = c.self.invariant.few_bytes;
-  few_blocks = c.self.invariant.few_blocks;
-  some_group = c.self.invariant.some_group;
-  few_group = c.self.invariant.few_group;
-  tally = c.self.invariant.tally;
-  tally_kept = c.self.invariant.tally;
-  given = subst (AreAll (LiesIn c.self.inside.blocks)) (sym c.settle_all.ensures) (all_map (LiesIn c.self.inside.blocks) (LiesIn c.self.inside.blocks) settled c.self.inside.given.items (λ g h. h) c.self.invariant.given);
-  closed = subst (AreAll (IsClosedBy c.self.inside.last)) (sym c.settle_all.ensures) (all_map (IsClosedBy c.self.inside.last) (IsClosedBy c.self.inside.last) settled c.self.inside.given.items (λ g h. h) c.self.invariant.closed);
-  kept = subst AreKeptFirst (sym c.settle_all.ensures) (first_settled c.self.inside.given.items);
-}
+invariant_of-self c = (
+  record {
+    some_bytes = c.self.invariant.0.some_bytes;
+    few_bytes = c.self.invariant.0.few_bytes;
+    few_blocks = c.self.invariant.0.few_blocks;
+    some_group = c.self.invariant.0.some_group;
+    few_group = c.self.invariant.0.few_group;
+    tally = c.self.invariant.0.tally;
+    tally_kept = c.self.invariant.0.tally;
+    given = subst (AreAll (LiesIn c.self.inside.blocks)) (sym c.settle_all.ensures) (all_map (LiesIn c.self.inside.blocks) (LiesIn c.self.inside.blocks) settled c.self.inside.given.items (λ g h. h) c.self.invariant.0.given);
+    closed = subst (AreAll (IsClosedBy c.self.inside.last)) (sym c.settle_all.ensures) (all_map (IsClosedBy c.self.inside.last) (IsClosedBy c.self.inside.last) settled c.self.inside.given.items (λ g h. h) c.self.invariant.0.closed);
+    kept = subst AreKeptFirst (sym c.settle_all.ensures) (first_settled c.self.inside.given.items);
+  },
+  reserved_same c.self.inside.blocks c.self.inside.given.items c.settle_all.new.given.items c.self.inside.reserved.items (λ k. ap (λ (l : List Given). is_reserved l k) c.settle_all.ensures ∙ reserved-map (settled) c.self.inside.given.items k (λ g. refl) (λ g. refl)) c.self.invariant.1,
+)
 
 pub returns-clause-reserved : goal.returns-clause-reserved
 returns-clause-reserved c k =

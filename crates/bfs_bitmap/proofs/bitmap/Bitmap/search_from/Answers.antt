@@ -47,7 +47,7 @@ loop-at-preserved g c =
           let told_1 = c.loop-at.invariant.4 ∙ is in
           let told_2 = c.in-Ok-next.ensures.told ∙ told_1 in
           let shown_1 = c.in-Ok-next.ensures.shown m told_1 has now in
-          up_to_next c.args.self.now m c.args.start c.args.wanted c.args.longest c.in-Ok.low c.loop-at.at c.loop-at.free c.limit-limit.result c.in-Ok-next.end c.in-Ok-next-2.next (let some = c.self.invariant.some_group in omega arith) c.requires.some c.requires.order
+          up_to_next c.args.self.now m c.args.start c.args.wanted c.args.longest c.in-Ok.low c.loop-at.at c.loop-at.free c.limit-limit.result c.in-Ok-next.end c.in-Ok-next-2.next (let some = c.self.invariant.0.some_group in omega arith) c.requires.some c.requires.order
           (omega arith) c.limit-limit.ensures one.0 one.1 two.0 (grind arith) so_far (c.in-Ok-next.ensures.next m told_1 has now)
           (next_at c.args.self.now m c.in-Ok-next.end c.self.inside.blocks c.in-Ok-next.end c.args.self.now.blocks true c.in-Ok-next-2.next refl blocks_is (c.in-Ok-next-2.ensures.next m told_2 has shown_1)),
     )
@@ -60,7 +60,7 @@ returns-then-len-from-clause-answer g c m is has below shown =
     let so_far = c.loop-at.invariant.10 m is has below shown in
     let told_1 = c.loop-at.invariant.4 ∙ is in
     let one = c.in-Ok-next.ensures.bounds in (
-      long_enough c.args.self.now m c.args.wanted c.args.longest c.loop-at.at c.limit-limit.result c.in-Ok-next.end (let some = c.self.invariant.some_group in omega arith) c.limit-limit.ensures one.0 one.1 (so_far.here (omega arith))
+      long_enough c.args.self.now m c.args.wanted c.args.longest c.loop-at.at c.limit-limit.result c.in-Ok-next.end (let some = c.self.invariant.0.some_group in omega arith) c.limit-limit.ensures one.0 one.1 (so_far.here (omega arith))
           (c.in-Ok-next.ensures.next m told_1 has now) so_far.none,
       so_far.nothing,
     )

@@ -20,4 +20,4 @@ returns-clause-stretch g c m is has shown =
     let first = c.in-Ok.ensures.next m is has shown in
     let second = c.in-Ok-next.ensures.next m (c.in-Ok.ensures.told ∙ is) has (c.in-Ok.ensures.shown m is has shown) in
     let short : c.in-Ok-next.end - c.in-Ok.first < c.args.len = let e = c.from.ensures in omega (arith, e) in
-    stretch_short c.args.self.now m c.args.len c.args.at c.in-Ok.first c.limit-limit.result c.in-Ok-next.end (let some = c.self.invariant.some_group in omega arith) c.requires.some c.limit-limit.ensures two.1 short first.before second
+    stretch_short c.args.self.now m c.args.len c.args.at c.in-Ok.first c.limit-limit.result c.in-Ok-next.end (let some = c.self.invariant.0.some_group in omega arith) c.requires.some c.limit-limit.ensures two.1 short first.before second

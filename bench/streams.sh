@@ -14,12 +14,12 @@ work=$(mktemp -d)
 trap 'rm -rf "$work"' EXIT
 
 mkdir -p "$work/repo/crates/stream_bench/src" "$work/repo/crates/stream_bench/specs" "$work/repo/crates/stream_bench/proofs"
-for crate in bfs_bytes bfs_base bfs_super bfs_inode bfs_txn bfs_bitmap bfs_stream; do
+for crate in bfs_bytes bfs_base bfs_super bfs_inode bfs_txn bfs_bitmap bfs_stream bfs_growth bfs_cuts; do
     mkdir -p "$work/repo/crates/$crate"
     cp -r "$root/crates/$crate/src" "$root/crates/$crate/specs" "$root/crates/$crate/proofs" "$work/repo/crates/$crate/"
     grep "^$crate:" "$root/crates.txt" >>"$work/repo/crates.txt"
 done
-echo "stream_bench: bfs_stream bfs_bitmap bfs_inode bfs_txn bfs_super bfs_base bfs_bytes byteorder" >>"$work/repo/crates.txt"
+echo "stream_bench: bfs_growth bfs_cuts bfs_stream bfs_bitmap bfs_inode bfs_txn bfs_super bfs_base bfs_bytes byteorder" >>"$work/repo/crates.txt"
 bench=$work/repo/crates/stream_bench
 : >"$bench/specs/Lib.antt"
 : >"$bench/proofs/Lib.antt"
@@ -125,7 +125,7 @@ fn grow(stream: &mut Stream, bitmap: &mut Bitmap, group: &mut Changed, under: &m
 $held
 {
     let mut edits = Overlay::begin(group, under);
-    let grown = stream.grow(bitmap, &mut edits, PIECE).is_ok();
+    let grown = bfs_growth::grow(stream, bitmap, &mut edits, PIECE).is_ok();
     edits.keep();
     bitmap.keep();
     grown
@@ -136,7 +136,7 @@ fn cut(stream: &mut Stream, bitmap: &mut Bitmap, group: &mut Changed, under: &mu
 $held
 {
     let mut edits = Overlay::begin(group, under);
-    let gone = stream.trim(bitmap, &mut edits, blocks).is_ok();
+    let gone = bfs_cuts::trim(stream, bitmap, &mut edits, blocks).is_ok();
     edits.keep();
     bitmap.keep();
     gone

@@ -6,6 +6,7 @@ ghost use Rattle.bfs_stream.specs.Grown.{IsOfVolume};
 use crate::place_tests::superblock;
 use bfs_bitmap::Bitmap;
 use bfs_bytes::put_i64;
+use bfs_growth::grow;
 use bfs_stream::{GrowFault, Stream, StreamFault};
 use bfs_txn::{Changed, Edits, MemBlocks, Overlay};
 use std::alloc::{AllocError, Global};
@@ -51,11 +52,11 @@ pub(crate) fn by_turns<E: Edits>(
     ensures frame { E.frame edits.new ≡ E.frame edits.old }
 {
     for _ in 0..turns {
-        match first.grow(bitmap, edits, 1) {
+        match grow(first, bitmap, edits, 1) {
             Ok(()) => {}
             Err(fault) => return Err(fault),
         }
-        match second.grow(bitmap, edits, 1) {
+        match grow(second, bitmap, edits, 1) {
             Ok(()) => {}
             Err(fault) => return Err(fault),
         }
@@ -200,7 +201,7 @@ fn grown(
     let mut bitmap = Bitmap::of(alloc, &sup);
     let mut stream = Stream::at(alloc, 4, &sup);
     let mut edits = Overlay::begin(&mut open, &mut under);
-    let grown = stream.grow(&mut bitmap, &mut edits, blocks);
+    let grown = grow(&mut stream, &mut bitmap, &mut edits, blocks);
     edits.drop_call();
     Ok(grown)
 }

@@ -6,6 +6,8 @@ ghost use Rattle.bfs_stream.specs.Grown.{IsOfVolume};
 use crate::grow_tests::{by_turns, volume};
 use crate::place_tests::superblock;
 use bfs_bitmap::Bitmap;
+use bfs_cuts::trim;
+use bfs_growth::grow;
 use bfs_stream::Stream;
 use bfs_txn::{Changed, Edits, Overlay};
 use std::alloc::Global;
@@ -25,7 +27,7 @@ fn cut<E: Edits>(
     ensures size { E.size edits.new ≡ E.size edits.old }
     ensures frame { E.frame edits.new ≡ E.frame edits.old }
 {
-    match stream.trim(bitmap, edits, blocks) {
+    match trim(stream, bitmap, edits, blocks) {
         Ok(()) => {}
         Err(_) => return None,
     }
@@ -66,10 +68,10 @@ fn freed_between<E: Edits>(
     requires last { bitmap.old.last < 1 }
     ensures frame { E.frame edits.new ≡ E.frame edits.old }
 {
-    stream.grow(bitmap, edits, 1).ok()?;
+    grow(stream, bitmap, edits, 1).ok()?;
     bitmap.close_group(1);
     bitmap.release(1);
-    stream.grow(bitmap, edits, 1).ok()?;
+    grow(stream, bitmap, edits, 1).ok()?;
     let one = stream.block(edits, places[0]).ok()?;
     let two = stream.block(edits, places[1]).ok()?;
     Some([one, two])
@@ -175,7 +177,7 @@ fn cut_inside<E: Edits>(
     requires last { bitmap.old.last < 1 }
     ensures frame { E.frame edits.new ≡ E.frame edits.old }
 {
-    stream.grow(bitmap, edits, 50).ok()?;
+    grow(stream, bitmap, edits, 50).ok()?;
     let cuts = cuts(stream, bitmap, edits, [45, 40, 39, 38])?;
     let taken = freed_between(stream, bitmap, edits, [38, 39])?;
     Some((cuts, taken))

@@ -11,7 +11,7 @@ use Rattle.bfs_stream.specs.Places.{Levels, used_runs, level_blocks, run_blocks,
 use Rattle.bfs_stream.specs.Told.{contents}
 use Rattle.bfs_stream.specs.Grown.{Owns, UsesDouble, AreWritten, is_new}
 use Rattle.bfs_stream.specs.Trimmed.{HasNoEmpty, HasTrimmedTo}
-use Rattle.bfs_stream.proofs.CutsIndirect.{no_second, nothing_second}
+use Rattle.bfs_stream.proofs.Seconds.{no_second, nothing_second}
 use Rattle.bfs_stream.proofs.Emptied.{inode_alone, emptied}
 use Rattle.bfs_stream.proofs.Levels.{length-counted}
 use Rattle.bfs_stream.proofs.Placed.{length-places}

@@ -4,7 +4,7 @@ use Rattle.std.specs.Prelude.{◌==◌, IsSome}
 use Rattle.bfs_bitmap.specs.Runs.{Room, per_block}
 use Rattle.bfs_txn.specs.Told.{with_block}
 use Rattle.bfs_stream.specs.Grown.{IsOutside}
-use Rattle.bfs_stream.proofs.AddsDirect.{same_test}
+use Rattle.bfs_stream.proofs.Equal.{same_test}
 use Rattle.bfs_stream_pages.proofs.Writing.{is_equal}
 
 -- a block that was written, and the others

@@ -21,6 +21,7 @@ ghost use Rattle.bfs_make.specs.Sites.{stream_in};
 use crate::site::{Site, has_long_blocks};
 use bfs_bitmap::Bitmap;
 use bfs_bytes::Run;
+use bfs_cuts::trim;
 use bfs_inode::InodeMut;
 use bfs_stream::Stream;
 use bfs_super::Super;
@@ -164,7 +165,7 @@ fn strip<E: Edits>(
     ensures cause { IfErr result (IsCauseIn (E.counts edits.old) (E.counts edits.new)) }
 {
     let mut stream = Stream::at(site.alloc, id, &site.sup);
-    stream.trim(bitmap, edits, 0)
+    trim(&mut stream, bitmap, edits, 0)
 }
 
 /// Gives one block back.

@@ -23,6 +23,7 @@ use crate::making::{InodeForm, new_inode, run_start};
 use crate::site::{Site, has_long_blocks, has_short_blocks};
 use bfs_bitmap::Bitmap;
 use bfs_bytes::Run;
+use bfs_growth::grow;
 use bfs_stream::{GrowFault, Stream};
 use bfs_stream_pages::Backing;
 use bfs_txn::{BlockFault, Edits};
@@ -90,7 +91,7 @@ pub fn write_stream<E: Edits>(
     let len = bytes.len() as u64;
     let blocks = blocks_for(site.sup.block_size, len);
     let mut stream = Stream::at(site.alloc, id, &site.sup);
-    match stream.grow(bitmap, edits, blocks) {
+    match grow(&mut stream, bitmap, edits, blocks) {
         Ok(()) => {}
         Err(fault) => return Err(fault),
     }

@@ -19,6 +19,7 @@ ghost use Rattle.bfs_set_size.specs.Sized.{HasCutSince, HasCutTo};
 
 use bfs_bitmap::Bitmap;
 use bfs_calls::blocked;
+use bfs_cuts::trim;
 use bfs_moves::check_inode;
 use bfs_stream::Stream;
 use bfs_stream_pages::MapFault;
@@ -55,7 +56,7 @@ fn trim_stream<E: Edits>(
         Err(fault) => return Err(fault),
     }
     let mut stream = Stream::at(alloc, id, sup);
-    match stream.trim(bitmap, edits, blocks) {
+    match trim(&mut stream, bitmap, edits, blocks) {
         Ok(()) => Ok(()),
         Err(fault) => Err(blocked(fault)),
     }

@@ -21,6 +21,7 @@ ghost use Rattle.bfs_set_size.specs.Sized.{HasGrownSince, HasMore, HasRoomFor};
 use crate::fault::not_grown;
 use bfs_bitmap::Bitmap;
 use bfs_calls::blocked;
+use bfs_growth::grow;
 use bfs_moves::check_inode;
 use bfs_stream::{Stream, StreamFault};
 use bfs_stream_pages::MapFault;
@@ -101,7 +102,7 @@ fn grow_stream<E: Edits>(
         Err(fault) => return Err(fault),
     }
     let mut stream = Stream::at(alloc, id, sup);
-    match stream.grow(bitmap, edits, blocks) {
+    match grow(&mut stream, bitmap, edits, blocks) {
         Ok(()) => Ok(()),
         Err(fault) => Err(not_grown(id, fault)),
     }

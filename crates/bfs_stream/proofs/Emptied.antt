@@ -10,7 +10,7 @@ use Rattle.bfs_stream.specs.Grown.{UsesDouble}
 use Rattle.bfs_stream.specs.Trimmed.{HasNoEmpty, HasTrimmedTo}
 use Rattle.bfs_stream.proofs.Listed.{double_long}
 use Rattle.bfs_stream.proofs.Placed.{length-places}
-use Rattle.bfs_stream.proofs.CutsIndirect.{no_second, nothing_second}
+use Rattle.bfs_stream.proofs.Seconds.{no_second, nothing_second}
 
 no_run : (s : Sizes) (r : Run) → r.len ≡ 0 → run_blocks s r ≡ []
 no_run s r e = ap (counted_from (first_block s r)) e

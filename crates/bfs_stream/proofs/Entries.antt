@@ -1,22 +1,44 @@
 -- A run was written into a block of an array.
-use Rattle.std.proofs.Common.{◌≡◌, ◌≤◌, ◌<◌, ◌+◌, ◌*◌, ◌/◌, ◌%◌, ◌^◌, ◌∙◌, ℕ, List, [], length, set, Bool, true, false, cond, Option, Some, unwrap_or, refl, sym, ap, subst, arith, FitsSigned}
+use Rattle.std.proofs.Common.{◌≡◌, ◌≤◌, ◌<◌, ◌+◌, ◌*◌, ◌/◌, ◌%◌, ◌∙◌, ℕ, List, [], length, set, get_or, true, false, cond, refl, sym, ap, subst, arith, ◌^◌, Bool, Option, Some, unwrap_or, FitsSigned}
 use Rattle.std.specs.Prelude.{◌==◌, IsSome}
+use Rattle.std.proofs.Math.Nat.{div-add-mod, mod-lt, div-lt_iff_lt-mul}
+use Rattle.std.proofs.lemmas.Option.{get_or_from_slice_get}
+use Rattle.bfs_base.specs.Lists.{counted_from, times, Has}
+use Rattle.bfs_bytes.specs.declared.Run.{Run}
+use Rattle.bfs_inode.specs.Inode.{runs_in}
+use Rattle.bfs_inode.proofs.Runs.{length-runs_in, runs-put}
+use Rattle.bfs_stream.specs.Sizes.{Sizes, first_block, runs_per_block}
+use Rattle.bfs_stream.specs.Places.{run_blocks, array_runs}
+use Rattle.bfs_stream.proofs.Levels.{length-counted, counted_get}
+use Rattle.bfs_stream.proofs.Arrays.{array_is, block_runs, has_counted, read_is}
+use Rattle.bfs_stream.proofs.Appends.{set_flat}
 use Rattle.std.specs.Int.{w32}
 use Rattle.std.specs.Option.{option_map}
-use Rattle.std.proofs.Math.Nat.{div-lt_iff_lt-mul, mod-lt}
-use Rattle.bfs_base.specs.Lists.{times, Has}
-use Rattle.bfs_bytes.specs.declared.Run.{Run}
 use Rattle.bfs_bytes.specs.Fields.{Puts, run_bytes}
-use Rattle.bfs_inode.specs.Inode.{runs_in}
-use Rattle.bfs_inode.proofs.Runs.{runs-put}
 use Rattle.bfs_txn.specs.Told.{AreOfBlock, with_block}
-use Rattle.bfs_stream.specs.Sizes.{Sizes, first_block, runs_per_block}
-use Rattle.bfs_stream.specs.Places.{run_blocks}
 use Rattle.bfs_stream.specs.Told.{contents, AreTold}
 use Rattle.bfs_stream.specs.Grown.{HasPut}
-use Rattle.bfs_stream.proofs.Arrays.{has_counted, read_is}
-use Rattle.bfs_stream.proofs.Tables.{array_put}
-use Rattle.bfs_stream.proofs.AddsDirect.{same_test}
+use Rattle.bfs_stream.proofs.Equal.{same_test}
+
+-- a run was written at a place of an array: one block of it has changed, and there one run
+pub array_put : (s : Sizes) (old new : ℕ → List ℕ) (array : Run) (i : ℕ) (run : Run) → 0 < runs_per_block s → i / runs_per_block s < array.len
+    → ((k : ℕ) → first_block s array ≤ k → k < first_block s array + array.len → (k ≡ first_block s array + i / runs_per_block s → ⊥) → new k ≡ old k)
+    → runs_in (runs_per_block s) (new (first_block s array + i / runs_per_block s)) 0 ≡ set (runs_in (runs_per_block s) (old (first_block s array + i / runs_per_block s)) 0) (i % runs_per_block s) run
+    → array_runs s new array ≡ set (array_runs s old array) i run
+array_put s old new array i run some inside others here =
+    array_is s new array
+    ∙ set_flat (block_runs s old) (block_runs s new) (runs_per_block s) (counted_from (first_block s array) array.len) (i / runs_per_block s) (i % runs_per_block s) run
+    (λ j d h. length-runs_in (runs_per_block s) (old (get_or (counted_from (first_block s array) array.len) j d)) 0) (mod-lt i some) (omega (arith, length-counted (first_block s array) array.len))
+    (λ j d h apart.
+    let lt : j < array.len = omega (arith, length-counted (first_block s array) array.len, h) in
+    let at : get_or (counted_from (first_block s array) array.len) j d ≡ first_block s array + j = get_or_from_slice_get (counted_from (first_block s array) array.len) j (first_block s array + j) d (counted_get (first_block s array) array.len j lt) in
+    ap (block_runs s new) at ∙ ap (λ l. runs_in (runs_per_block s) l 0) (others (first_block s array + j) (omega arith) (omega arith) (λ e. apart (omega arith))) ∙ ap (block_runs s old) (sym at))
+    (λ d.
+    let at : get_or (counted_from (first_block s array) array.len) (i / runs_per_block s) d ≡ first_block s array + i / runs_per_block s =
+    get_or_from_slice_get (counted_from (first_block s array) array.len) (i / runs_per_block s) (first_block s array + i / runs_per_block s) d (counted_get (first_block s array) array.len (i / runs_per_block s) inside) in
+    ap (block_runs s new) at ∙ here ∙ ap (λ k. set (block_runs s old k) (i % runs_per_block s) run) (sym at))
+    ∙ ap (λ l. set l (runs_per_block s * (i / runs_per_block s) + i % runs_per_block s) run) (sym (array_is s old array))
+    ∙ ap (λ n. set (array_runs s old array) n run) (div-add-mod i (runs_per_block s))
 
 differ_test : (k x : ℕ) → (k ≡ x → ⊥) → (k == x) ≡ false
 differ_test k x apart = grind (arith, apart)

@@ -1,6 +1,6 @@
 -- What the ranges say of the double indirect level.
-use Rattle.std.proofs.Common.{◌≡◌, ◌≤◌, ◌<◌, ◌+◌, ◌-◌, ◌*◌, ◌/◌, ◌∙◌, ◌⊎◌, inl, inr, ℕ, List, length, get_or, Option, sym, ap, subst, arith}
-use Rattle.std.proofs.Math.Nat.{mul-div_cancel_left, mul_comm}
+use Rattle.std.proofs.Common.{◌≡◌, ◌<◌, ◌+◌, ◌-◌, ◌*◌, ◌/◌, ◌∙◌, ◌⊎◌, inl, inr, ℕ, List, length, get_or, Option, sym, ap, subst, arith}
+use Rattle.std.proofs.Math.Nat.{mul-div_cancel_left}
 use Rattle.bfs_base.specs.Lists.{times}
 use Rattle.bfs_stream.specs.Sizes.{Sizes, HasSizes, Origin, first_block, array_length, table_length}
 use Rattle.bfs_stream.specs.Places.{run_blocks, level_blocks, fields, places_at, frame_at}
@@ -12,7 +12,7 @@ use Rattle.bfs_stream.proofs.Named.{direct_blocks, indirect_blocks, double_block
 use Rattle.bfs_stream.proofs.Levels.{length-counted}
 use Rattle.bfs_stream.proofs.Arrays.{length-flat}
 use Rattle.bfs_stream.proofs.Placed.{AreEnds, ends_are, length-places, last_is}
-use Rattle.bfs_stream.proofs.AddsTable.{frame_parts}
+use Rattle.bfs_stream.proofs.Parts.{frame_parts}
 
 -- the level's own blocks are those between the two ranges
 own_is : (d i x D I X : ℕ) → d ≡ D → ((I ≡ 0) × (i ≡ 0)) ⊎ ((0 < I) × (i ≡ D + I)) → ((X ≡ 0) × (x ≡ 0)) ⊎ ((0 < X) × (x ≡ D + I + X)) → (0 < X → 0 < I) → x - i ≡ X
@@ -63,18 +63,3 @@ module _ (o : Origin) (m : ℕ → Option (List ℕ)) (stands : Stands o m) wher
 
 pub some_array : (s : Sizes) → 0 < array_length s
 some_array s = grind arith
-
--- where each table that the array has room for is full, the level has no room
-pub room_none : (o : Origin) (m : ℕ → Option (List ℕ)) → Stands o m → (used listed per : ℕ) → per ≡ table_length o.sizes → used ≡ length (double_runs o.sizes (contents m) o.id) → listed * per ≤ used → per ≤ listed → room_at o.sizes (contents m) o.id ≡ 0
-room_none o m stands used listed per per_is used_is full most =
-    by_numbers (array_length o.sizes) used listed per (table_length o.sizes) (length (double_blocks o.sizes (contents m) o.id)) per_is (double_long o m stands ∙ ap (λ (n : ℕ). array_length o.sizes * n) (sym used_is)) full most
-  where
-    times_le : (a x y : ℕ) → x ≤ y → a * x ≤ a * y
-    times_le a x y le = grind (arith, le)
-
-    by_numbers : (a used listed per p blocks : ℕ) → per ≡ p → blocks ≡ a * used → listed * per ≤ used → per ≤ listed → a * (p * p) - blocks ≡ 0
-    by_numbers a used listed per p blocks e f full most =
-        let one : per * per ≤ per * listed = times_le per per listed most in
-        let two : p * p ≤ used = subst (λ (n : ℕ). n * n ≤ used) e (omega (arith, one, mul_comm per listed, full)) in
-        let three : a * (p * p) ≤ a * used = times_le a (p * p) used two in
-        omega (arith, three, f)

@@ -1,5 +1,5 @@
 -- A run that was given back stands behind the others, and has no number.
-use Rattle.std.proofs.Common.{◌≡◌, List, [], ◌∷◌, ◌++◌, filter, Bool, true, false, cond, Option, None, ap, ◌∙◌}
+use Rattle.std.proofs.Common.{◌≡◌, List, [], ◌∷◌, ◌++◌, Bool, true, false, cond, Option, None, ap, ◌∙◌}
 use Rattle.std.specs.Prelude.{ℕ, is_some}
 use Rattle.bfs_bitmap.specs.declared.given.Given.{Given}
 use Rattle.bfs_bitmap.specs.Runs.{Room}

@@ -5,9 +5,9 @@ use Rattle.std.proofs.Math.Nat.{div-lt_iff_lt-mul}
 use Rattle.bfs_base.specs.Lists.{Has}
 use Rattle.bfs_bytes.specs.declared.Run.{Run}
 use Rattle.bfs_super.specs.Conditions.{natural}
-use Rattle.bfs_txn.specs.Told.{StaysChanged, with_number}
+use Rattle.bfs_txn.specs.Told.{with_number}
 use Rattle.bfs_txn.specs.Faults.{Counts, AreLater}
-use Rattle.bfs_bitmap.specs.Runs.{Room, per_block, first_of}
+use Rattle.bfs_bitmap.specs.Runs.{Room, first_of}
 use Rattle.bfs_bitmap.specs.Fills.{IsBitmapBlock, HasBitOf}
 use Rattle.bfs_inode.specs.Inode.{Inode, inode_at}
 use Rattle.bfs_stream.specs.Sizes.{Sizes, IsInVolume, first_block, runs_per_block}
@@ -77,19 +77,6 @@ bits_in_run s v run a b volume bits k e = by_side (bits k e)
         let at = first in
         inr (bit.0, has_counted (first_block s run) run.len bit.0 (omega (arith, low, at)) (omega (arith, high, at)), bit.3)
 
--- the bits of some blocks, and then of more of them
-pub bits_more : (v now : Room) (xs ys zs : List ℕ) (a b c : ℕ → Bool) → now ≡ record v { given = now.given; tally = now.tally } → xs ++ ys ≡ zs → ((k : ℕ) → b k ≡ true → (a k ≡ true) ⊎ HasBitIn v (Has xs) k) → ((k : ℕ) → c k ≡ true → (b k ≡ true) ⊎ HasBitIn now (Has ys) k)
-    → (k : ℕ) → c k ≡ true → (a k ≡ true) ⊎ HasBitIn v (Has zs) k
-bits_more v now xs ys zs a b c rest all one two k e = by_second (two k e)
-  where
-    by_first : (a k ≡ true) ⊎ HasBitIn v (Has xs) k → (a k ≡ true) ⊎ HasBitIn v (Has zs) k
-    by_first (inl before) = inl before
-    by_first (inr bit) = inr (bit.0, subst (λ (l : List ℕ). Has l bit.0) all (has_left xs ys bit.0 bit.1), bit.2)
-
-    by_second : (b k ≡ true) ⊎ HasBitIn now (Has ys) k → (a k ≡ true) ⊎ HasBitIn v (Has zs) k
-    by_second (inl before) = by_first (one k before)
-    by_second (inr bit) = inr (bit.0, subst (λ (l : List ℕ). Has l bit.0) all (has_right xs ys bit.0 bit.1), subst (λ (x : Room). k ≡ 1 + bit.0 / per_block x) rest bit.2)
-
 pub has_only : (k x : ℕ) → k ≡ x → Has (x ∷ []) k
 has_only k x e = subst (λ (n : ℕ). Has (x ∷ []) n) (sym e) (has_first x [])
 
@@ -108,14 +95,6 @@ number_set x a k e = by_test (k == x) refl e
     by_test : (t : Bool) → (k == x) ≡ t → (t || a k) ≡ true → (a k ≡ true) ⊎ (k ≡ x)
     by_test true is f = inr (grind (arith, is))
     by_test false is f = inl f
-
--- what was changed stays so where a block is set
-pub set_stays : (x : ℕ) (a b : ℕ → Bool) → ((k : ℕ) → b k ≡ with_number x a k) → StaysChanged a b
-set_stays x a b set k t = set k ∙ ap (λ (e : Bool). (k == x) || e) t ∙ or_true (k == x)
-  where
-    or_true : (e : Bool) → (e || true) ≡ true
-    or_true true = refl
-    or_true false = refl
 
 pub wrote_more : (B : ℕ → Type 0) (a b : ℕ → Bool) (xs ys : List ℕ) → ((k : ℕ) → Has xs k → Has ys k) → HasWritten B a b xs → HasWritten B a b ys
 wrote_more B a b xs ys more h k e = by_side (h k e)
@@ -189,38 +168,9 @@ put_written s array place first runs block a b c first_is runs_is some inside bl
     by_side (inl before) = inl (sym (ap (λ (f : ℕ → Bool). f k) same) ∙ before)
     by_side (inr is) = inr (has_counted (first_block s array) array.len k (omega (arith, is, block_is, first_is)) (omega (arith, is, block_is, first_is, below)))
 
--- one more block of an array was set
-pub clear_written : (s : Sizes) (array : Run) (first i : ℕ) (a b c : ℕ → Bool) → first ≡ first_block s array → i < array.len → ((k : ℕ) → b k ≡ true → (a k ≡ true) ⊎ Has (run_blocks s array) k) → ((k : ℕ) → c k ≡ with_number (first + i) b k)
-    → (k : ℕ) → c k ≡ true → (a k ≡ true) ⊎ Has (run_blocks s array) k
-clear_written s array first i a b c first_is low before set k e = by_side (number_set (first + i) b k (sym (set k) ∙ e))
-  where
-    by_side : (b k ≡ true) ⊎ (k ≡ first + i) → (a k ≡ true) ⊎ Has (run_blocks s array) k
-    by_side (inl h) = before k h
-    by_side (inr is) = inr (has_counted (first_block s array) array.len k (omega (arith, is, first_is)) (omega (arith, is, first_is, low)))
-
--- blocks of an array in the volume lie in the volume
-pub written_low : (s : Sizes) (array : Run) (a b : ℕ → Bool) → IsInVolume s array → ((k : ℕ) → b k ≡ true → (a k ≡ true) ⊎ Has (run_blocks s array) k) → (k : ℕ) → b k ≡ true → (a k ≡ true) ⊎ (k < s.blocks)
-written_low s array a b inside h k e = by_side (h k e)
-  where
-    by_side : (a k ≡ true) ⊎ Has (run_blocks s array) k → (a k ≡ true) ⊎ (k < s.blocks)
-    by_side (inl before) = inl before
-    by_side (inr has) = inr (run_low s array k inside has)
-
 -- the inode's other fields stay where nothing was written, and through two writes
 pub keeps_none : (bytes : List ℕ) → KeepsRest bytes bytes
 keeps_none bytes = (refl, refl, (refl, refl, refl))
 
 pub keeps_twice : (a b c : List ℕ) → KeepsRest a b → KeepsRest b c → KeepsRest a c
 keeps_twice a b c one two = (two.0 ∙ ap (λ (x : Inode). record x { stream_bytes = (inode_at c).stream_bytes }) one.0, two.1 ∙ one.1, (two.2.0 ∙ one.2.0, two.2.1 ∙ one.2.1, two.2.2 ∙ one.2.2))
-
--- a block of the volume was set, and then blocks with bits changed
-pub set_then_bits : (s : Sizes) (v : Room) (x y : ℕ) (a b c : ℕ → Bool) → x ≡ y → y < s.blocks → ((k : ℕ) → b k ≡ with_number x a k) → ((k : ℕ) → c k ≡ true → (b k ≡ true) ⊎ IsBitmapBlock v k) → (k : ℕ) → c k ≡ true → (a k ≡ true) ⊎ (IsBitmapBlock v k ⊎ (k < s.blocks))
-set_then_bits s v x y a b c same low set bits k e = by_bits (bits k e)
-  where
-    by_set : (a k ≡ true) ⊎ (k ≡ x) → (a k ≡ true) ⊎ (IsBitmapBlock v k ⊎ (k < s.blocks))
-    by_set (inl before) = inl before
-    by_set (inr is) = inr (inr (omega (arith, is, same, low)))
-
-    by_bits : (b k ≡ true) ⊎ IsBitmapBlock v k → (a k ≡ true) ⊎ (IsBitmapBlock v k ⊎ (k < s.blocks))
-    by_bits (inl before) = by_set (number_set x a k (sym (set k) ∙ before))
-    by_bits (inr bit) = inr (inl bit)

@@ -9,8 +9,8 @@ use Rattle.bfs_inode.specs.Inode.{Stream, KeepsOutside, stream_at, inode_at}
 use Rattle.bfs_txn.specs.Told.{StaysChanged, with_block}
 use Rattle.bfs_stream.specs.Sizes.{Sizes, Origin, IsWhole, array_length, table_length}
 use Rattle.bfs_stream.specs.Places.{run_blocks, blocks_of, array_runs, used_runs, fields, level_blocks, levels_at, places_at, frame_at, whole_at, second_arrays}
-use Rattle.bfs_stream.specs.declared.grow.Table.{Table}
-use Rattle.bfs_stream.specs.declared.grow.Tables.{Tables}
+use Rattle.bfs_stream.specs.declared.table.Table.{Table}
+use Rattle.bfs_stream.specs.declared.table.Tables.{Tables}
 use Rattle.bfs_stream.specs.Told.{contents, AreTold, Stands}
 
 -- the bitmap is of the same volume

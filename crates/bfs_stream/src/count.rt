@@ -12,7 +12,7 @@ use bfs_bytes::{Run, run_at};
 use bfs_txn::{BlockFault, Blocks};
 
 /// How many runs are used, among some that stand from a byte on and behind which more may follow.
-pub(crate) fn count_used(bytes: &[u8], at: usize, runs: usize) -> usize
+pub fn count_used(bytes: &[u8], at: usize, runs: usize) -> usize
     requires { at + 8 * runs ≤ length bytes.now }
     ensures few { result ≤ runs }
     ensures ends { result < runs → (more : List Run) → length (used_runs (runs_in runs bytes.now at ++ more)) ≡ result }

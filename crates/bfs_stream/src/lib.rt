@@ -3,18 +3,17 @@
 #![tactic(auto)]
 
 mod count;
-mod cut;
-mod drop;
 mod fault;
-mod grow;
 mod laws;
 mod lookup;
-mod next;
+mod put;
 mod scan;
 mod stream;
-mod trim;
+mod table;
 
+pub use count::count_used;
 pub use fault::{GrowFault, StreamFault};
 pub use laws::{emptied_streams, others_stay, others_stay_cut, streams_stay};
-pub use lookup::Ends;
+pub use lookup::{DIRECT, Ends};
 pub use stream::Stream;
+pub use table::{MOST_BLOCKS, NO_RUN, Table, Tables, less};

@@ -1,9 +1,9 @@
 // Looks one place up.
-ghost use Rattle.std.specs.Prelude.{◌≡◌, ◌<◌, ◌≤◌, ◌↔◌, IsTrue, ◌+◌, ◌*◌, ◌/◌, ◌%◌, ℕ, List, length, get_or, Option, Some, None, OnOk, OnErr, IfOk, IfErr, IsSome, max, slice_get, All};
+ghost use Rattle.std.specs.Prelude.{◌≡◌, ◌<◌, ◌≤◌, ◌↔◌, IsTrue, ◌+◌, ◌*◌, ◌/◌, ◌%◌, ℕ, List, length, Option, Some, None, OnErr, IfOk, IfErr, IsSome, max, slice_get, All};
 ghost use Rattle.std.specs.List.{flat_map};
 ghost use Rattle.bfs_inode.specs.Inode.{stream_at};
 ghost use Rattle.bfs_txn.specs.Faults.{AreLater};
-ghost use Rattle.bfs_stream.specs.Sizes.{Sizes, IsInVolume, IsWhole, HasSizes, array_length, runs_per_block};
+ghost use Rattle.bfs_stream.specs.Sizes.{IsInVolume, IsWhole, HasSizes, array_length, runs_per_block};
 ghost use Rattle.bfs_stream.specs.Places.{run_blocks, used_runs, array_runs, places_at, fields};
 ghost use Rattle.bfs_stream.specs.Told.{AreTold, Stands, contents};
 ghost use Rattle.bfs_stream.specs.Scans.{IsDamage, IsDamagedBy, IsBlamed, IsLevelRun, IsUsed, HasDouble, block_in, ends_of, last_end};
@@ -17,7 +17,7 @@ use bfs_inode::InodeView;
 use bfs_txn::{BlockFault, Blocks};
 
 /// Where the direct runs stand in an inode's block.
-pub(crate) const DIRECT: usize = 72;
+pub const DIRECT: usize = 72;
 
 /// Up to which block of the stream each level reaches, or 0.
 #[derive(Clone, Copy)]
@@ -38,7 +38,7 @@ impl Ends {
 
 impl Stream {
     /// The sizes are those of a volume.
-    pub(crate) fn sizes(&self)
+    pub fn sizes(&self)
         ensures sizes { HasSizes self.now.sizes }
         ensures inode { self.now.id < self.now.sizes.blocks }
     {
@@ -46,7 +46,7 @@ impl Stream {
     }
 
     /// The runs that stand in a block.
-    pub(crate) fn runs_per_block(&self) -> u64
+    pub fn runs_per_block(&self) -> u64
         ensures value { result ≡ runs_per_block self.now.sizes }
         ensures some { 128 ≤ result }
         ensures few { result ≤ 1024 }
@@ -56,7 +56,7 @@ impl Stream {
     }
 
     /// The blocks of an array.
-    pub(crate) fn array_length(&self) -> u64
+    pub fn array_length(&self) -> u64
         ensures value { result ≡ array_length self.now.sizes }
         ensures some { 1 ≤ result }
         ensures few { result ≤ 4 }
@@ -135,7 +135,7 @@ impl Stream {
     }
 
     /// The run at a place in an array under double indirect.
-    pub(crate) fn whole_run<B: Blocks>(
+    pub fn whole_run<B: Blocks>(
         &self,
         under: &mut B,
         bytes: &mut [u8],
@@ -232,7 +232,7 @@ impl Stream {
     }
 
     /// Up to which block each level reaches, by the ranges in the inode.
-    pub(crate) fn ends(&self, bytes: &[u8]) -> Ends
+    pub fn ends(&self, bytes: &[u8]) -> Ends
         requires { 1024 ≤ length bytes.now }
         ensures { result ≡ ends_of self.now.sizes (stream_at bytes.now) }
     {

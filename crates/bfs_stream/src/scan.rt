@@ -30,14 +30,14 @@ impl Stream {
     }
 
     /// Is it a run with blocks, all of the volume?
-    pub(crate) fn is_used(&self, run: Run) -> bool
+    pub fn is_used(&self, run: Run) -> bool
         ensures { IsTrue result ↔ ((0 < run.len) × IsInVolume self.now.sizes run) }
     {
         run.len != 0 && self.holds(run)
     }
 
     /// The first block of a run.
-    pub(crate) fn first_block(&self, run: Run) -> u64
+    pub fn first_block(&self, run: Run) -> u64
         requires { IsInVolume self.now.sizes run }
         ensures value { result ≡ first_block self.now.sizes run }
         ensures inside { result + run.len ≤ self.now.sizes.blocks }

@@ -1,7 +1,7 @@
 // A stream by its inode.
-ghost use Rattle.std.specs.Prelude.{◌≡◌, ◌≤◌, ◌<◌, ◌*◌, ◌^◌};
+ghost use Rattle.std.specs.Prelude.{◌≡◌, ◌≤◌, ◌<◌, ◌^◌, IfOk, length};
 ghost use Rattle.bfs_super.specs.Conditions.{IsValid, natural};
-ghost use Rattle.bfs_stream.specs.Sizes.{sizes_of, HasSizes, runs_per_block, array_length};
+ghost use Rattle.bfs_stream.specs.Sizes.{sizes_of, HasSizes};
 
 use bfs_super::Super;
 use std::alloc::{AllocError, Global};
@@ -44,6 +44,20 @@ impl Stream {
             blocks: natural_long(sup.num_blocks),
             group_blocks: power(natural_int(sup.ag_shift)),
         }
+    }
+
+    /// The block of its inode.
+    pub fn inode(&self) -> u64
+        ensures { result ≡ self.now.id }
+    {
+        self.inode
+    }
+
+    /// Room for a block, in zeros, where the stream takes its memory.
+    pub fn buffer(&self) -> Result<Vec<u8>, AllocError>
+        ensures { IfOk result (λ v. length v.items ≡ self.now.sizes.block_size) }
+    {
+        vec![in self.alloc; 0u8; self.block_size as usize]
     }
 }
 

@@ -1,5 +1,5 @@
 use Rattle.std.proofs.Common.{◌≡◌, ◌⊎◌, inl, inr, ◌∙◌, ℕ, Bool, ◌||◌, true, sym, ap, subst}
-use Rattle.bfs_stream.proofs.AddsDirect.{same_test}
+use Rattle.bfs_stream.proofs.Equal.{same_test}
 use Rattle.bfs_stream.proofs.Writes.{number_set}
 use Rattle.bfs_stream.specs.Sizes.{first_block, sizes_of}
 use Rattle.bfs_make.proofs.making.make_inode.Goals as goal

@@ -1,0 +1,15 @@
+pub mod Bounds
+pub mod Cuts
+pub mod Shorter
+pub mod CutsDirect
+pub mod Shrinks
+pub mod Cutting
+pub mod CutsIndirect
+pub mod CutsBelow
+pub mod Gives
+pub mod Handed
+pub mod Drops
+pub mod Dropping
+pub mod CutTwice
+pub mod Lasts
+pub mod Written

@@ -1,0 +1,54 @@
+use Rattle.std.proofs.Common.{◌≡◌, ◌<◌, ◌∙◌, ℕ, List, Bool, ap, subst, arith}
+use Rattle.std.specs.Prelude.{IfOk}
+use Rattle.bfs_bytes.specs.declared.Run.{Run}
+use Rattle.bfs_inode.specs.Inode.{stream_at}
+use Rattle.bfs_txn.specs.Told.{AreOfBlock}
+use Rattle.bfs_stream.specs.Places.{fields}
+use Rattle.bfs_stream.specs.Told.{contents}
+use Rattle.bfs_stream.specs.Trimmed.{HasCut}
+use Rattle.bfs_stream.proofs.Arrays.{read_is}
+use Rattle.bfs_stream.proofs.Placed.{told_inode}
+use Rattle.bfs_cuts.proofs.trimming.cut.Goals as goal
+
+pub returns-then-double_indirect-eq0-clause-trimmed : goal.returns-then-double_indirect-eq0-clause-trimmed
+returns-then-double_indirect-eq0-clause-trimmed g c m is owns may =
+    let o = c.args.stream.now in
+    let v = c.args.bitmap.now in
+    let id : c.inode-id.result ≡ o.id = c.inode-id.ensures in
+    let of : AreOfBlock (g.E.Blocks.told c.args.edits.now) o.id c.get.new.into = subst (λ (k : ℕ). AreOfBlock (g.E.Blocks.told c.args.edits.now) k c.get.new.into) id c.in-Ok.ensures.bytes in
+    let read = read_is m (g.E.Blocks.told c.args.edits.now) o.id c.get.new.into is (told_inode m o owns.stands) of in
+    let now_is = c.in-Ok.ensures.told ∙ is in
+    let array_is : c.double_indirect.result ≡ (fields o.sizes (contents m) o.id).double_indirect = c.double_indirect.ensures ∙ ap (λ (l : List ℕ). (stream_at l).double_indirect) (c.over.ensures ∙ read) in
+    let e : c.double_indirect.result.len ≡ (fields o.sizes (contents m) o.id).double_indirect.len = ap (λ (r : Run). r.len) array_is in
+    let zero = c.if-double_indirect-eq0.true in
+    let empty : (fields o.sizes (contents m) o.id).double_indirect.len ≡ 0 = omega (arith, e, zero) in
+    subst (λ (f : ℕ → Bool). IfOk c.cut_front.result (λ k. HasCut o v c.cut_front.new.bitmap m k (g.E.Blocks.told c.cut_front.new.edits) f (g.E.Blocks.changed c.cut_front.new.edits))) c.in-Ok.ensures.changed
+    (c.cut_front.ensures.trimmed m now_is owns empty may)
+
+pub returns-clause-trimmed : goal.returns-clause-trimmed
+returns-clause-trimmed g c m is owns may =
+    let o = c.args.stream.now in
+    let v = c.args.bitmap.now in
+    let id : c.inode-id.result ≡ o.id = c.inode-id.ensures in
+    let of : AreOfBlock (g.E.Blocks.told c.args.edits.now) o.id c.get.new.into = subst (λ (k : ℕ). AreOfBlock (g.E.Blocks.told c.args.edits.now) k c.get.new.into) id c.in-Ok.ensures.bytes in
+    let read = read_is m (g.E.Blocks.told c.args.edits.now) o.id c.get.new.into is (told_inode m o owns.stands) of in
+    let now_is = c.in-Ok.ensures.told ∙ is in
+    let array_is : c.double_indirect.result ≡ (fields o.sizes (contents m) o.id).double_indirect = c.double_indirect.ensures ∙ ap (λ (l : List ℕ). (stream_at l).double_indirect) (c.over.ensures ∙ read) in
+    let e : c.double_indirect.result.len ≡ (fields o.sizes (contents m) o.id).double_indirect.len = ap (λ (r : Run). r.len) array_is in
+    let zero = c.if-double_indirect-eq0.false in
+    let some : 0 < (fields o.sizes (contents m) o.id).double_indirect.len = omega (arith, e, zero) in
+    subst (λ (f : ℕ → Bool). IfOk c.cut_tables.result (λ k. HasCut o v c.cut_tables.new.bitmap m k (g.E.Blocks.told c.cut_tables.new.edits) f (g.E.Blocks.changed c.cut_tables.new.edits))) c.in-Ok.ensures.changed
+    (c.cut_tables.ensures.trimmed m now_is owns some may)
+
+pub returns-clause-done : goal.returns-clause-done
+returns-clause-done g c m is owns spare =
+    let o = c.args.stream.now in
+    let id : c.inode-id.result ≡ o.id = c.inode-id.ensures in
+    let of : AreOfBlock (g.E.Blocks.told c.args.edits.now) o.id c.get.new.into = subst (λ (k : ℕ). AreOfBlock (g.E.Blocks.told c.args.edits.now) k c.get.new.into) id c.in-Ok.ensures.bytes in
+    let read = read_is m (g.E.Blocks.told c.args.edits.now) o.id c.get.new.into is (told_inode m o owns.stands) of in
+    let now_is = c.in-Ok.ensures.told ∙ is in
+    let array_is : c.double_indirect.result ≡ (fields o.sizes (contents m) o.id).double_indirect = c.double_indirect.ensures ∙ ap (λ (l : List ℕ). (stream_at l).double_indirect) (c.over.ensures ∙ read) in
+    let e : c.double_indirect.result.len ≡ (fields o.sizes (contents m) o.id).double_indirect.len = ap (λ (r : Run). r.len) array_is in
+    let zero = c.if-double_indirect-eq0.false in
+    let some : 0 < (fields o.sizes (contents m) o.id).double_indirect.len = omega (arith, e, zero) in
+    c.cut_tables.ensures.done m now_is owns some spare

@@ -1,0 +1,17 @@
+pub mod Finish
+pub mod Directs
+pub mod Tables
+pub mod Opens
+pub mod AddsDirect
+pub mod AddsIndirect
+pub mod Cleared
+pub mod Zeros
+pub mod AddsArray
+pub mod AddsDouble
+pub mod AddsTable
+pub mod AddsRun
+pub mod Twice
+pub mod Stops
+pub mod Rooms
+pub mod Takes
+pub mod Written

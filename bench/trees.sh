@@ -11,12 +11,12 @@ trap 'rm -rf "$work"' EXIT
 
 # ours: a program crate in a copy of the crates that it stands on
 mkdir -p "$work/repo/crates/tree_bench/src" "$work/repo/crates/tree_bench/specs" "$work/repo/crates/tree_bench/proofs"
-for crate in bfs_bytes bfs_base bfs_node bfs_txn bfs_pages bfs_values bfs_insert bfs_remove bfs_range bfs_btree; do
+for crate in bfs_bytes bfs_base bfs_node bfs_txn bfs_pages bfs_values bfs_insert bfs_remove bfs_range; do
     mkdir -p "$work/repo/crates/$crate"
     cp -r "$root/crates/$crate/src" "$root/crates/$crate/specs" "$root/crates/$crate/proofs" "$work/repo/crates/$crate/"
     grep "^$crate:" "$root/crates.txt" >>"$work/repo/crates.txt"
 done
-echo "tree_bench: bfs_btree bfs_pages bfs_range bfs_values bfs_insert bfs_remove bfs_node bfs_txn bfs_base bfs_bytes byteorder" >>"$work/repo/crates.txt"
+echo "tree_bench: bfs_pages bfs_range bfs_values bfs_insert bfs_remove bfs_node bfs_txn bfs_base bfs_bytes byteorder" >>"$work/repo/crates.txt"
 bench=$work/repo/crates/tree_bench
 : >"$bench/specs/Lib.antt"
 : >"$bench/proofs/Lib.antt"
@@ -36,8 +36,11 @@ ghost use Rattle.std.specs.Prelude.{◌≡◌};
 ghost use Rattle.bfs_base.specs.Keys.{IsKey};
 ghost use Rattle.bfs_base.specs.declared.kind.KeyKind.TheVariants.{Text};
 
-use bfs_btree::{MemPages, find, insert, range, remove};
+use bfs_insert::insert;
 use bfs_node::{Header, KeyKind, blank, is_key};
+use bfs_pages::{MemPages, find};
+use bfs_range::range;
+use bfs_remove::remove;
 use bfs_txn::Steps;
 use std::alloc::{AllocError, Global};
 use std::io;
@@ -254,7 +257,7 @@ show() {
     # name, then the seconds of each
     awk -v name="$1" -v names="$names" 'function rate(s) { return s > 0 ? sprintf("%d", names / s) : "" } { t[$1] = $2 } END { printf "| %s | %s | %s | %s | %s |\n", name, rate(t["insert"]), rate(t["find"]), rate(t["range"]), rate(t["remove"]) }'
 }
-awk '/^(insert|find|range|remove) / { print $1, $2 / 1e9 }' "$work/ours" | show "bfs_btree over MemPages"
+awk '/^(insert|find|range|remove) / { print $1, $2 / 1e9 }' "$work/ours" | show "bfs over MemPages"
 [ -f "$work/map.out" ] && awk '/^(insert|find|range|remove) / { print $1, $2 / 1e9 }' "$work/map.out" | show "BTreeMap (rustc -O)"
 [ -f "$work/sqlite.out" ] && awk '/^Run Time/ { split("insert find range remove", word, " "); print word[++n], $4 }' "$work/sqlite.out" | show "SQLite in memory, one statement each"
 grep '^bytes ' "$work/ours" | awk '{ printf "\nThe tree has %.1f MiB of pages.\n", $2 / 1048576 }'

@@ -1,5 +1,5 @@
 -- A row is put into a leaf.
-use Rattle.std.proofs.Common.{◌≡◌, ◌≢◌, ◌-◌, ℕ, ℤ, List, length, insert, Some, Bool, true, false, cond, ◌==◌, refl, ap, sym, ◌∙◌, subst, arith}
+use Rattle.std.proofs.Common.{◌≡◌, ◌≢◌, ◌≤◌, ◌-◌, ℕ, ℤ, List, length, insert, Some, Bool, true, false, cond, ◌==◌, refl, ap, sym, ◌∙◌, subst, arith}
 use Rattle.bfs_base.specs.declared.kind.KeyKind.{KeyKind}
 use Rattle.bfs_base.specs.declared.kind.KeyKind.TheVariants.{Text, I32, U32, I64, U64, F32, F64}
 use Rattle.bfs_base.specs.Keys.{IsKey}
@@ -35,6 +35,16 @@ key-sought I64 key h = h
 key-sought U64 key h = h
 key-sought F32 key h = absurd h
 key-sought F64 key h = absurd h
+
+-- a key has at most 255 bytes
+pub key-short : (kind : KeyKind) (key : List ℕ) → IsKey kind key → length key ≤ 255
+key-short Text key h = h.1
+key-short I32 key h = omega (arith, h)
+key-short U32 key h = omega (arith, h)
+key-short I64 key h = omega (arith, h)
+key-short U64 key h = omega (arith, h)
+key-short F32 key h = absurd h
+key-short F64 key h = absurd h
 
 -- a page with a row more
 pub more-page : (kind : KeyKind) (page new : List ℕ) (i : ℕ) (k : Key) (v : ℤ) → IsPage kind page → IsKey kind k → HasLayout new → rows_of new ≡ insert (rows_of page) i (k, v) → IsPage kind new

@@ -1,10 +1,11 @@
 -- The way of a key down a tree that is made ready for its row.
-use Rattle.std.proofs.Common.{◌≡◌, ◌≤◌, ◌<◌, ◌+◌, ◌-◌, ℕ, ℤ, suc, List, length, Option, None, true, IsTrue, ◌==◌, ◌↔◌, ap, sym, subst, arith}
+use Rattle.std.proofs.Common.{◌≡◌, ◌≤◌, ◌<◌, ◌+◌, ◌-◌, ℕ, ℤ, suc, List, length, Option, None, true, IsTrue, ◌==◌, ◌↔◌, Some, refl, ap, sym, ◌∙◌, subst, arith, inl}
 use Rattle.bfs_base.specs.declared.kind.KeyKind.{KeyKind}
 use Rattle.bfs_node.specs.declared.fault.TreeFault.{TreeFault}
 use Rattle.bfs_node.specs.declared.fault.TreeFault.TheVariants.{Exists, Absent, Damaged, Pages, NoMemory}
 use Rattle.bfs_node.specs.declared.header.Header.{Header}
-use Rattle.bfs_pages.specs.Answers.{IsChild, IsSpared, IsOfPages}
+use Rattle.bfs_node.specs.Page.{rows_of}
+use Rattle.bfs_pages.specs.Answers.{IsChild, IsLeafFor, IsSpared, IsOfPages}
 use Rattle.bfs_insert.specs.Puts.{IsNotPut, IsTop, IsDown, IsWay, IsPut, HasRisen}
 use Rattle.bfs_pages.specs.Maps.{assoc, put}
 use Rattle.bfs_pages.specs.Order.{Key}
@@ -12,9 +13,9 @@ use Rattle.bfs_pages.specs.Shapes.{Shape, place, tree_rows}
 use Rattle.bfs_pages.specs.Trees.{IsTree, HasRows, IsTreeHeader, header_in, page_in, state_of}
 use Rattle.bfs_pages.specs.Writes.{SamePages}
 use Rattle.bfs_insert.specs.Divided.{IsRoomy}
-use Rattle.bfs_pages.specs.Ways.{under}
+use Rattle.bfs_pages.specs.Ways.{under, KeysAscend}
 use Rattle.bfs_insert.proofs.Calls.{reaches-root, reaches-next, inserts}
-use Rattle.bfs_pages.proofs.OfKind.{met-child}
+use Rattle.bfs_pages.proofs.OfKind.{met-child, found-in-leaf}
 use Rattle.bfs_pages.proofs.Way.{place-met}
 
 -- a stream with a tree has bytes
@@ -40,6 +41,15 @@ way-next kind b c n k at next left w some s = record {
   risen = subst (λ m. HasRisen b m) (sym s.levels) w.risen;
 }
 
+-- a leaf on the way of a key that has room: nothing is made ready
+pub way-there : (kind : KeyKind) (b : List ℕ) (k : Key) (at : ℕ) → IsTreeHeader kind (length b) (header_in b)
+    → ((reached : List ℕ) (t : Shape) (fs : List ℕ) → IsTree kind b reached t fs → place (under kind (state_of kind b).levels t k) ≡ at) → IsRoomy (page_in b at) → IsWay kind b b k at 0
+way-there kind b k at header way room = record {
+  reaches = λ loose t fs h some. (t, fs, (state_of kind b).levels, h, refl, some, omega arith, way loose t fs (record { header = header; holds = h }), room, λ x i. refl);
+  header = λ h. h;
+  risen = inl refl;
+}
+
 -- the tree that stands there by now, and how far down the page is
 pub way-tree : (kind : KeyKind) (b c : List ℕ) (k : Key) (at left : ℕ) (reached : List ℕ) (t : Shape) (fs : List ℕ) → IsWay kind b c k at left → IsTree kind b reached t fs
     → (t2 : Shape) × (fs2 : List ℕ) × (d : ℕ) × IsTree kind c reached t2 fs2 × (d + left ≡ (state_of kind c).levels) × (place (under kind d t2 k) ≡ at) × IsRoomy (page_in c at)
@@ -63,6 +73,18 @@ row-inserted kind b c n k v at reached t fs w p tree none =
       ),
       i.4,
     )
+
+-- a key that the leaf on its way doesn't have isn't there
+pub absent-there : (kind : KeyKind) (b reached : List ℕ) (t : Shape) (fs : List ℕ) (k : Key) (at : ℕ) (page : List ℕ) (o : Option ℤ) → IsTree kind b reached t fs → IsLeafFor kind b t k at page → (KeysAscend kind (rows_of page) → o ≡ assoc kind (rows_of page) k) → o ≡ None
+    → assoc kind (tree_rows t) k ≡ None
+absent-there kind b reached t fs k at page o tree leaf looked none = let p = found-in-leaf kind b reached t fs k at page tree.holds leaf in p.1 ∙ sym (looked p.0) ∙ none
+
+-- what isn't there is not there
+pub not-there : {A : Type 0} {X : Type 0} (o : Option A) (v : A) → o ≡ None → o ≡ Some v → X
+not-there {A = A} o v none some = absurd (none_some v (sym none ∙ some))
+  where
+    none_some : (v : A) → None ≡ Some v → ⊥
+    none_some v e = cc
 
 -- why no row was put
 pub spared-not_put : {F : Type 0} (kind : KeyKind) (t : Shape) (k : Key) (now : Option (List ℕ)) (fault : TreeFault F) → assoc kind (tree_rows t) k ≡ None → IsSpared now fault → IsNotPut kind t k now fault

@@ -1,5 +1,5 @@
 // Puts a row into a tree.
-ghost use Rattle.std.specs.Prelude.{◌≡◌, ◌≤◌, ◌<◌, ◌+◌, ◌-◌, ℕ, List, Some, None, length, OnOk, IfOk, IfErr, MatchResult};
+ghost use Rattle.std.specs.Prelude.{◌≡◌, ◌≤◌, ◌<◌, ◌+◌, ◌-◌, ℕ, ℤ, List, Some, None, length, OnOk, IfOk, IfErr, MatchResult};
 ghost use Rattle.bfs_base.specs.Keys.{IsTreeKind, IsKey};
 ghost use Rattle.bfs_node.specs.Search.{IsSought};
 ghost use Rattle.bfs_pages.specs.Answers.{IsChild, IsRefused, IsSpared, IsBlamed};
@@ -10,11 +10,11 @@ ghost use Rattle.bfs_pages.specs.Trees.{IsTree, HasRows, header_in};
 ghost use Rattle.bfs_pages.specs.Writes.{Makes, Kept, SamePages};
 ghost use Rattle.bfs_insert.specs.Puts.{IsWay, HasRisen};
 
-use crate::descend::step_down;
-use crate::putting::put_row;
+use crate::descend::{is_roomy, step_down};
+use crate::putting::{put_in_leaf, put_row};
 use crate::top::reach_top;
-use bfs_node::{KeyKind, TreeFault};
-use bfs_pages::find;
+use bfs_node::{KeyKind, PAGE, TreeFault};
+use bfs_pages::{leaf_for, look_up};
 use bfs_txn::{Pages, Steps};
 use std::sync::ledger::Ledger;
 
@@ -52,8 +52,9 @@ fn reach_leaf<P: Pages, L: Ledger>(
 }
 
 /// Puts a row into a tree: a key of the tree's kind, and a plain number. Where the key is there already, the answer is
-/// Exists and nothing changes. Each full page on the key's way is split before it is entered, so that a page above has
-/// room for the key between the halves. After another failure the stream may be half changed.
+/// Exists, nothing changes and pages are only read. A leaf that has room for a row with any key gets the row at once. Else each full
+/// page on the key's way is split before it is entered, so that a page above has room for the key between the halves. After
+/// another failure the stream may be half changed.
 pub fn insert<P: Pages, L: Ledger>(
     pages: &mut P,
     kind: KeyKind,
@@ -65,15 +66,26 @@ pub fn insert<P: Pages, L: Ledger>(
     requires key { IsKey kind key.now }
     ensures put { (b reached : List ℕ) (t : Shape) (fs : List ℕ) → P.told pages.old ≡ Some b → IsTree kind b reached t fs → MatchResult result (λ done. (c : List ℕ) × (P.told pages.new ≡ Some c) × HasRows kind c reached (put kind (tree_rows t) key.now value) × SamePages reached b c) (IsNotPut kind t key.now (P.told pages.new)) }
     ensures absent { (b reached : List ℕ) (t : Shape) (fs : List ℕ) → P.told pages.old ≡ Some b → IsTree kind b reached t fs → OnOk result (assoc kind (tree_rows t) key.now ≡ None) }
+    ensures there { (b reached : List ℕ) (t : Shape) (fs : List ℕ) (v : ℤ) → P.told pages.old ≡ Some b → IsTree kind b reached t fs → assoc kind (tree_rows t) key.now ≡ Some v → P.is_read pages.old pages.new }
     ensures levels { OnOk result (Makes (P.told pages.old) (P.told pages.new) (λ b c. HasRisen b (header_in c).levels)) }
     ensures refused { IfErr result (IsHindered kind (P.told pages.old) (P.told pages.new) (P.is_cause pages.old pages.new)) }
     ensures blamed { IfErr result (IsBlamed (P.told pages.new) (P.size pages.new) (P.last pages.new)) }
     ensures kept { Kept (P.counts pages.old) (P.counts pages.new) (P.frame pages.old) (P.frame pages.new) (P.goes_on pages.old pages.new) }
 {
-    match find(pages, kind, key, steps) {
-        Ok(Some(_)) => return Err(TreeFault::Exists),
-        Ok(None) => {}
+    let mut page = [0u8; PAGE];
+    let leaf = match leaf_for(pages, kind, key, &mut page, steps) {
+        Ok(leaf) => leaf,
         Err(fault) => return Err(fault),
+    };
+    match look_up(&page, kind, key) {
+        Some(_) => return Err(TreeFault::Exists),
+        None => {}
+    }
+    if is_roomy(&page) {
+        return match put_in_leaf(pages, kind, key, value, leaf, &mut page) {
+            Ok(()) => Ok(()),
+            Err(fault) => Err(fault),
+        };
     }
     let at = match reach_leaf(pages, kind, key, steps) {
         Ok(at) => at,

@@ -13,5 +13,5 @@ pub use descend::{is_roomy, step_down};
 pub use divide::{divide_interior, divide_leaf, middle_of, put_bound};
 pub use halves::{Places, write_halves};
 pub use inserting::insert;
-pub use putting::put_row;
+pub use putting::{put_in_leaf, put_row};
 pub use top::{Top, reach_top};

@@ -3,8 +3,11 @@ ghost use Rattle.std.specs.Prelude.{◌≡◌, ◌≤◌, ◌<◌, length};
 ghost use Rattle.bfs_base.specs.Keys.{IsTreeKind, IsKey};
 ghost use Rattle.bfs_node.specs.Search.{IsSought};
 
-use crate::{MemPages, Ranged, insert, range, remove};
+use bfs_insert::insert;
 use bfs_node::{Header, KeyKind, TreeFault, blank, data_type, is_key};
+use bfs_pages::MemPages;
+use bfs_range::{Ranged, range};
+use bfs_remove::remove;
 use bfs_txn::Steps;
 use std::alloc::{AllocError, Global};
 use std::marker::Brand;

@@ -3,11 +3,13 @@ ghost use Rattle.std.specs.Prelude.{◌≡◌, ◌≤◌};
 ghost use Rattle.bfs_base.specs.Keys.{IsKey};
 ghost use Rattle.bfs_base.specs.declared.kind.KeyKind.TheVariants.{Text};
 
-use crate::{Found, MemPages, find, insert, remove};
+use bfs_insert::insert;
 use bfs_node::{
     Header, KeyKind, TreeFault, blank, has_room, insert_row, left_link, overflow_link, right_link,
     row_count, set_left_link, set_overflow_link, set_right_link,
 };
+use bfs_pages::{Found, MemPages, find};
+use bfs_remove::remove;
 use bfs_txn::Steps;
 use std::alloc::AllocError;
 use std::marker::Brand;

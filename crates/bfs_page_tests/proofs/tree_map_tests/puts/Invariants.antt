@@ -1,4 +1,4 @@
-use Rattle.bfs_btree.proofs.map_tests.puts.Given as goal
+use Rattle.bfs_page_tests.proofs.tree_map_tests.puts.Given as goal
 
 abbrev pub ghosts-put : goal.ghosts-put
 ghosts-put a = record { name = a.ledger.name; parts = a.ledger.parts }

@@ -1,4 +1,4 @@
-use Rattle.bfs_btree.proofs.map_tests.takes.Given as goal
+use Rattle.bfs_page_tests.proofs.tree_map_tests.takes.Given as goal
 
 abbrev pub ghosts-take : goal.ghosts-take
 ghosts-take a = record { name = a.ledger.name; parts = a.ledger.parts }

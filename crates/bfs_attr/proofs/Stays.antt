@@ -15,7 +15,7 @@ use Rattle.bfs_stream.specs.Sizes.{Origin, first_block}
 use Rattle.bfs_stream.specs.Places.{Levels, levels_at, arrays_of, places_of, places_at, frame_at, whole_at, HasLevels}
 use Rattle.bfs_stream.specs.Told.{contents}
 use Rattle.bfs_stream.specs.Grown.{IsOutside, AreWritten, is_new}
-use Rattle.bfs_stream.proofs.AddsDirect.{same_test}
+use Rattle.bfs_stream.proofs.Equal.{same_test}
 use Rattle.bfs_stream.proofs.Doubles.{times-append}
 use Rattle.bfs_stream.proofs.Finish.{free_same, marked_same, fits_same, counted_same}
 use Rattle.bfs_stream.proofs.Frames.{has_first, has_left, agree_left, levels_same}

@@ -28,6 +28,7 @@ use bfs_stream_pages::MapFault;
 use bfs_super::Super;
 use bfs_txn::Blocks;
 use std::alloc::{AllocError, Global};
+use thiserror::Error;
 
 /// Where the attribute directory of an inode is: there is none; its inode is this block; or the inode names no block of the
 /// volume.
@@ -125,9 +126,11 @@ pub enum Pushed {
 }
 
 /// Why inodes that rows name were not had: one names no block of the volume; or there is no memory for them.
-#[derive(Clone, Copy, Debug, PartialEq, Eq)]
+#[derive(Clone, Copy, Debug, PartialEq, Eq, Error)]
 pub enum Shortage {
+    #[error("a row names no block of the volume")]
     Unsound,
+    #[error("no memory was found")]
     NoMemory,
 }
 

@@ -32,7 +32,7 @@ put_fault_row : (o : Origin) (v : Room) (m : ℕ → Option (List ℕ)) (rows : 
 put_fault_row o v m rows key Exists none h = none h.0 h.1
 put_fault_row o v m rows key Absent none h = h
 put_fault_row o v m rows key (Damaged page sort) none h = h
-put_fault_row o v m rows key (Pages fault) none h = h
+put_fault_row o v m rows key (Pages fault) none h = h.0
 put_fault_row o v m rows key NoMemory none h = h
 
 pub row_fault : {T : Type 0} (o : Origin) (v : Room) (m : ℕ → Option (List ℕ)) (rows : List Row) (key : Key) (r : Result T (TreeFault GrowFault)) → ((value : ℤ) → assoc Text rows key ≡ Some value → ⊥) → IfErr r (IsPutFault Text o v m rows key) → IfErr r (IsRowFault o v m)

@@ -90,7 +90,7 @@ pub put_unanswered : (o : Origin) (v : Room) (m : ℕ → Option (List ℕ)) (ro
 put_unanswered o v m rows name directory tree.Exists none there = let bad : Some there.0 ≡ None = sym there.1 ∙ none in absurd cc
 put_unanswered o v m rows name directory tree.Absent none bad = bad
 put_unanswered o v m rows name directory (tree.Damaged page sort) none bad = bad
-put_unanswered o v m rows name directory (tree.Pages f) none why = failed_unanswered o v m f why
+put_unanswered o v m rows name directory (tree.Pages f) none why = failed_unanswered o v m f why.0
 put_unanswered o v m rows name directory tree.NoMemory none why = tt
 
 pub put_cause : (old new : Counts) (directory : ℕ) (f : TreeFault GrowFault) → HasPutCause old new f → HasAnswerCause old new (put_fault directory f)

@@ -1,5 +1,5 @@
 -- What calls on the pages of a tree's stream come to for the volume.
-use Rattle.std.proofs.Common.{◌≡◌, ◌∙◌, inl, ℕ, List, Bool, Option, Some, None, refl, sym, ap, subst, inr, ◌⊎◌, ◌&&◌, is_some, true, false}
+use Rattle.std.proofs.Common.{◌≡◌, ◌∙◌, inl, ℕ, ℤ, List, Bool, Option, Some, None, refl, sym, ap, subst, inr, ◌⊎◌, ◌&&◌, is_some, true, false}
 use Rattle.std.specs.Option.{option_map}
 use Rattle.std.specs.Prelude.{Result, Ok, Err, OnOk, IfOk, IfErr, MatchResult, IsSome, IfSome}
 use Rattle.bfs_base.specs.declared.kind.KeyKind.{KeyKind}
@@ -12,6 +12,7 @@ use Rattle.bfs_txn.specs.Faults.{Counts}
 use Rattle.bfs_txn.specs.Told.{StaysChanged}
 use Rattle.bfs_insert.specs.Puts.{IsHindered}
 use Rattle.bfs_pages.specs.Answers.{IsOfPages, IsOfKind}
+use Rattle.bfs_pages.specs.Maps.{assoc}
 use Rattle.bfs_pages.specs.Order.{Key}
 use Rattle.bfs_stream.specs.Faults.{IsGrowCause}
 use Rattle.bfs_stream.specs.Grown.{AreWritten}
@@ -148,12 +149,12 @@ both P Q S R (Err e) is also f = f e is also
 
 -- the faults of a call that puts, over a map
 pub put_fault : (kind : KeyKind) (o : Origin) (v : Room) (m : ℕ → Option (List ℕ)) (rows : List Row) (k : Key) (told now : Option (List ℕ)) (cause : GrowFault → Type 0) (fault : TreeFault GrowFault)
-    → IsNotPut kind rows k fault → IsHindered kind told now cause fault → ((f : GrowFault) → cause f → HasFailed o v m f) → IsPutFault kind o v m rows k fault
-put_fault kind o v m rows k told now cause Exists is why from = is
-put_fault kind o v m rows k told now cause Absent is why from = is
-put_fault kind o v m rows k told now cause (Damaged page sort) is why from = is
-put_fault kind o v m rows k told now cause (Pages f) is why from = from f why
-put_fault kind o v m rows k told now cause NoMemory is why from = tt
+    → IsNotPut kind rows k fault → IsHindered kind told now cause fault → ((f : GrowFault) → cause f → HasFailed o v m f) → ((value : ℤ) → assoc kind rows k ≡ Some value → (f : GrowFault) → cause f → IsUndamaged f) → IsPutFault kind o v m rows k fault
+put_fault kind o v m rows k told now cause Exists is why from fine = is
+put_fault kind o v m rows k told now cause Absent is why from fine = is
+put_fault kind o v m rows k told now cause (Damaged page sort) is why from fine = is
+put_fault kind o v m rows k told now cause (Pages f) is why from fine = (from f why, λ value there. fine value there f why)
+put_fault kind o v m rows k told now cause NoMemory is why from fine = tt
 
 pub take_fault : (kind : KeyKind) (rows : List Row) (k : Key) (told now : Option (List ℕ)) (cause : GrowFault → Type 0) (fault : TreeFault GrowFault)
     → IsNotTaken kind rows k fault → IsTurnedAway kind told now cause fault → ((f : GrowFault) → cause f → IsUndamaged f) → IsTakeFault kind rows k fault

@@ -64,12 +64,13 @@ IsNotTaken kind rows key (Damaged page sort) = ⊥
 IsNotTaken kind rows key (Pages fault) = Unit {0}
 IsNotTaken kind rows key NoMemory = ⊥
 
--- a number wasn't put into a map: its key is there; or a block could not be had, or a page added, for a reason
+-- A number wasn't put into a map: its key is there; or a block could not be had, or a page added, for a reason. Where the key is
+-- there, no page was to be added: a block could not be had, and none is damaged.
 abbrev pub IsPutFault : KeyKind → Origin → Room → (ℕ → Option (List ℕ)) → List Row → Key → TreeFault GrowFault → Type 0
 IsPutFault kind o v m rows key Exists = (value : ℤ) × (assoc kind rows key ≡ Some value)
 IsPutFault kind o v m rows key Absent = ⊥
 IsPutFault kind o v m rows key (Damaged page sort) = ⊥
-IsPutFault kind o v m rows key (Pages fault) = HasFailed o v m fault
+IsPutFault kind o v m rows key (Pages fault) = HasFailed o v m fault × ((value : ℤ) → assoc kind rows key ≡ Some value → IsUndamaged fault)
 IsPutFault kind o v m rows key NoMemory = Unit {0}
 
 -- a row wasn't taken out of a map: its key isn't there; or a block could not be had, and none is damaged

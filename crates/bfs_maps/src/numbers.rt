@@ -1,5 +1,5 @@
 // The calls on a tree of pages whose values are plain numbers.
-ghost use Rattle.std.specs.Prelude.{◌≡◌, ◌≤◌, ◌<◌, ◌^◌, ℕ, pos, List, length, Some, None, OnOk, IfOk, IfErr, IfSome, MatchResult};
+ghost use Rattle.std.specs.Prelude.{◌≡◌, ◌≤◌, ◌<◌, ◌^◌, ℕ, ℤ, pos, List, length, Some, None, OnOk, IfOk, IfErr, IfSome, MatchResult};
 ghost use Rattle.bfs_base.specs.Keys.{IsKey, IsTreeKind};
 ghost use Rattle.bfs_node.specs.Search.{IsSought};
 ghost use Rattle.bfs_txn.specs.Faults.{AreLater};
@@ -91,6 +91,7 @@ pub(crate) fn put_in<P: Pages, L: Ledger>(
     requires number { number < 2 ^ 62 }
     ensures put { (b : List ℕ) → P.told pages.old ≡ Some b → IsNumberTree kind b → MatchResult result (λ done. IsTold (P.told pages.new) (IsTreeOf kind (put kind (rows_in kind b) key.now (pos number)))) (IsNotPut kind (rows_in kind b) key.now) }
     ensures absent { (b : List ℕ) → P.told pages.old ≡ Some b → IsNumberTree kind b → OnOk result (assoc kind (rows_in kind b) key.now ≡ None) }
+    ensures there { (b : List ℕ) (value : ℤ) → P.told pages.old ≡ Some b → IsNumberTree kind b → assoc kind (rows_in kind b) key.now ≡ Some value → P.is_read pages.old pages.new }
     ensures refused { IfErr result (IsHindered kind (P.told pages.old) (P.told pages.new) (P.is_cause pages.old pages.new)) }
     ensures blamed { IfErr result (IsBlamed (P.told pages.new) (P.size pages.new) (P.last pages.new)) }
     ensures kept { Kept (P.counts pages.old) (P.counts pages.new) (P.frame pages.old) (P.frame pages.new) (P.goes_on pages.old pages.new) }

@@ -57,7 +57,7 @@ pub undone_put : (o : Origin) (v now : Room) (m map : ℕ → Option (List ℕ))
 undone_put o v now m map rows name moved fault.Exists bad = absurd bad
 undone_put o v now m map rows name moved fault.Absent bad = absurd bad
 undone_put o v now m map rows name moved (fault.Damaged page sort) bad = absurd bad
-undone_put o v now m map rows name moved (fault.Pages f) fine = failed_of o v now m map moved f fine
+undone_put o v now m map rows name moved (fault.Pages f) fine = (failed_of o v now m map moved f fine, λ value there. fine)
 undone_put o v now m map rows name moved fault.NoMemory fine = tt
 
 -- the inode of a stream that was changed is told

@@ -10,7 +10,7 @@ use Rattle.bfs_stream.specs.Told.{contents, AreTold, Stands}
 use Rattle.bfs_stream.specs.declared.fault.GrowFault.{GrowFault}
 use Rattle.bfs_stream.proofs.Doubles.{times-append}
 use Rattle.bfs_stream.proofs.Frames.{has_first, has_rest, levels_same}
-use Rattle.bfs_stream.proofs.AddsDirect.{same_test}
+use Rattle.bfs_stream.proofs.Equal.{same_test}
 use Rattle.bfs_stream.proofs.Writes.{number_set}
 use Rattle.bfs_stream_pages.specs.Steps.{HasFilled, IsToldTo, IsToldWhole, IsUndamaged}
 use Rattle.bfs_stream_pages.specs.MovesLaws.{stays_set}

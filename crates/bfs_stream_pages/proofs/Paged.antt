@@ -195,6 +195,9 @@ failed_block fixed failed fault unfailed is e = absurd (not_both (sym (λ i. e i
     not_both : true ≡ false → ⊥
     not_both bad = cc
 
+pub noted_block : (failed : Option GrowFault) (noted fault : GrowFault) → failed ≡ Some noted → failed ≡ None → IsOfBlock fault
+noted_block failed noted fault is none = absurd (let bad : None ≡ Some noted = sym none ∙ is in cc)
+
 pub open_block : (fixed : Bool) (fault : GrowFault) → fixed ≡ false → fixed ≡ true → IsOfBlock fault
 open_block fixed fault open_now e = absurd (not_both (sym e ∙ open_now))
   where

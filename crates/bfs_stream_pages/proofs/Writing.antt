@@ -15,7 +15,7 @@ use Rattle.bfs_stream.specs.Places.{Levels, levels_at, arrays_at, places_at, fra
 use Rattle.bfs_stream.specs.Told.{contents, AreTold}
 use Rattle.bfs_stream.proofs.Doubles.{times-append}
 use Rattle.bfs_stream.proofs.Frames.{has_first, has_rest, has_left, has_right, levels_same, levels_but}
-use Rattle.bfs_stream.proofs.AddsDirect.{same_test}
+use Rattle.bfs_stream.proofs.Equal.{same_test}
 use Rattle.bfs_stream.proofs.Writes.{wrote_set, wrote_more}
 use Rattle.bfs_stream_pages.specs.Held.{Held}
 use Rattle.bfs_stream_pages.specs.Moves.{KeepsInode}

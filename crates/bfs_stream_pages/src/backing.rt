@@ -20,6 +20,7 @@ ghost use Rattle.bfs_stream_pages.specs.Causes.{HasFailed, IsOfBlock};
 ghost use Rattle.bfs_stream_pages.specs.Steps.{IsUndamaged, HasFilled, IsToldWhole, HasRoom, HasWritten, HasSize, HasAdded};
 
 use bfs_bitmap::Bitmap;
+use bfs_growth::grow;
 use bfs_inode::InodeMut;
 use bfs_stream::{GrowFault, Stream, StreamFault};
 use bfs_super::Super;
@@ -185,7 +186,7 @@ impl Backing {
             Err(StreamFault::PastEnd { .. }) => {}
             Err(StreamFault::Block(fault)) => return Err(GrowFault::Block(fault)),
         }
-        match self.stream.grow(bitmap, edits, 1) {
+        match grow(&mut self.stream, bitmap, edits, 1) {
             Ok(()) => {}
             Err(fault) => return Err(fault),
         }

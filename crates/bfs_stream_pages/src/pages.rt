@@ -18,7 +18,7 @@ use std::sync::ledger::Ledger;
 /// One stream of a volume as pages of 1,024 bytes, over the blocks and the bitmap of that volume. A page that is added behind
 /// the last block makes the stream grow. Where it can't be added, nothing is known of the stream any more, each later call
 /// answers the fault of that one again, and the caller gives up what was changed. Fixed pages are for a caller that adds none:
-/// none can be added to them, and each of their faults is of a block.
+/// none can be added to them, and each of their faults is of a block. So is each fault of pages to which none failed to be added.
 pub struct StreamPages<'a, 'b, E: Edits> {
     edits: &'a mut E,
     bitmap: &'b mut Bitmap,
@@ -129,7 +129,7 @@ impl<E: Edits> Pages for StreamPages<'_, '_, E> {
 
     ghost is_read = { λ p q. (q.backing ≡ p.backing) × (q.start.value ≡ p.start.value) × (E.frame q.edits.now ≡ E.frame p.edits.now) × (q.edits.ghost_name ≡ p.edits.ghost_name) × (q.bitmap.ghost_name ≡ p.bitmap.ghost_name) × IsRead p.bitmap.now q.bitmap.now p.length q.length (E.told p.edits.now) (E.told q.edits.now) p.failed q.failed (E.changed p.edits.now) (E.changed q.edits.now) (E.pairs p.edits.now) (E.pairs q.edits.now) (E.counts p.edits.now) (E.counts q.edits.now) × (q.fixed ≡ p.fixed) };
 
-    ghost is_cause = { λ p q fault. IsPageCause p.backing p.bitmap.now p.length (known p.failed (E.told p.start.value) (E.told p.edits.now)) p.failed (E.counts p.edits.now) (E.counts q.edits.now) fault × (p.fixed ≡ true → IsOfBlock fault) };
+    ghost is_cause = { λ p q fault. IsPageCause p.backing p.bitmap.now p.length (known p.failed (E.told p.start.value) (E.told p.edits.now)) p.failed (E.counts p.edits.now) (E.counts q.edits.now) fault × (p.fixed ≡ true → IsOfBlock fault) × (q.failed ≡ None → IsOfBlock fault) };
 
     ghost goes_on_same = { λ p. (refl, refl, goes_same p.backing p.bitmap.now p.length (known p.failed (E.told p.start.value) (E.told p.edits.now)) p.failed (E.changed p.edits.now) (E.counts p.edits.now), refl) };
 
@@ -141,7 +141,7 @@ impl<E: Edits> Pages for StreamPages<'_, '_, E> {
 
     ghost is_read_on = { λ p q a. (a.0, a.2, read_goes p.backing p.bitmap.now q.bitmap.now p.length q.length (E.told p.start.value) (E.told q.start.value) (E.told p.edits.now) (E.told q.edits.now) p.failed q.failed (E.changed p.edits.now) (E.changed q.edits.now) (E.pairs p.edits.now) (E.pairs q.edits.now) (E.counts p.edits.now) (E.counts q.edits.now) (ap (λ (e : E). E.told e) a.1) a.5, a.6) };
 
-    ghost is_cause_before = { λ p q r fault a b. (cause_before p.backing p.bitmap.now q.bitmap.now p.length q.length (known p.failed (E.told p.start.value) (E.told p.edits.now)) (known q.failed (E.told q.start.value) (E.told q.edits.now)) p.failed q.failed (E.changed p.edits.now) (E.changed q.edits.now) (E.counts p.edits.now) (E.counts q.edits.now) (E.counts r.edits.now) fault a.2 (subst (λ (o : Origin). IsPageCause o q.bitmap.now q.length (known q.failed (E.told q.start.value) (E.told q.edits.now)) q.failed (E.counts q.edits.now) (E.counts r.edits.now) fault) a.0 b.0), λ is. b.1 (a.3 ∙ is)) };
+    ghost is_cause_before = { λ p q r fault a b. (cause_before p.backing p.bitmap.now q.bitmap.now p.length q.length (known p.failed (E.told p.start.value) (E.told p.edits.now)) (known q.failed (E.told q.start.value) (E.told q.edits.now)) p.failed q.failed (E.changed p.edits.now) (E.changed q.edits.now) (E.counts p.edits.now) (E.counts q.edits.now) (E.counts r.edits.now) fault a.2 (subst (λ (o : Origin). IsPageCause o q.bitmap.now q.length (known q.failed (E.told q.start.value) (E.told q.edits.now)) q.failed (E.counts q.edits.now) (E.counts r.edits.now) fault) a.0 b.0), λ is. b.1 (a.3 ∙ is), b.2) };
 
     ghost sized = { λ p. told_sized p.backing p.bitmap.now p.length (known p.failed (E.told p.start.value) (E.told p.edits.now)) p.held (known_sized p.failed (E.told p.start.value) p.backing.sizes.block_size (E.size p.edits.now) (E.told p.edits.now) p.size (E.sized p.edits.now)) };
 

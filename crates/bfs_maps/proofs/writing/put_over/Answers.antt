@@ -1,9 +1,9 @@
-use Rattle.std.proofs.Common.{ap, pos}
+use Rattle.std.proofs.Common.{◌∙◌, ap, pos}
 use Rattle.bfs_pages.specs.Maps.{put}
 use Rattle.bfs_stream_pages.specs.Held.{known, stream_of}
 use Rattle.bfs_maps.specs.Mapped.{rows_of}
 use Rattle.bfs_maps.specs.NumberTrees.{IsTreeOf}
-use Rattle.bfs_maps.proofs.Went.{told_start, goes_on_from, went, stream_now, match_ok, if_err, on_err, put_fault, put_cause, cause_from, below_from, put_change, page_blamed}
+use Rattle.bfs_maps.proofs.Went.{told_start, goes_on_from, went, stream_now, match_ok, if_err, on_err, put_fault, put_cause, cause_from, below_from, put_change, page_blamed, undamaged_from}
 use Rattle.bfs_pages.specs.Answers.{IsOfKind}
 use Rattle.bfs_maps.proofs.writing.put_over.Goals as goal
 
@@ -34,7 +34,8 @@ returns-clause-refused g c m told held tree =
     let same = ap g.E.Blocks.told c.requires.begun in
     let is = told_start s.backing s.failed (g.E.Blocks.told s.start.value) (g.E.Blocks.told s.edits.now) m c.requires.unfailed same told in
     if_err _ _ _ _ c.put_in.result (c.put_in.ensures.put (stream_of s.backing m) is tree) c.put_in.ensures.refused (λ fault why also.
-    put_fault c.args.kind s.backing s.bitmap.now m (rows_of c.args.kind s.backing m) c.args.key.now _ _ _ fault why also (λ f why. cause_from s.backing s.bitmap.now s.length m s.failed (g.E.Blocks.told s.start.value) (g.E.Blocks.told s.edits.now) (g.E.Blocks.counts s.edits.now) (g.E.Blocks.counts q.edits.now) f c.requires.unfailed same told held why.0))
+    put_fault c.args.kind s.backing s.bitmap.now m (rows_of c.args.kind s.backing m) c.args.key.now _ _ _ fault why also (λ f why. cause_from s.backing s.bitmap.now s.length m s.failed (g.E.Blocks.told s.start.value) (g.E.Blocks.told s.edits.now) (g.E.Blocks.counts s.edits.now) (g.E.Blocks.counts q.edits.now) f c.requires.unfailed same told held why.0)
+    (λ value there f why. undamaged_from s.backing s.bitmap.now m f (cause_from s.backing s.bitmap.now s.length m s.failed (g.E.Blocks.told s.start.value) (g.E.Blocks.told s.edits.now) (g.E.Blocks.counts s.edits.now) (g.E.Blocks.counts q.edits.now) f c.requires.unfailed same told held why.0) (why.2 ((c.put_in.ensures.there (stream_of s.backing m) value is tree there).5.failed ∙ c.requires.unfailed))))
 
 pub returns-clause-cause : goal.returns-clause-cause
 returns-clause-cause g c =

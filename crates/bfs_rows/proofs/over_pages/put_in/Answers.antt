@@ -1,4 +1,4 @@
-use Rattle.std.proofs.Common.{rules, ◌≡◌, ◌∙◌, List, None, pos, subst, w64, to_z, of_z}
+use Rattle.std.proofs.Common.{rules, ◌≡◌, ◌∙◌, List, None, pos, ap, subst, w64, to_z, of_z}
 use Rattle.std.specs.Prelude.{OnOk}
 use Rattle.bfs_node.specs.Page.{Row}
 use Rattle.bfs_pages.specs.Maps.{assoc}
@@ -19,3 +19,8 @@ pub returns-clause-absent : goal.returns-clause-absent
 returns-clause-absent g c b told d =
     let are : tree_rows d.shape ≡ rows_in c.args.kind b = rows_those c.args.kind b d.reached d.shape d.free d.tree in
     subst (λ (rows : List Row). OnOk c.insert.result (assoc c.args.kind rows c.args.key.now ≡ None)) are (c.insert.ensures.absent b d.reached d.shape d.free told d.tree)
+
+pub returns-clause-there : goal.returns-clause-there
+returns-clause-there g c b value told d there =
+    let are : tree_rows d.shape ≡ rows_in c.args.kind b = rows_those c.args.kind b d.reached d.shape d.free d.tree in
+    c.insert.ensures.there b d.reached d.shape d.free value told d.tree (ap (λ (rows : List Row). assoc c.args.kind rows c.args.key.now) are ∙ there)

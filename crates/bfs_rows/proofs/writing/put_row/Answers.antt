@@ -15,9 +15,9 @@ returns-in-Err-clause-refused g c m told d =
     let v = c.args.bitmap.now in
     let h = d.held in
     let r = readable o v h.0 m h.1 in
-    unmoved o v h.0 m c.in-Err.fault h.1
-    (unsized_whole o h.0 m c.in-Err.fault r (sized_of o.sizes.block_size (g.E.Blocks.size c.args.edits.now) (g.E.Blocks.told c.args.edits.now) m c.requires.size told (g.met.E.Blocks.sized c.args.edits.now)) d.tree.whole
-    (c.in-Err.ensures.refused m told (held_here o v h.0 m h.1)))
+    let fine = unsized_whole o h.0 m c.in-Err.fault r (sized_of o.sizes.block_size (g.E.Blocks.size c.args.edits.now) (g.E.Blocks.told c.args.edits.now) m c.requires.size told (g.met.E.Blocks.sized c.args.edits.now)) d.tree.whole
+    (c.in-Err.ensures.refused m told (held_here o v h.0 m h.1)) in
+    (unmoved o v h.0 m c.in-Err.fault h.1 fine, λ value there. fine)
 
 pub put_with-requires-clause-held : goal.put_with-requires-clause-held
 put_with-requires-clause-held g c m told =

@@ -24,7 +24,7 @@ pub returns-clause-room : goal.returns-clause-room
 returns-clause-room g c long m is held low =
     let o = c.args.self.now in
     let same : c.block.new.self ≡ o = c.block.ensures.same ∙ c.self.view_is in
-    let later : c.grow.new.self ≡ o = c.in-Ok-grow.ensures.same ∙ same in
+    let later : c.grow.new.stream ≡ o = c.in-Ok-grow.ensures.same ∙ same in
     let sizes : HasSizes o.sizes = subst (λ (x : Origin). HasSizes x.sizes) c.self.view_is c.self.invariant.2 in
     let owns : Owns c.block.new.self c.args.bitmap.now [] m = subst (λ (x : Origin). Owns x c.args.bitmap.now [] m) (sym same) held.owns in
     let there : Stands c.self.inside.stream m = subst (λ (x : Origin). Stands x m) (sym c.self.view_is) held.owns.stands in
@@ -48,7 +48,7 @@ pub returns-clause-faults : goal.returns-clause-faults
 returns-clause-faults g c long m is held low =
     let o = c.args.self.now in
     let same : c.block.new.self ≡ o = c.block.ensures.same ∙ c.self.view_is in
-    let later : c.grow.new.self ≡ o = c.in-Ok-grow.ensures.same ∙ same in
+    let later : c.grow.new.stream ≡ o = c.in-Ok-grow.ensures.same ∙ same in
     let sizes : HasSizes o.sizes = subst (λ (x : Origin). HasSizes x.sizes) c.self.view_is c.self.invariant.2 in
     let owns : Owns c.block.new.self c.args.bitmap.now [] m = subst (λ (x : Origin). Owns x c.args.bitmap.now [] m) (sym same) held.owns in
     let there : Stands c.self.inside.stream m = subst (λ (x : Origin). Stands x m) (sym c.self.view_is) held.owns.stands in

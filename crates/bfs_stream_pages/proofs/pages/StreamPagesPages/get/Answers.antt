@@ -2,14 +2,14 @@ use Rattle.std.proofs.Common.{◌∙◌, ℕ, refl, sym, ap, arith}
 use Rattle.bfs_txn.specs.Pages.{page_at}
 use Rattle.bfs_stream_pages.specs.Held.{known, stream_of}
 use Rattle.bfs_stream_pages.specs.GoesLaws.{goes_same, long_fits, readable, read_same, read_quiet}
-use Rattle.bfs_stream_pages.proofs.Paged.{failed_block, memory_block, goes_quiet, goes_failed, memory_page, has_cause, failed_now, undamaged_is, index_inside, page_inside, page_told}
+use Rattle.bfs_stream_pages.proofs.Paged.{failed_block, noted_block, memory_block, goes_quiet, goes_failed, memory_page, has_cause, failed_now, undamaged_is, index_inside, page_inside, page_told}
 use Rattle.bfs_stream_pages.proofs.pages.StreamPagesPages.get.Goals as goal
 
 pub returns-in-Err-clause-goes_on : goal.returns-in-Err-clause-goes_on
 returns-in-Err-clause-goes_on g c = let s = c.args.self.now in (refl, refl, goes_same s.backing s.bitmap.now s.length (known s.failed (g.E.Blocks.told s.start.value) (g.E.Blocks.told s.edits.now)) s.failed (g.E.Blocks.changed s.edits.now) (g.E.Blocks.counts s.edits.now), refl)
 
 pub returns-in-Err-clause-cause : goal.returns-in-Err-clause-cause
-returns-in-Err-clause-cause g c = let s = c.args.self.now in (goes_failed s.backing s.bitmap.now s.length (known s.failed (g.E.Blocks.told s.start.value) (g.E.Blocks.told s.edits.now)) s.failed (g.E.Blocks.counts s.edits.now) c.in-Err.fault c.in-Err.ensures.again, failed_block s.fixed s.failed c.in-Err.fault s.unfailed c.in-Err.ensures.again)
+returns-in-Err-clause-cause g c = let s = c.args.self.now in (goes_failed s.backing s.bitmap.now s.length (known s.failed (g.E.Blocks.told s.start.value) (g.E.Blocks.told s.edits.now)) s.failed (g.E.Blocks.counts s.edits.now) c.in-Err.fault c.in-Err.ensures.again, failed_block s.fixed s.failed c.in-Err.fault s.unfailed c.in-Err.ensures.again, noted_block s.failed c.in-Err.fault c.in-Err.fault c.in-Err.ensures.again)
 
 pub returns-in-Err-buffer-clause-goes_on : goal.returns-in-Err-buffer-clause-goes_on
 returns-in-Err-buffer-clause-goes_on g c =
@@ -22,7 +22,7 @@ returns-in-Err-buffer-clause-goes_on g c =
     )
 
 pub returns-in-Err-buffer-clause-cause : goal.returns-in-Err-buffer-clause-cause
-returns-in-Err-buffer-clause-cause g c = let s = c.args.self.now in (memory_page s.backing s.bitmap.now s.length s.failed (g.E.Blocks.told s.start.value) (g.E.Blocks.told s.edits.now) (g.E.Blocks.counts s.edits.now) c.in-Err-buffer.fault c.in-Ok.ensures.none c.in-Err-buffer.ensures.fault, λ is. memory_block c.in-Err-buffer.fault c.in-Err-buffer.ensures.fault)
+returns-in-Err-buffer-clause-cause g c = let s = c.args.self.now in (memory_page s.backing s.bitmap.now s.length s.failed (g.E.Blocks.told s.start.value) (g.E.Blocks.told s.edits.now) (g.E.Blocks.counts s.edits.now) c.in-Err-buffer.fault c.in-Ok.ensures.none c.in-Err-buffer.ensures.fault, λ is. memory_block c.in-Err-buffer.fault c.in-Err-buffer.ensures.fault, λ is. memory_block c.in-Err-buffer.fault c.in-Err-buffer.ensures.fault)
 
 pub returns-in-Err-read_page-clause-goes_on : goal.returns-in-Err-read_page-clause-goes_on
 returns-in-Err-read_page-clause-goes_on g c =
@@ -41,6 +41,7 @@ returns-in-Err-read_page-clause-cause g c =
           (λ m is h. failed_now s.backing s.bitmap.now s.length m c.in-Err-read_page.fault h
           (undamaged_is s.backing s.bitmap.now m c.in-Err-read_page.fault
           (c.in-Err-read_page.ensures.sound m is h.owns.stands (index_inside s.backing.sizes.block_size c.args.at c.place-index.result.0 c.place-index.result.1 s.length _ c.place-index.ensures.at c.requires.inside (long_fits s.backing s.bitmap.now s.length m h))))),
+      λ is. c.in-Err-read_page.ensures.block,
       λ is. c.in-Err-read_page.ensures.block,
     )
 

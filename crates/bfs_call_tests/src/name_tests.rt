@@ -174,7 +174,7 @@ fn named(alloc: Global, len: usize, left: usize) -> Result<bool, Fail>
     if sup.num_blocks < 6 {
         return Ok(false);
     }
-    let mut under = volume(alloc, sup.block_size, b'c')?;
+    let mut under = volume(alloc, sup.block_size, b'a', b'c')?;
     let mut open = Changed::new(alloc);
     let mut bitmap = Bitmap::of(alloc, &sup);
     let mut edits = Overlay::begin(&mut open, &mut under);

@@ -1,9 +1,10 @@
-// A node's name beside three attributes in small data, of which the last is named `c`, or `.` as on another maker's volume. The volume has
-// blocks of 1,024 bytes and three allocation groups, its bitmap in blocks 1 to 3; the inode is block 4. Its small data has 792 bytes: the
-// attribute `a` with 100 bytes takes 113 of them, and the two others with 250 bytes take 263 each, which leaves 153; a name takes 13 more
-// than its bytes, so that one of 140 fills the rest.
-ghost use Rattle.std.specs.Prelude.{◌≡◌, ◌≤◌, ◌+◌};
+// A node's name beside three attributes in small data, `a`, `b` and `c`; on another maker's volume the first or the last is named `.`. The
+// volume has blocks of 1,024 bytes and three allocation groups, its bitmap in blocks 1 to 3; the inode is block 4. Its small data has 792
+// bytes: the first attribute with 100 bytes takes 113 of them, and the two others with 250 bytes take 263 each, which leaves 153; a name
+// takes 13 more than its bytes, so that one of 140 fills the rest, and for a longer one the last attribute is the next to move.
+ghost use Rattle.std.specs.Prelude.{◌≡◌, ◌≤◌, ◌+◌, IsSome};
 ghost use Rattle.bfs_super.specs.Conditions.{IsValid, natural};
+ghost use Rattle.bfs_smalldata.specs.Items.{items_of};
 ghost use Rattle.bfs_stream.specs.Sizes.{sizes_of};
 ghost use Rattle.bfs_stream.specs.Grown.{IsOfVolume};
 
@@ -21,8 +22,24 @@ use bfs_txn::{Blocks, Changed, Overlay};
 use std::alloc::Global;
 use std::test::Fail;
 
-/// Has the own name so many bytes, and is there an attribute directory, or none, as is asked?
-fn is_named(edits: &mut Overlay<'_, Silent>, len: usize, directory: bool) -> Result<bool, MapFault>
+/// Has an area of small data an item of this name with so many bytes?
+fn has_item(area: &[u8], name: u8, len: usize) -> bool
+    requires { IsSome (items_of area.now) }
+{
+    match find(area, &[name]) {
+        Some(item) => item.len == len,
+        None => false,
+    }
+}
+
+/// Has the own name so many bytes, does the first attribute, which has this name, stand in small data, and is there an attribute
+/// directory, or none, as is asked?
+fn is_named(
+    edits: &mut Overlay<'_, Silent>,
+    first: u8,
+    len: usize,
+    directory: bool,
+) -> Result<bool, MapFault>
     requires size { edits.old.under.now.blocks.block_size ≡ 1024 }
 {
     let mut block = [0u8; BLOCK];
@@ -36,18 +53,19 @@ fn is_named(edits: &mut Overlay<'_, Silent>, len: usize, directory: bool) -> Res
         Ok(_) => {}
         Err(_) => return Ok(false),
     }
-    match find(area, &[0x13]) {
-        Some(item) => Ok(item.len == len && there == directory),
-        None => Ok(false),
-    }
+    let named = has_item(area, 0x13, len);
+    let stays = has_item(area, first, 100);
+    Ok(named && stays && there == directory)
 }
 
-/// Gives the node a name of so many bytes. Is it there since, and is there an attribute directory, or none, as is asked?
+/// Gives the node a name of so many bytes. Is it there since, does the first attribute, which has this name, stand in small data, and is
+/// there an attribute directory, or none, as is asked?
 fn is_given(
     sup: &Super,
     alloc: Global,
     bitmap: &mut Bitmap,
     edits: &mut Overlay<'_, Silent>,
+    first: u8,
     len: usize,
     directory: bool,
 ) -> Result<bool, MapFault>
@@ -64,7 +82,7 @@ fn is_given(
         Ok(()) => {}
         Err(fault) => return Err(fault),
     }
-    is_named(edits, len, directory)
+    is_named(edits, first, len, directory)
 }
 
 /// What is so: it is right, no memory was found, or another thing.
@@ -84,8 +102,8 @@ fn told_by(answer: &Result<bool, MapFault>) -> Told {
     }
 }
 
-/// What is so of a name of so many bytes on the volume whose last attribute has this name.
-fn given(alloc: Global, last: u8, len: usize, directory: bool) -> Result<Told, Fail>
+/// What is so of a name of so many bytes on the volume whose first and last attributes have these names.
+fn given(alloc: Global, first: u8, last: u8, len: usize, directory: bool) -> Result<Told, Fail>
     requires some { 1 ≤ len }
     requires short { len ≤ 255 }
 {
@@ -96,11 +114,11 @@ fn given(alloc: Global, last: u8, len: usize, directory: bool) -> Result<Told, F
     if sup.num_blocks < 6 {
         return Ok(Told::Other);
     }
-    let mut under = volume(alloc, sup.block_size, last)?;
+    let mut under = volume(alloc, sup.block_size, first, last)?;
     let mut open = Changed::new(alloc);
     let mut bitmap = Bitmap::of(alloc, &sup);
     let mut edits = Overlay::begin(&mut open, &mut under);
-    let result = is_given(&sup, alloc, &mut bitmap, &mut edits, len, directory);
+    let result = is_given(&sup, alloc, &mut bitmap, &mut edits, first, len, directory);
     edits.drop_call();
     Ok(told_by(&result))
 }
@@ -110,21 +128,33 @@ fn a_name_that_has_room_is_set_and_a_longer_one_moves_an_attribute(
     rt: HostRuntime,
 ) -> Result<(), Fail> {
     let alloc = rt.alloc();
-    let filling = given(alloc, b'c', 140, false)?;
-    let longer = given(alloc, b'c', 141, true)?;
+    let filling = given(alloc, b'a', b'c', 140, false)?;
+    let longer = given(alloc, b'a', b'c', 141, true)?;
     assert!(rt; filling == Told::Right);
     assert!(rt; longer == Told::Right);
     Ok(())
 }
 
 #[test]
-fn beside_an_attribute_named_with_a_dot_a_name_is_set_where_it_has_room_and_nowhere_else(
+fn a_name_for_which_an_attribute_named_with_a_dot_would_have_to_move_is_not_set(
     rt: HostRuntime,
 ) -> Result<(), Fail> {
     let alloc = rt.alloc();
-    let filling = given(alloc, b'.', 140, false)?;
-    let longer = given(alloc, b'.', 141, true)?;
+    let filling = given(alloc, b'a', b'.', 140, false)?;
+    let longer = given(alloc, b'a', b'.', 141, true)?;
     assert!(rt; filling == Told::Right);
     assert!(rt; longer == Told::NoMemory);
+    Ok(())
+}
+
+#[test]
+fn a_name_is_set_beside_an_attribute_named_with_a_dot_that_stays(
+    rt: HostRuntime,
+) -> Result<(), Fail> {
+    let alloc = rt.alloc();
+    let filling = given(alloc, b'.', b'c', 140, false)?;
+    let longer = given(alloc, b'.', b'c', 141, true)?;
+    assert!(rt; filling == Told::Right);
+    assert!(rt; longer == Told::Right);
     Ok(())
 }

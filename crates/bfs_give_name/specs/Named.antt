@@ -1,12 +1,12 @@
 -- A node that gets another name of its own.
-use Rattle.std.specs.Prelude.{◌≡◌, ◌≢◌, ◌||◌, ℕ, List, [], drop, codes, Bool, Option, is_some}
+use Rattle.std.specs.Prelude.{◌≡◌, ◌≢◌, ℕ, List, [], drop, Bool, Option}
 use Rattle.std.specs.FinMap.{insert}
 use Rattle.std.specs.Option.{option_map}
 use Rattle.bfs_base.specs.Lists.{Has}
 use Rattle.bfs_super.specs.declared.geometry.Geometry.{Geometry}
 use Rattle.bfs_bitmap.specs.Runs.{Room}
 use Rattle.bfs_smalldata.specs.Items.{Item, items_of}
-use Rattle.bfs_smalldata.specs.Edits.{named, with_item}
+use Rattle.bfs_smalldata.specs.Edits.{with_item}
 use Rattle.bfs_stream.specs.Told.{contents}
 use Rattle.bfs_tree.specs.Trees.{Node, Tree, IsNode}
 use Rattle.bfs_shift.specs.Lists.{Lists}
@@ -27,10 +27,6 @@ pub record HoldsProper (g : Geometry) (v : Room) (m : ℕ → Option (List ℕ))
   pub n : Node
   pub there : IsNode tree id n
   pub apart : id ≢ g.root
-
--- an item of this list is named `.` or `..`
-abbrev pub has_improper : List Item → Bool
-has_improper items = is_some (named (codes ".") items) || is_some (named (codes "..") items)
 
 -- Named: the attributes are those before, and none of their blocks has gone; the small data has the items before, but for some that have
 -- moved out, with the node's own name in the place of the old one.

@@ -3,6 +3,5 @@
 #![tactic(auto)]
 
 mod naming;
-mod proper;
 
 pub use naming::give_name;

@@ -14,59 +14,17 @@ ghost use Rattle.bfs_attr_put.specs.Done.{IsUnanswered};
 ghost use Rattle.bfs_attr_put.specs.Written.{HasWriteCause};
 ghost use Rattle.bfs_give_name.specs.Named.{with_name, HoldsProper, IsNamed};
 
-use crate::proper::moves_improper;
-use bfs_attr::put_own_name;
 use bfs_attr_put::calls::not_put;
 use bfs_bitmap::Bitmap;
 use bfs_make::Site;
 use bfs_moves::check_inode;
-use bfs_node::TreeFault;
 use bfs_set_name::set_name;
 use bfs_stream_pages::MapFault;
 use bfs_super::Super;
 use bfs_txn::Edits;
 use std::alloc::Global;
 
-/// Sets the name where attributes move out for it. An attribute that is named `.` or `..` can't move, since no row can have its name: the call
-/// can't be done then, for which want of memory stands.
-fn set_where_proper<E: Edits>(
-    site: Site,
-    bitmap: &mut Bitmap,
-    edits: &mut E,
-    id: u64,
-    name: &[u8],
-    stamp: i64,
-) -> Result<(), MapFault>
-    requires valid { IsValid site.sup }
-    requires inside { id < natural site.sup.num_blocks }
-    requires size { E.size edits.old ≡ site.sup.block_size }
-    requires volume { IsOfVolume (sizes_of site.sup) bitmap.old }
-    requires some { 1 ≤ length name.now }
-    requires short { length name.now ≤ 255 }
-    requires node { (m : ℕ → Option (List ℕ)) → E.told edits.old ≡ Some m → HoldsProper (geometry_of site.sup) bitmap.old m id }
-    ensures named { (m : ℕ → Option (List ℕ)) → E.told edits.old ≡ Some m → OnOk result (IsNamed (bearer_of id site.sup) bitmap.old bitmap.new m name.now (E.told edits.new) (E.changed edits.old) (E.changed edits.new)) }
-    ensures unanswered { (m : ℕ → Option (List ℕ)) → E.told edits.old ≡ Some m → IfErr result IsUnanswered }
-    ensures cause { IfErr result (HasWriteCause (max 1 (ceil 2048 site.sup.block_size)) (E.counts edits.old) (E.counts edits.new)) }
-    ensures rest { bitmap.new ≡ record bitmap.old { tally = bitmap.new.tally } }
-    ensures stays { StaysChanged (E.changed edits.old) (E.changed edits.new) }
-    ensures size { E.size edits.new ≡ E.size edits.old }
-    ensures frame { E.frame edits.new ≡ E.frame edits.old }
-    ensures later { AreLater (E.counts edits.old) (E.counts edits.new) }
-{
-    let improper = match moves_improper(site, edits, id) {
-        Ok(improper) => improper,
-        Err(fault) => return Err(fault),
-    };
-    if improper {
-        return Err(TreeFault::NoMemory);
-    }
-    match set_name(site, bitmap, edits, id, name, stamp) {
-        Ok(()) => Ok(()),
-        Err(fault) => Err(not_put(fault, id)),
-    }
-}
-
-/// Sets the name where it has room, and else with attributes that move out for it.
+/// Sets the name, with attributes that move out for it where it has no room.
 fn set_own_name<E: Edits>(
     site: Site,
     bitmap: &mut Bitmap,
@@ -91,22 +49,15 @@ fn set_own_name<E: Edits>(
     ensures frame { E.frame edits.new ≡ E.frame edits.old }
     ensures later { AreLater (E.counts edits.old) (E.counts edits.new) }
 {
-    let put = match put_own_name(site, edits, id, name) {
-        Ok(put) => put,
-        Err(fault) => return Err(fault),
-    };
-    if put {
-        return Ok(());
-    }
-    match set_where_proper(site, bitmap, edits, id, name, stamp) {
+    match set_name(site, bitmap, edits, id, name, stamp) {
         Ok(()) => Ok(()),
-        Err(fault) => Err(fault),
+        Err(fault) => Err(not_put(fault, id)),
     }
 }
 
 /// Writes a node's own name into its small data; where that has no room for it, attributes move out of it, the longest first, until there is.
-/// After a fault the call is to be dropped. Want of memory stands too for a name that can't be set, since an attribute in small data is named
-/// `.` or `..`, which no row of a directory of attributes can be.
+/// After a fault the call is to be dropped. Want of memory stands too for a name that can't be set, since the attribute that would have to move
+/// next is named `.` or `..`: a row of that name is the attribute directory's own.
 pub fn give_name<E: Edits>(
     alloc: Global,
     sup: &Super,

@@ -1,5 +1,5 @@
 -- What holds of all attributes in small data holds of those that move out.
-use Rattle.std.proofs.Common.{◌≢◌, ◌≤◌, drop, sym, subst, ◌≡◌, ◌+◌, ◌-◌, ℕ, zero, suc, List, [], ◌∷◌, length, Bool, true, false, cond, not, Option, Some, None, refl}
+use Rattle.std.proofs.Common.{◌≢◌, drop, sym, subst, ◌≡◌, ◌+◌, ◌-◌, ℕ, zero, suc, List, [], ◌∷◌, length, Bool, true, false, cond, not, Option, Some, None}
 use Rattle.std.specs.Prelude.{nat_le, IfSome}
 use Rattle.bfs_bitmap.specs.Runs.{Room}
 use Rattle.bfs_stream.specs.Told.{contents}
@@ -8,8 +8,7 @@ use Rattle.bfs_sound.specs.Nodes.{HasNode}
 use Rattle.bfs_attr.specs.Bearers.{Bearer, volume_at}
 use Rattle.bfs_attr.specs.Changed.{Holds}
 use Rattle.bfs_attr.proofs.OwnNames.{IsOwnFirst}
-use Rattle.bfs_set_name.specs.Renamed.{CanBeRow, CanName}
-use Rattle.bfs_set_name.specs.Laws.{IsProperlyNamed}
+use Rattle.bfs_set_name.specs.Renamed.{IsShortNamed, CanName}
 use Rattle.std.specs.List.{AllByRecursion}
 use Rattle.std.specs.Option.{option_map_or}
 use Rattle.std.specs.Str.{bytes_eq}
@@ -28,13 +27,13 @@ module _ (P : Item → Type 0) where
       by_name true rest = all.1
       by_name false rest = (all.0, rest)
 
-  all_attributes : (items : List Item) → AllByRecursion (λ item. is_name_item item ≡ false → P item) items → AllByRecursion P (attributes items)
+  all_attributes : (items : List Item) → AllByRecursion P items → AllByRecursion P (attributes items)
   all_attributes [] all = tt
-  all_attributes (x ∷ xs) all = by_own (is_name_item x) refl (all_attributes xs all.1)
+  all_attributes (x ∷ xs) all = by_own (is_name_item x) (all_attributes xs all.1)
     where
-      by_own : (t : Bool) → is_name_item x ≡ t → AllByRecursion P (attributes xs) → AllByRecursion P (cond (not t) (x ∷ attributes xs) (attributes xs))
-      by_own true is rest = rest
-      by_own false is rest = (all.0 is, rest)
+      by_own : (t : Bool) → AllByRecursion P (attributes xs) → AllByRecursion P (cond (not t) (x ∷ attributes xs) (attributes xs))
+      by_own true rest = rest
+      by_own false rest = (all.0, rest)
 
   longest_holds : (items : List Item) → AllByRecursion P items → IfSome (longest items) P
   longest_holds [] all = tt
@@ -57,26 +56,18 @@ module _ (P : Item → Type 0) where
       by_fit false None h rest = tt
       by_fit false (Some x) h rest = (h, rest (without x.name items) (all_without x.name items all))
 
-  all_moves : (size n : ℕ) (o : Option (List Item)) → IfSome o (λ items. AllByRecursion (λ item. is_name_item item ≡ false → P item) items) → AllByRecursion P (moving_from size n o)
+  all_moves : (size n : ℕ) (o : Option (List Item)) → IfSome o (AllByRecursion P) → AllByRecursion P (moving_from size n o)
   all_moves size n None all = tt
   all_moves size n (Some items) all = all_moving (length (attributes items)) (size - (8 + length own_name + 3 + n + 1)) (attributes items) (all_attributes items all)
 
--- a name that isn't too long, and is neither `.` nor `..`, is one that a row can have
-all_rows : (items : List Item) → AllByRecursion (λ item. length item.name ≤ 255) items → AllByRecursion IsProperlyNamed items → AllByRecursion (λ item. is_name_item item ≡ false → CanBeRow item) items
-all_rows [] short proper = tt
-all_rows (x ∷ xs) short proper = ((λ other. (proper.0 other, short.0)), all_rows xs short.1 proper.1)
-
-module _ (b : Bearer) (v : Room) (m : ℕ → Option (List ℕ)) (n : Node) (name : List ℕ) (holds : Holds b v m) (node : HasNode (volume_at b.geometry m) b.id n) (below : b.id ≢ b.geometry.root) (proper : IfSome (items_of (drop 232 (contents m b.id))) (AllByRecursion IsProperlyNamed)) where
+module _ (b : Bearer) (v : Room) (m : ℕ → Option (List ℕ)) (n : Node) (name : List ℕ) (holds : Holds b v m) (node : HasNode (volume_at b.geometry m) b.id n) (below : b.id ≢ b.geometry.root) where
   own_first : IsOwnFirst node.items
   own_first = let called = node.called.name below in subst (λ (o : Option Item). IfSome o (λ item. is_name_item item ≡ true)) (sym called.1) called.2
-
-  rows_all : AllByRecursion (λ item. is_name_item item ≡ false → CanBeRow item) node.items
-  rows_all = all_rows node.items node.short (subst (λ (o : Option (List Item)). IfSome o (AllByRecursion IsProperlyNamed)) node.area proper)
 
   pub can_be_named : CanName b v m name
   can_be_named = record {
     holds = holds;
     own = subst (λ (o : Option (List Item)). IfSome o IsOwnFirst) (sym node.area) own_first;
-    rows = all_moves CanBeRow (length (drop 232 (contents m b.id))) (length name) (items_of (drop 232 (contents m b.id)))
-        (subst (λ (o : Option (List Item)). IfSome o (AllByRecursion (λ item. is_name_item item ≡ false → CanBeRow item))) (sym node.area) rows_all);
+    short = all_moves IsShortNamed (length (drop 232 (contents m b.id))) (length name) (items_of (drop 232 (contents m b.id)))
+        (subst (λ (o : Option (List Item)). IfSome o (AllByRecursion IsShortNamed)) (sym node.area) node.short);
   }

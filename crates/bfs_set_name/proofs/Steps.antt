@@ -29,7 +29,7 @@ use Rattle.bfs_attr.proofs.OwnNames.{IsOwnFirst}
 use Rattle.bfs_attrs.specs.Laws.{LongestCanMove}
 use Rattle.bfs_attrs.specs.Moved.{HasMovedOut, IsNotMoved}
 use Rattle.bfs_attrs.proofs.Older.{wrote_older}
-use Rattle.bfs_set_name.specs.Renamed.{CanBeRow, CanName, IsNext, HasGone, IsNotStepped, longest_in}
+use Rattle.bfs_set_name.specs.Renamed.{IsShortNamed, CanName, IsNext, HasGone, IsNotStepped, longest_in}
 use Rattle.bfs_set_name.proofs.Movings.{First, attributes, none_moves, first_moves, most_move}
 use Rattle.bfs_set_name.proofs.Nexts.{first_within}
 
@@ -138,11 +138,11 @@ module _ (b : Bearer) (v : Room) (m : ℕ → Option (List ℕ)) (name : List �
     pub order : moves (volume_at b.geometry m) b.id name ≡ item ∷ more
     order = order_is ∙ first.order other there.0 there.1
 
-    rows : CanBeRow item × AllByRecursion CanBeRow more
-    rows = subst (AllByRecursion CanBeRow) order can.rows
+    named_short : IsShortNamed item × AllByRecursion IsShortNamed more
+    named_short = subst (AllByRecursion IsShortNamed) order can.short
 
     pub next : IsNext b v m item
-    next = record { holds = can.holds; first = is_longest; row = rows.0 }
+    next = record { holds = can.holds; first = is_longest; short = named_short.0 }
 
     module _ (now : Room) (told : Option (ℕ → Option (List ℕ))) (old new : ℕ → Bool) (moved : HasMovedOut b v now m item.name told old new) (sized1 : AreSized size (Some moved.now_are.map)) where
       abbrev m1 : ℕ → Option (List ℕ)
@@ -174,6 +174,6 @@ module _ (b : Bearer) (v : Room) (m : ℕ → Option (List ℕ)) (name : List �
         can = record {
           holds = moved.now_are.holds;
           own = subst (λ (o : Option (List Item)). IfSome o IsOwnFirst) (sym items1) own1;
-          rows = subst (AllByRecursion CanBeRow) (sym others) rows.1;
+          short = subst (AllByRecursion IsShortNamed) (sym others) named_short.1;
         };
       }

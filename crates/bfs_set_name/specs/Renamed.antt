@@ -12,7 +12,6 @@ use Rattle.bfs_stream.specs.Told.{contents}
 use Rattle.bfs_stream.specs.declared.fault.GrowFault.{GrowFault}
 use Rattle.bfs_stream_pages.specs.Steps.{IsUndamaged}
 use Rattle.bfs_sound.specs.Attributes.{is_name_item}
-use Rattle.bfs_sound.specs.Inodes.{is_proper}
 use Rattle.bfs_sound.specs.Need.{longest, moves}
 use Rattle.bfs_attr.specs.Bearers.{Bearer, volume_at, attributes_at}
 use Rattle.bfs_attr.specs.Changed.{Holds, AttributesNow, HasOwnName, HasNameSet, name_item}
@@ -30,22 +29,22 @@ IsPlaced block None (Some at) = ⊥
 IsPlaced block (Some item) None = ⊥
 IsPlaced block (Some item) (Some at) = Begins (drop at block) item
 
--- a row of an attribute directory can have the name of this item
-abbrev pub CanBeRow : Item → Type 0
-CanBeRow item = (is_proper item.name ≡ true) × (length item.name ≤ 255)
+-- the name of this item isn't longer than a row's can be
+abbrev pub IsShortNamed : Item → Type 0
+IsShortNamed item = length item.name ≤ 255
 
--- The attributes of an inode are held, and this is the longest in small data, whose name a row can have.
+-- The attributes of an inode are held, and this is the longest in small data, whose name isn't too long for a row.
 pub record IsNext (b : Bearer) (v : Room) (m : ℕ → Option (List ℕ)) (item : Item) : Type 0 where
   pub holds : Holds b v m
   pub first : longest_in (drop 232 (contents m b.id)) ≡ Some item
-  pub row : CanBeRow item
+  pub short : IsShortNamed item
 
--- The attributes of an inode are held, an item that is named as the node's own name is it, and a row can have the name of each
--- attribute that moves out where the node gets this name.
+-- The attributes of an inode are held, an item that is named as the node's own name is it, and of the attributes that move out where
+-- the node gets this name none has a name too long for a row.
 pub record CanName (b : Bearer) (v : Room) (m : ℕ → Option (List ℕ)) (name : List ℕ) : Type 0 where
   pub holds : Holds b v m
   pub own : HasOwnName (volume_at b.geometry m) b.id
-  pub rows : AllByRecursion CanBeRow (moves (volume_at b.geometry m) b.id name)
+  pub short : AllByRecursion IsShortNamed (moves (volume_at b.geometry m) b.id name)
 
 -- the items without the first of the name of each of these
 abbrev pub without_each : List Item → List Item → List Item

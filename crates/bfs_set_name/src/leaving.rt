@@ -12,7 +12,7 @@ ghost use Rattle.bfs_attr.specs.SmallData.{attribute_in};
 ghost use Rattle.bfs_attrs.specs.Moved.{IsWithin, HasMovedOut, IsNotMoved};
 ghost use Rattle.bfs_attrs.specs.Replaced.{HasAllBlocks};
 ghost use Rattle.bfs_attrs.specs.Stored.{HasAddCause};
-ghost use Rattle.bfs_set_name.specs.Renamed.{CanBeRow, IsNext, IsPlaced, longest_in};
+ghost use Rattle.bfs_set_name.specs.Renamed.{IsShortNamed, IsNext, IsPlaced, longest_in};
 
 use bfs_attr::longest_attribute;
 use bfs_attrs::{longest_can_move, move_out};
@@ -40,12 +40,11 @@ pub(crate) fn damaged(block: u64) -> MapFault
     blocked(BlockFault::Damaged { block })
 }
 
-/// Can a row of an attribute directory have this name? It isn't `.` or `..`, and isn't too long.
-fn can_be_row(name: &[u8]) -> bool
-    ensures some { result ≡ true → (is_proper name.now ≡ true) × (length name.now ≤ 255) }
-    ensures none { is_proper name.now ≡ true → length name.now ≤ 255 → result ≡ true }
+/// Is this name neither `.` nor `..`?
+fn is_free_name(name: &[u8]) -> bool
+    ensures { result ≡ is_proper name.now }
 {
-    name.len() <= 255 && !(name == b".".as_slice() || name == b"..".as_slice())
+    !(name == b".".as_slice() || name == b"..".as_slice())
 }
 
 /// Where the longest attribute begins in the block of an inode, the last one among equals, or None where its small data has none, or is
@@ -66,7 +65,8 @@ fn longest_place(block: &[u8]) -> Option<usize>
     }
 }
 
-/// Moves the attribute that the item is with which these bytes begin. After a fault the call is to be dropped.
+/// Moves the attribute that the item is with which these bytes begin. After a fault the call is to be dropped. Want of memory stands too
+/// for one that is named `.` or `..`, since a row of that name is the attribute directory's own.
 fn move_item<E: Edits>(
     site: Site,
     bitmap: &mut Bitmap,
@@ -82,7 +82,7 @@ fn move_item<E: Edits>(
     requires begins { GoesOn item.now }
     requires whole { size_in item.now ≤ length item.now }
     requires short { length item.now ≤ site.sup.block_size }
-    requires row { (m : ℕ → Option (List ℕ)) → E.told edits.old ≡ Some m → CanBeRow (item_in item.now) }
+    requires named { (m : ℕ → Option (List ℕ)) → E.told edits.old ≡ Some m → IsShortNamed (item_in item.now) }
     requires within { (m : ℕ → Option (List ℕ)) → E.told edits.old ≡ Some m → IsWithin (bearer_of inode site.sup) bitmap.old m (item_in item.now).name (attribute_in (item_in item.now)) }
     ensures moved { (m : ℕ → Option (List ℕ)) → E.told edits.old ≡ Some m → OnOk result (HasMovedOut (bearer_of inode site.sup) bitmap.old bitmap.new m (item_in item.now).name (E.told edits.new) (E.changed edits.old) (E.changed edits.new)) }
     ensures keeps { (m : ℕ → Option (List ℕ)) → E.told edits.old ≡ Some m → OnOk result (HasAllBlocks (bearer_of inode site.sup) m (E.told edits.new)) }
@@ -100,14 +100,17 @@ fn move_item<E: Edits>(
     let len = usize::from(u16_at(item, 6));
     let name = &item[8..8 + size];
     let bytes = &item[8 + size + 3..8 + size + 3 + len];
-    if !can_be_row(name) {
+    if name.len() > 255 {
         return Err(damaged(inode));
+    }
+    if !is_free_name(name) {
+        return Err(TreeFault::NoMemory);
     }
     move_out(site, bitmap, edits, inode, kind, name, bytes, stamp)
 }
 
 /// Moves the longest attribute in the small data of the inode at a block, the last one among equals, to the attribute directory,
-/// which is made where there is none. After a fault the call is to be dropped.
+/// which is made where there is none. After a fault the call is to be dropped. Want of memory stands too for one that is named `.` or `..`.
 pub(crate) fn move_longest<E: Edits>(
     site: Site,
     bitmap: &mut Bitmap,

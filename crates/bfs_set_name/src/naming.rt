@@ -59,7 +59,8 @@ fn put_or_move<E: Edits>(
 }
 
 /// Sets a node's own name in the small data of the inode at a block. Where it has no room there, attributes move out to the attribute
-/// directory, the longest first, and among equals the last. After a fault the call is to be dropped.
+/// directory, the longest first, and among equals the last. After a fault the call is to be dropped. Want of memory stands too where the
+/// one that is to move next is named `.` or `..`: it can't move, since a row of that name is the attribute directory's own.
 pub fn set_name<E: Edits>(
     site: Site,
     bitmap: &mut Bitmap,

@@ -1,26 +1,24 @@
-use Rattle.std.proofs.Common.{◌≤◌, ◌∙◌, ℕ, List, length, sym, ap, subst, max}
+use Rattle.std.proofs.Common.{◌≤◌, ◌∙◌, ℕ, List, length, sym, subst, arith, max}
 use Rattle.std.specs.Prelude.{OnOk, IfErr}
 use Rattle.bfs_super.specs.Conditions.{ceil}
 use Rattle.bfs_stream.proofs.Writes.{later_none}
-use Rattle.bfs_sound.specs.Inodes.{is_proper}
 use Rattle.bfs_attr.specs.Bearers.{bearer_of}
 use Rattle.bfs_attrs.specs.Moved.{IsWithin, HasMovedOut, IsNotMoved}
 use Rattle.bfs_attrs.proofs.Begins.{add_wider_kept}
 use Rattle.bfs_set_name.proofs.Parts.{name_read, to_parts, from_parts, few_blocks, part_short}
 use Rattle.bfs_set_name.proofs.leaving.move_item.Goals as goal
 
-pub returns-then-not-can_be_row-clause-faults : goal.returns-then-not-can_be_row-clause-faults
-returns-then-not-can_be_row-clause-faults g c m told =
-    let row = c.requires.row m told in
+pub returns-then-name-gt255-clause-faults : goal.returns-then-name-gt255-clause-faults
+returns-then-name-gt255-clause-faults g c m told =
     let name = name_read c.args.item.now c.u32_at-kind.result c.from-size.result c.from-len.result c.u32_at-kind.ensures (c.from-size.ensures ∙ c.u16_at.ensures) (c.from-len.ensures ∙ c.u16_at-2.ensures) in
-    let right = c.can_be_row.ensures.none (ap is_proper name ∙ row.0) (subst (λ (l : List ℕ). length l ≤ 255) (sym name) row.1) in
-    absurd (let a = c.if-not-can_be_row.true in cc)
+    let short = subst (λ (l : List ℕ). length l ≤ 255) (sym name) (c.requires.named m told) in
+    absurd (let a = c.if-name-gt255.true in omega (arith, a, short))
 
 pub move_out-requires-clause-short : goal.move_out-requires-clause-short
-move_out-requires-clause-short g c = (c.can_be_row.ensures.some c.if-not-can_be_row.false).1
+move_out-requires-clause-short g c = let a = c.if-name-gt255.false in omega (arith, a)
 
 pub move_out-requires-clause-proper : goal.move_out-requires-clause-proper
-move_out-requires-clause-proper g c = (c.can_be_row.ensures.some c.if-not-can_be_row.false).0
+move_out-requires-clause-proper g c = let a = c.is_free_name.ensures in let b = c.if-not-is_free_name.false in cc
 
 pub move_out-requires-clause-within : goal.move_out-requires-clause-within
 move_out-requires-clause-within g c m told =

@@ -8,7 +8,7 @@ use Rattle.bfs_attr.specs.SmallData.{attribute_in}
 use Rattle.bfs_attrs.specs.Moved.{IsWithin, HasMovedOut, IsNotMoved}
 use Rattle.bfs_attrs.proofs.Begins.{add_wider_kept}
 use Rattle.bfs_attrs.proofs.Moves.{undone_moved}
-use Rattle.bfs_set_name.specs.Renamed.{CanBeRow, IsPlaced, longest_in}
+use Rattle.bfs_set_name.specs.Renamed.{IsShortNamed, IsPlaced, longest_in}
 use Rattle.bfs_set_name.proofs.Placed.{begun, is_here, none_placed}
 use Rattle.bfs_set_name.proofs.Nexts.{next_within, block_undone, block_added}
 use Rattle.bfs_set_name.proofs.leaving.move_longest.Goals as goal
@@ -39,15 +39,15 @@ move_item-requires-clause-whole g c =
     (begun c.deref.result.now c.deref-in-Some.result.now c.in-Some.at (c.deref-in-Some.ensures.value ∙ sym c.deref.ensures.value)
     (subst (λ (o : Option ℕ). IsPlaced c.deref.result.now (longest_in (drop 232 c.deref.result.now)) o) c.in-Some.is c.longest_place.ensures.placed)).2.inside
 
-pub move_item-requires-clause-row : goal.move_item-requires-clause-row
-move_item-requires-clause-row g c m told =
+pub move_item-requires-clause-named : goal.move_item-requires-clause-named
+move_item-requires-clause-named g c m told =
     let told0 = sym c.in-Ok.ensures.told ∙ told in
     let next = c.requires.next m told0 in
     let same : c.deref.result.now ≡ contents m c.args.inode = c.deref.ensures.value ∙ c.in-Ok.ensures.read m told0 next.1.holds.inode in
-    subst CanBeRow
+    subst IsShortNamed
     (is_here c.deref.result.now c.deref-in-Some.result.now c.in-Some.at (c.deref-in-Some.ensures.value ∙ sym c.deref.ensures.value) (contents m c.args.inode) next.0
     (subst (λ (o : Option ℕ). IsPlaced c.deref.result.now (longest_in (drop 232 c.deref.result.now)) o) c.in-Some.is c.longest_place.ensures.placed) same next.1.first)
-    next.1.row
+    next.1.short
 
 pub move_item-requires-clause-within : goal.move_item-requires-clause-within
 move_item-requires-clause-within g c m told =

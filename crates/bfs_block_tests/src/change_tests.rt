@@ -184,6 +184,113 @@ fn lie_inside(blocks: &Changed, memory: &MemBlocks) -> bool
     true
 }
 
+/// Changes the blocks below 300 with a remainder, in rising or in falling order.
+fn write_each<E: Edits>(
+    edits: &mut E,
+    step: u64,
+    rest: u64,
+    falls: bool,
+    value: u8,
+) -> Result<(), BlockFault>
+    requires size { E.size edits.old ≡ 4 }
+    requires step { 0 < step }
+    ensures size { E.size edits.new ≡ E.size edits.old }
+    ensures frame { E.frame edits.new ≡ E.frame edits.old }
+{
+    for k in 0..300 {
+        let block = if falls { 299 - k } else { k };
+        if block % step == rest {
+            write(edits, block, value)?;
+        }
+    }
+    Ok(())
+}
+
+/// A call that changes those blocks, and is kept.
+fn keep_each<B: Blocks>(
+    open: &mut Changed,
+    under: &mut B,
+    step: u64,
+    rest: u64,
+    falls: bool,
+    value: u8,
+) -> Result<(), BlockFault>
+    requires block { B.size under.old ≡ 4 }
+    requires step { 0 < step }
+    requires ascends { Ascends «open».old }
+    requires sized { AreOfSize 4 «open».old }
+    ensures ascends { Ascends «open».new }
+    ensures sized { AreOfSize 4 «open».new }
+    ensures size { B.size under.new ≡ B.size under.old }
+{
+    let mut call = Overlay::begin(open, under);
+    let done = write_each(&mut call, step, rest, falls, value);
+    call.keep();
+    done
+}
+
+/// What a block has once ones were written to each third block, twos to each second one, and threes to each fifth one from block 1 on; 0 where it wasn't
+/// written.
+fn value_of(block: u64) -> u8 {
+    if block % 5 == 1 {
+        3
+    } else if block % 2 == 0 {
+        2
+    } else if block % 3 == 0 {
+        1
+    } else {
+        0
+    }
+}
+
+/// Is block `block` the next pair, where it was written, and is it found with its bytes?
+fn is_next(open: &Changed, i: usize, block: u64) -> bool
+    requires { Ascends open.now }
+{
+    let value = value_of(block);
+    if value == 0 {
+        return open.find(block) == None;
+    }
+    if i >= open.len() {
+        return false;
+    }
+    let bytes = [value; 4];
+    let here = open.block(i) == block && open.bytes(i) == bytes.as_slice();
+    here && open.find(block) == Some(bytes.as_slice())
+}
+
+/// Are the pairs those of the blocks below 300 that were written, in order?
+fn are_merged(open: &Changed) -> bool
+    requires { Ascends open.now }
+{
+    let mut i = 0usize;
+    for block in 0..300 {
+        if !is_next(open, i, block) {
+            return false;
+        }
+        if value_of(block) > 0 {
+            i = i.saturating_add(1);
+        }
+    }
+    i == open.len()
+}
+
+#[test]
+fn many_blocks_of_three_calls_are_merged_in_order(rt: HostRuntime) -> Result<(), Fail> {
+    let alloc = rt.alloc();
+    let bytes = Vec::from_slice(alloc, &[0, 0, 0, 0])?;
+    let mut memory = MemBlocks::new(bytes, 4);
+    let mut open = Changed::new(alloc);
+    keep_each(&mut open, &mut memory, 3, 0, false, 1)?;
+    keep_each(&mut open, &mut memory, 2, 0, false, 2)?;
+    let two = open.len();
+    keep_each(&mut open, &mut memory, 5, 1, true, 3)?;
+    // 100 thirds and 150 halves, of which 50 are both; of 60 fifths 20 are neither.
+    assert_eq!(rt; [two, open.len()], [200, 220]);
+    assert_eq!(rt; are_merged(&open), true);
+    Ok(())
+}
+
 fn counted<L: Ledger>(ledger: Blank)
     requires name { ledger.name ≡ L.name }
     requires parts { ledger.parts ≡ L.parts }

@@ -1,7 +1,50 @@
-// The ports in memory, and the system's clock.
-use bfs_ports::{Clock, Fixed, Mem, Sink, Source, SystemClock};
+// The ports in memory, those over a reader and a writer, and the system's clock.
+ghost use Rattle.std.specs.Prelude.{◌≡◌, IfOk};
+
+use bfs_ports::{Clock, Failed, Fixed, Input, Mem, Output, Sink, Source, SystemClock};
 use std::alloc::{AllocError, Global};
+use std::io;
+use std::io::{ErrorKind, Read, Write};
 use std::test::Fail;
+
+/// Signals interrupt so many calls; the next one takes the whole slice, and those behind it fail.
+#[derive(Drop)]
+struct Interrupted {
+    signals: u64,
+    done: bool,
+}
+
+impl Interrupted {
+    fn pass(&mut self, length: usize) -> io::Result<usize>
+        ensures { IfOk result (λ n. n ≡ length) }
+    {
+        if self.signals > 0 {
+            self.signals -= 1;
+            return Err(ErrorKind::Interrupted.into());
+        }
+        if self.done {
+            return Err(ErrorKind::BrokenPipe.into());
+        }
+        self.done = true;
+        Ok(length)
+    }
+}
+
+impl Read for Interrupted {
+    fn read(&mut self, into: &mut [u8]) -> io::Result<usize> {
+        self.pass(into.len())
+    }
+}
+
+impl Write for Interrupted {
+    fn write(&mut self, from: &[u8]) -> io::Result<usize> {
+        self.pass(from.len())
+    }
+
+    fn flush(&mut self) -> io::Result<()> {
+        Ok(())
+    }
+}
 
 fn bytes(alloc: Global, text: &[u8]) -> Result<Vec<u8>, AllocError> {
     text.to_vec(alloc)
@@ -51,6 +94,29 @@ fn a_source_fails_exactly_its_planned_calls(rt: HostRuntime) -> Result<(), Fail>
         assert_eq!(rt; source.take(&mut into).is_ok(), call != 1 && call != 3);
     }
     assert!(rt; into == *b"cd");
+    Ok(())
+}
+
+#[test]
+fn an_interrupted_read_is_made_again_and_a_failed_one_is_not(rt: HostRuntime) -> Result<(), Fail> {
+    let mut source = Input::over(Interrupted {
+        signals: 3,
+        done: false,
+    });
+    let mut into = [0u8; 4];
+    assert_eq!(rt; source.take(&mut into), Ok(4));
+    assert_eq!(rt; source.take(&mut into), Err(Failed));
+    Ok(())
+}
+
+#[test]
+fn an_interrupted_write_is_made_again_and_a_failed_one_is_not(rt: HostRuntime) -> Result<(), Fail> {
+    let mut sink = Output::over(Interrupted {
+        signals: 3,
+        done: false,
+    });
+    assert_eq!(rt; sink.put(b"abc"), Ok(3));
+    assert_eq!(rt; sink.put(b"abc"), Err(Failed));
     Ok(())
 }
 

@@ -145,6 +145,30 @@ def attributes():
         says("and of too many", ["1 attr /a x RAWT*65537"], ["toobig"])
 
 
+def dots():
+    """Another maker may have an attribute named `.` in small data. No row of an attribute directory can have that name, so it stays where it is.
+
+    The area of an inode's block has 792 bytes, and an item 12 beside its name and its bytes. Here two attributes take 17 and 613, and the file's own name of a
+    letter 14: a name of 200 bytes takes 213, for which the longer attribute moves out. Where that one is named `.`, the name can't be set."""
+    long = "n" * 200
+    for dotted, other, moves in ((4, 600, True), (600, 4, False)):
+        fresh()
+        says("two attributes", ["1 make /f", f"1 attr /f q RAWT*{dotted}", f"1 attr /f a RAWT*{other}"], ["ok", "ok", "ok"])
+        size, old = dotted.to_bytes(2, "little"), content()
+        item = b"TWAR" + b"\1\0" + size + b"q"
+        check("an item stands in the image", item in old, item)
+        with open(image, "wb") as file:
+            file.write(old.replace(item, item[:-1] + b"."))
+        is_whole("one of them named by a dot", 2, 530)
+        if moves:
+            says("the other moves for a long name", [f"1 mv /f /{long}", f"1 attrs /{long}", "1 ls /"], ["ok", "ok 2 RAWT=. RAWT=a", f"ok 1 {long}"])
+            is_whole("an attribute directory was made", 2, 530 + 3 + 2)
+        else:
+            check("no name for which it would have to move", run(["sh"], f"1 mv /f /{long}\n") == (7, ""))
+            says("the file is as it was", ["1 ls /", "1 attrs /f"], ["ok 1 f", "ok 2 RAWT=. RAWT=a"])
+            is_whole("and so is the volume", 2, 530)
+
+
 def files():
     """Sizes, pieces and links."""
     fresh()
@@ -227,7 +251,7 @@ def mail():
          ["ok 3 300=kept0 301=kept1 302=kept2", "ok 10 " + " ".join(["subject7=mail7"] * 10)])
 
 
-for case in (names, indices, attributes, files, small, refused, mail):
+for case in (names, indices, attributes, dots, files, small, refused, mail):
     case()
 print(f"{passed} passed, {failed} failed")
 sys.exit(failed > 0)

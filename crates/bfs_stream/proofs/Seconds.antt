@@ -1,5 +1,5 @@
 -- A stream whose double indirect level has no array.
-use Rattle.std.proofs.Common.{◌≡◌, ◌+◌, ◌-◌, ◌∙◌, ℕ, List, [], ◌∷◌, ◌++◌, length, Option, ap, arith, length-append}
+use Rattle.std.proofs.Common.{◌≡◌, ◌+◌, ◌∙◌, ℕ, List, [], ◌∷◌, ◌++◌, length, Option, ap, arith, length-append}
 use Rattle.std.specs.List.{flat_map}
 use Rattle.bfs_bytes.specs.declared.Run.{Run}
 use Rattle.bfs_stream.specs.Sizes.{Origin, first_block}

@@ -287,8 +287,47 @@ impl Stream {
         self.in_double(under, bytes, array, place - ends.indirect)
     }
 
-    /// The block at a place of the stream, which counts its blocks from 0. It reads the inode and, beside it, one table
-    /// of runs, or two under double indirect.
+    /// The block at a place of the stream, which counts its blocks from 0. It reads the inode and, beside it, the tables of
+    /// runs up to the place, or two under double indirect, into a buffer of a block's length. Takes no memory.
+    pub fn look_up<B: Blocks>(
+        &mut self,
+        under: &mut B,
+        bytes: &mut [u8],
+        index: u64,
+    ) -> Result<u64, StreamFault>
+        requires size { B.size under.old ≡ self.old.sizes.block_size }
+        requires length { length bytes.old ≡ self.old.sizes.block_size }
+        ensures found { (m : ℕ → Option (List ℕ)) → B.told under.old ≡ Some m → Stands self.old m → IfOk result (λ block. slice_get (places_at self.old.sizes (contents m) self.old.id) index ≡ Some block) }
+        ensures none { (m : ℕ → Option (List ℕ)) → B.told under.old ≡ Some m → Stands self.old m → IfErr result (HasNoBlock (places_at self.old.sizes (contents m) self.old.id) index) }
+        ensures damaged { (m : ℕ → Option (List ℕ)) → B.told under.old ≡ Some m → IsSome (m self.old.id) → IfErr result (IsDamagedAt self.old m index) }
+        ensures blamed { IfErr result (IsBlamedAt self.old (B.last under.new) index) }
+        ensures below { IfOk result (λ block. block < self.old.sizes.blocks) }
+        ensures length { length bytes.new ≡ self.old.sizes.block_size }
+        ensures same { self.new ≡ self.old }
+        ensures told { B.told under.new ≡ B.told under.old }
+        ensures changed { B.changed under.new ≡ B.changed under.old }
+        ensures pairs { B.pairs under.new ≡ B.pairs under.old }
+        ensures size { B.size under.new ≡ B.size under.old }
+        ensures frame { B.frame under.new ≡ B.frame under.old }
+        ensures later { AreLater (B.counts under.old) (B.counts under.new) }
+        ensures cause { IfErr result (IsStreamCause (B.counts under.old) (B.counts under.new)) }
+    {
+        self.sizes();
+        match under.get(self.inode, bytes) {
+            Ok(()) => {}
+            Err(fault) => return Err(StreamFault::Block(fault)),
+        }
+        let blocks = self.ends(bytes).last();
+        if index >= blocks {
+            return Err(StreamFault::PastEnd { blocks });
+        }
+        match self.in_levels(under, bytes, index) {
+            Ok(block) => Ok(block),
+            Err(fault) => Err(StreamFault::Block(fault)),
+        }
+    }
+
+    /// The same, with a buffer of its own.
     pub fn block<B: Blocks>(&mut self, under: &mut B, index: u64) -> Result<u64, StreamFault>
         requires { B.size under.old ≡ self.old.sizes.block_size }
         ensures found { (m : ℕ → Option (List ℕ)) → B.told under.old ≡ Some m → Stands self.old m → IfOk result (λ block. slice_get (places_at self.old.sizes (contents m) self.old.id) index ≡ Some block) }
@@ -305,22 +344,9 @@ impl Stream {
         ensures later { AreLater (B.counts under.old) (B.counts under.new) }
         ensures cause { IfErr result (IsStreamCause (B.counts under.old) (B.counts under.new)) }
     {
-        self.sizes();
-        let mut bytes = match vec![in self.alloc; 0u8; self.block_size as usize] {
-            Ok(bytes) => bytes,
-            Err(_) => return Err(StreamFault::Block(BlockFault::NoMemory)),
-        };
-        match under.get(self.inode, &mut bytes) {
-            Ok(()) => {}
-            Err(fault) => return Err(StreamFault::Block(fault)),
-        }
-        let blocks = self.ends(&bytes).last();
-        if index >= blocks {
-            return Err(StreamFault::PastEnd { blocks });
-        }
-        match self.in_levels(under, &mut bytes, index) {
-            Ok(block) => Ok(block),
-            Err(fault) => Err(StreamFault::Block(fault)),
+        match vec![in self.alloc; 0u8; self.block_size as usize] {
+            Ok(mut bytes) => self.look_up(under, &mut bytes, index),
+            Err(_) => Err(StreamFault::Block(BlockFault::NoMemory)),
         }
     }
 

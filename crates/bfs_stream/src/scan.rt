@@ -46,7 +46,7 @@ impl Stream {
         run.group as u64 * self.group_blocks + u64::from(run.start)
     }
 
-    /// Looks through some runs, from a byte on, for the block at a place.
+    /// Looks through some runs, from a byte on, for the block at a place. Of a run that is passed over only the length is read.
     pub(crate) fn scan(&self, bytes: &[u8], at: usize, runs: usize, place: u64) -> Scan
         requires { at + 8 * runs ≤ length bytes.now }
         ensures scan { IsScan self.now.sizes (runs_in runs bytes.now at) place result }
@@ -56,12 +56,15 @@ impl Stream {
         let mut left = place;
         for i in 0..runs {
             let run = run_at(bytes, at + 8 * i);
-            if !self.is_used(run) {
-                return Scan::Broken;
-            }
             let len = u64::from(run.len);
             if left < len {
+                if !self.holds(run) {
+                    return Scan::Broken;
+                }
                 return Scan::Found(self.first_block(run) + left);
+            }
+            if len == 0 {
+                return Scan::Broken;
             }
             left -= len;
         }

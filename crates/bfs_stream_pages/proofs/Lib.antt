@@ -4,3 +4,4 @@ pub mod Rooms
 pub mod Filled
 pub mod Paged
 pub mod Readers
+pub mod Wholes

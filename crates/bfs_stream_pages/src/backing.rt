@@ -1,5 +1,5 @@
 // One stream of a volume, read and written by parts of its blocks.
-ghost use Rattle.std.specs.Prelude.{◌≡◌, ◌≤◌, ◌<◌, ◌⊎◌, ℕ, ◌+◌, ◌*◌, ◌^◌, ◌%◌, pos, true, List, length, Option, Some, OnOk, OnErr, IfOk, IfErr, slice_get, take, drop};
+ghost use Rattle.std.specs.Prelude.{◌≡◌, ◌≤◌, ◌<◌, ◌⊎◌, ℕ, ◌+◌, ◌*◌, ◌^◌, ◌%◌, pos, true, IsTrue, List, length, Option, Some, OnOk, OnErr, IfOk, IfErr, slice_get, take, drop};
 ghost use Rattle.bfs_super.specs.Conditions.{IsValid, natural};
 ghost use Rattle.bfs_super.specs.Geometry.{IsBlockSize};
 ghost use Rattle.bfs_base.specs.Lists.{IsOnce};
@@ -89,8 +89,48 @@ impl Backing {
         }
     }
 
+    /// Is a block as long as a page?
+    fn is_page(&self) -> bool
+        ensures yes { IsTrue result → self.now.sizes.block_size ≡ 1024 }
+    {
+        self.block_size == 1024
+    }
+
+    /// The number of the stream's block at a place, by its tables of runs, which are read into the buffer.
+    fn find<B: Blocks>(
+        &mut self,
+        under: &mut B,
+        index: u64,
+        block: &mut [u8],
+    ) -> Result<u64, GrowFault>
+        requires size { B.size under.old ≡ self.old.sizes.block_size }
+        requires block { length block.old ≡ self.old.sizes.block_size }
+        ensures found { (m : ℕ → Option (List ℕ)) → B.told under.old ≡ Some m → Stands self.old m → IfOk result (λ n. slice_get (places_at self.old.sizes (contents m) self.old.id) index ≡ Some n) }
+        ensures sound { (m : ℕ → Option (List ℕ)) → B.told under.old ≡ Some m → Stands self.old m → index < length (places_at self.old.sizes (contents m) self.old.id) → IfErr result IsUndamaged }
+        ensures below { IfOk result (λ n. n < self.old.sizes.blocks) }
+        ensures length { length block.new ≡ self.old.sizes.block_size }
+        ensures same { self.new ≡ self.old }
+        ensures told { B.told under.new ≡ B.told under.old }
+        ensures changed { B.changed under.new ≡ B.changed under.old }
+        ensures pairs { B.pairs under.new ≡ B.pairs under.old }
+        ensures size { B.size under.new ≡ B.size under.old }
+        ensures frame { B.frame under.new ≡ B.frame under.old }
+        ensures later { AreLater (B.counts under.old) (B.counts under.new) }
+        ensures block { IfErr result IsOfBlock }
+        ensures cause { IfErr result (IsGrowCause 1 (B.counts under.old) (B.counts under.new)) }
+    {
+        let number = match self.stream.look_up(under, block, index) {
+            Ok(number) => number,
+            Err(StreamFault::PastEnd { .. }) => {
+                return Err(GrowFault::Block(BlockFault::Damaged { block: self.inode }));
+            }
+            Err(StreamFault::Block(fault)) => return Err(GrowFault::Block(fault)),
+        };
+        Ok(number)
+    }
+
     /// Reads the stream's block at a place, and gives its number.
-    pub(crate) fn load<B: Blocks>(
+    fn load<B: Blocks>(
         &mut self,
         under: &mut B,
         index: u64,
@@ -112,12 +152,9 @@ impl Backing {
         ensures block { IfErr result IsOfBlock }
         ensures cause { IfErr result (IsGrowCause 1 (B.counts under.old) (B.counts under.new)) }
     {
-        let number = match self.stream.block(under, index) {
+        let number = match self.find(under, index, block) {
             Ok(number) => number,
-            Err(StreamFault::PastEnd { .. }) => {
-                return Err(GrowFault::Block(BlockFault::Damaged { block: self.inode }));
-            }
-            Err(StreamFault::Block(fault)) => return Err(GrowFault::Block(fault)),
+            Err(fault) => return Err(fault),
         };
         match under.get(number, block) {
             Ok(()) => {}
@@ -127,7 +164,7 @@ impl Backing {
     }
 
     /// Reads a page of the stream from a block's byte on. The buffer then has that block.
-    pub(crate) fn read_page<B: Blocks>(
+    fn read_page<B: Blocks>(
         &mut self,
         under: &mut B,
         block: &mut [u8],
@@ -158,6 +195,43 @@ impl Backing {
         }
         take_part(block, start, into);
         Ok(())
+    }
+
+    /// Reads a page of the stream from a block's byte on, with a buffer where a block is longer than a page.
+    pub(crate) fn get_page<B: Blocks>(
+        &mut self,
+        under: &mut B,
+        index: u64,
+        start: usize,
+        into: &mut [u8],
+    ) -> Result<(), GrowFault>
+        requires size { B.size under.old ≡ self.old.sizes.block_size }
+        requires page { length into.old ≡ 1024 }
+        requires inside { start + 1024 ≤ self.old.sizes.block_size }
+        ensures page { (long : ℕ) (m : ℕ → Option (List ℕ)) → B.told under.old ≡ Some m → IsReadable self.old long m → self.old.sizes.block_size * index + start + 1024 ≤ long → OnOk result (into.new ≡ page_at (stream_of self.old m) (self.old.sizes.block_size * index + start)) }
+        ensures sound { (m : ℕ → Option (List ℕ)) → B.told under.old ≡ Some m → Stands self.old m → index < length (places_at self.old.sizes (contents m) self.old.id) → IfErr result IsUndamaged }
+        ensures length { length into.new ≡ 1024 }
+        ensures same { self.new ≡ self.old }
+        ensures told { B.told under.new ≡ B.told under.old }
+        ensures changed { B.changed under.new ≡ B.changed under.old }
+        ensures pairs { B.pairs under.new ≡ B.pairs under.old }
+        ensures size { B.size under.new ≡ B.size under.old }
+        ensures frame { B.frame under.new ≡ B.frame under.old }
+        ensures later { AreLater (B.counts under.old) (B.counts under.new) }
+        ensures block { IfErr result IsOfBlock }
+        ensures cause { IfErr result (IsGrowCause 1 (B.counts under.old) (B.counts under.new)) }
+    {
+        if self.is_page() {
+            return match self.load(under, index, into) {
+                Ok(_) => Ok(()),
+                Err(fault) => Err(fault),
+            };
+        }
+        let mut block = match self.buffer() {
+            Ok(block) => block,
+            Err(fault) => return Err(fault),
+        };
+        self.read_page(under, &mut block, index, start, into)
     }
 
     /// Adds a block at the end where the stream has none at a place. Blocks that are added are zeros.
@@ -252,6 +326,50 @@ impl Backing {
         Ok(())
     }
 
+    /// The stream's block at a place with a page in it, from a byte of the block on: its number, and in the buffer its bytes. A block
+    /// that is as long as the page isn't read.
+    fn with<B: Blocks>(
+        &mut self,
+        under: &mut B,
+        block: &mut [u8],
+        index: u64,
+        start: usize,
+        from: &[u8],
+    ) -> Result<u64, GrowFault>
+        requires size { B.size under.old ≡ self.old.sizes.block_size }
+        requires block { length block.old ≡ self.old.sizes.block_size }
+        requires page { length from.now ≡ 1024 }
+        requires inside { start + 1024 ≤ self.old.sizes.block_size }
+        ensures made { (m : ℕ → Option (List ℕ)) → B.told under.old ≡ Some m → Stands self.old m → AreTold m (places_at self.old.sizes (contents m) self.old.id) → IfOk result (λ n. (slice_get (places_at self.old.sizes (contents m) self.old.id) index ≡ Some n) × (block.new ≡ with_page start from.now (contents m n))) }
+        ensures sound { (m : ℕ → Option (List ℕ)) → B.told under.old ≡ Some m → Stands self.old m → index < length (places_at self.old.sizes (contents m) self.old.id) → IfErr result IsUndamaged }
+        ensures below { IfOk result (λ n. n < self.old.sizes.blocks) }
+        ensures length { length block.new ≡ self.old.sizes.block_size }
+        ensures same { self.new ≡ self.old }
+        ensures told { B.told under.new ≡ B.told under.old }
+        ensures changed { B.changed under.new ≡ B.changed under.old }
+        ensures pairs { B.pairs under.new ≡ B.pairs under.old }
+        ensures size { B.size under.new ≡ B.size under.old }
+        ensures frame { B.frame under.new ≡ B.frame under.old }
+        ensures later { AreLater (B.counts under.old) (B.counts under.new) }
+        ensures block { IfErr result IsOfBlock }
+        ensures cause { IfErr result (IsGrowCause 1 (B.counts under.old) (B.counts under.new)) }
+    {
+        if self.is_page() {
+            let number = match self.find(under, index, block) {
+                Ok(number) => number,
+                Err(fault) => return Err(fault),
+            };
+            block.copy_from_slice(from);
+            return Ok(number);
+        }
+        let number = match self.load(under, index, block) {
+            Ok(number) => number,
+            Err(fault) => return Err(fault),
+        };
+        put(block, start, from);
+        Ok(number)
+    }
+
     /// Writes a page into the stream's block at a place, from a byte of the block on. The buffer then has that block.
     pub(crate) fn put_page<E: Edits>(
         &mut self,
@@ -277,11 +395,10 @@ impl Backing {
         ensures block { IfErr result IsOfBlock }
         ensures cause { IfErr result (IsGrowCause 1 (E.counts edits.old) (E.counts edits.new)) }
     {
-        let number = match self.load(edits, index, block) {
+        let number = match self.with(edits, block, index, start, from) {
             Ok(number) => number,
             Err(fault) => return Err(fault),
         };
-        put(block, start, from);
         match edits.set(number, block) {
             Ok(()) => {}
             Err(_) => return Err(GrowFault::Block(BlockFault::NoMemory)),

@@ -162,15 +162,8 @@ impl<E: Edits> Pages for StreamPages<'_, '_, E> {
             Ok(()) => {}
             Err(fault) => return Err(fault),
         }
-        let mut block = match self.backing.buffer() {
-            Ok(block) => block,
-            Err(fault) => return Err(fault),
-        };
         let (index, start) = self.backing.place(at);
-        match self
-            .backing
-            .read_page(self.edits, &mut block, index, start, into)
-        {
+        match self.backing.get_page(self.edits, index, start, into) {
             Ok(()) => {}
             Err(fault) => return Err(fault),
         }

@@ -106,15 +106,8 @@ impl<B: Blocks> Pages for StreamReader<'_, B> {
         steps: &mut Steps<L>,
     ) -> Result<(), GrowFault> {
         steps.count();
-        let mut block = match self.backing.buffer() {
-            Ok(block) => block,
-            Err(fault) => return Err(fault),
-        };
         let (index, start) = self.backing.place(at);
-        match self
-            .backing
-            .read_page(self.under, &mut block, index, start, into)
-        {
+        match self.backing.get_page(self.under, index, start, into) {
             Ok(()) => {}
             Err(fault) => return Err(fault),
         }

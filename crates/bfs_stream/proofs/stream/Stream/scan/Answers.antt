@@ -1,14 +1,21 @@
-use Rattle.std.proofs.Common.{◌≡◌, ◌<◌, ◌+◌, ◌-◌, ◌∙◌, ℕ, ap, sym, subst, arith, Some, true, false, refl}
+use Rattle.std.proofs.Common.{◌≡◌, ◌+◌, ◌-◌, ◌∙◌, ℕ, ap, sym, subst, arith, Some, true, false}
 use Rattle.bfs_inode.specs.Inode.{runs_in}
 use Rattle.bfs_inode.proofs.Runs.{length-runs_in, get_or-runs_in}
 use Rattle.bfs_stream.proofs.Levels.{IsScanned, scanned_more, scanned_found, scanned_broken, scanned_all}
 use Rattle.bfs_stream.proofs.stream.Stream.scan.Goals as goal
 
-pub returns-then-not-is_used-clause-scan : goal.returns-then-not-is_used-clause-scan
-returns-then-not-is_used-clause-scan c =
+pub returns-then-not-holds-clause-scan : goal.returns-then-not-holds-clause-scan
+returns-then-not-holds-clause-scan c =
     let size = length-runs_in c.args.runs c.args.bytes.now c.args.at in
     let is = get_or-runs_in c.args.runs c.args.bytes.now c.args.at c.loop-i.i c.run_at-run.result (omega arith) ∙ sym c.run_at-run.ensures in
-    scanned_broken c.args.self.now.sizes (runs_in c.args.runs c.args.bytes.now c.args.at) c.args.place c.loop-i.i c.loop-i.left c.run_at-run.result (omega arith) is c.loop-i.invariant (λ some inside. let bad : false ≡ true = c.if-not-is_used.ensures.1 (omega arith, inside) in cc)
+    scanned_broken c.args.self.now.sizes (runs_in c.args.runs c.args.bytes.now c.args.at) c.args.place c.loop-i.i c.loop-i.left c.run_at-run.result (omega arith) is c.loop-i.invariant (λ some inside. let bad : false ≡ true = c.if-not-holds.ensures.1 inside in cc)
+
+pub returns-then-len-eq0-clause-scan : goal.returns-then-len-eq0-clause-scan
+returns-then-len-eq0-clause-scan c =
+    let size = length-runs_in c.args.runs c.args.bytes.now c.args.at in
+    let is = get_or-runs_in c.args.runs c.args.bytes.now c.args.at c.loop-i.i c.run_at-run.result (omega arith) ∙ sym c.run_at-run.ensures in
+    let len = c.from-len.ensures in
+    scanned_broken c.args.self.now.sizes (runs_in c.args.runs c.args.bytes.now c.args.at) c.args.place c.loop-i.i c.loop-i.left c.run_at-run.result (omega arith) is c.loop-i.invariant (λ some inside. absurd (some (omega arith)))
 
 pub returns-then-left-len-clause-scan : goal.returns-then-left-len-clause-scan
 returns-then-left-len-clause-scan c more =
@@ -23,8 +30,6 @@ loop-i-preserved c =
     let size = length-runs_in c.args.runs c.args.bytes.now c.args.at in
     let is = get_or-runs_in c.args.runs c.args.bytes.now c.args.at c.loop-i.i c.run_at-run.result (omega arith) ∙ sym c.run_at-run.ensures in
     let len = c.from-len.ensures in
-    let used = c.if-not-is_used.ensures.0 refl in
-    let some : 0 < c.run_at-run.result.len = used.0 in
     subst (λ (n : ℕ). IsScanned c.args.self.now.sizes (runs_in c.args.runs c.args.bytes.now c.args.at) c.args.place (c.loop-i.i + 1) (c.loop-i.left - n)) (sym len)
     (scanned_more c.args.self.now.sizes (runs_in c.args.runs c.args.bytes.now c.args.at) c.args.place c.loop-i.i c.loop-i.left c.run_at-run.result (omega arith) is c.loop-i.invariant (λ e. omega arith) (omega arith))
 

@@ -2,7 +2,7 @@ use Rattle.std.proofs.Common.{◌∙◌, ℕ, refl, sym, ap, arith}
 use Rattle.bfs_txn.specs.Pages.{page_at}
 use Rattle.bfs_stream_pages.specs.Held.{known, stream_of}
 use Rattle.bfs_stream_pages.specs.GoesLaws.{goes_same, long_fits, readable, read_same, read_quiet}
-use Rattle.bfs_stream_pages.proofs.Paged.{failed_block, noted_block, memory_block, goes_quiet, goes_failed, memory_page, has_cause, failed_now, undamaged_is, index_inside, page_inside, page_told}
+use Rattle.bfs_stream_pages.proofs.Paged.{failed_block, noted_block, goes_quiet, goes_failed, has_cause, failed_now, undamaged_is, index_inside, page_inside, page_told}
 use Rattle.bfs_stream_pages.proofs.pages.StreamPagesPages.get.Goals as goal
 
 pub returns-in-Err-clause-goes_on : goal.returns-in-Err-clause-goes_on
@@ -11,67 +11,51 @@ returns-in-Err-clause-goes_on g c = let s = c.args.self.now in (refl, refl, goes
 pub returns-in-Err-clause-cause : goal.returns-in-Err-clause-cause
 returns-in-Err-clause-cause g c = let s = c.args.self.now in (goes_failed s.backing s.bitmap.now s.length (known s.failed (g.E.Blocks.told s.start.value) (g.E.Blocks.told s.edits.now)) s.failed (g.E.Blocks.counts s.edits.now) c.in-Err.fault c.in-Err.ensures.again, failed_block s.fixed s.failed c.in-Err.fault s.unfailed c.in-Err.ensures.again, noted_block s.failed c.in-Err.fault c.in-Err.fault c.in-Err.ensures.again)
 
-pub returns-in-Err-buffer-clause-goes_on : goal.returns-in-Err-buffer-clause-goes_on
-returns-in-Err-buffer-clause-goes_on g c =
+pub returns-in-Err-get_page-clause-goes_on : goal.returns-in-Err-get_page-clause-goes_on
+returns-in-Err-get_page-clause-goes_on g c =
     let s = c.args.self.now in (
-      refl,
-      refl,
-      goes_quiet s.backing s.bitmap.now s.length s.failed (g.E.Blocks.told s.start.value) (g.E.Blocks.told s.edits.now) (g.E.Blocks.told s.edits.now) (g.E.Blocks.changed s.edits.now) (g.E.Blocks.changed s.edits.now) (g.E.Blocks.counts s.edits.now) (g.E.Blocks.counts s.edits.now) c.in-Ok.ensures.none refl refl
-          (record { faults = omega arith; stops = refl; stop = refl }),
+      c.get_page.ensures.same,
+      c.get_page.ensures.frame,
+      goes_quiet s.backing s.bitmap.now s.length s.failed (g.E.Blocks.told s.start.value) (g.E.Blocks.told s.edits.now) (g.E.Blocks.told c.get_page.new.under) (g.E.Blocks.changed s.edits.now) (g.E.Blocks.changed c.get_page.new.under) (g.E.Blocks.counts s.edits.now) (g.E.Blocks.counts c.get_page.new.under)
+          c.in-Ok.ensures.none c.get_page.ensures.told c.get_page.ensures.changed c.get_page.ensures.later,
       refl,
     )
 
-pub returns-in-Err-buffer-clause-cause : goal.returns-in-Err-buffer-clause-cause
-returns-in-Err-buffer-clause-cause g c = let s = c.args.self.now in (memory_page s.backing s.bitmap.now s.length s.failed (g.E.Blocks.told s.start.value) (g.E.Blocks.told s.edits.now) (g.E.Blocks.counts s.edits.now) c.in-Err-buffer.fault c.in-Ok.ensures.none c.in-Err-buffer.ensures.fault, λ is. memory_block c.in-Err-buffer.fault c.in-Err-buffer.ensures.fault, λ is. memory_block c.in-Err-buffer.fault c.in-Err-buffer.ensures.fault)
-
-pub returns-in-Err-read_page-clause-goes_on : goal.returns-in-Err-read_page-clause-goes_on
-returns-in-Err-read_page-clause-goes_on g c =
+pub returns-in-Err-get_page-clause-cause : goal.returns-in-Err-get_page-clause-cause
+returns-in-Err-get_page-clause-cause g c =
     let s = c.args.self.now in (
-      c.read_page.ensures.same,
-      c.read_page.ensures.frame,
-      goes_quiet s.backing s.bitmap.now s.length s.failed (g.E.Blocks.told s.start.value) (g.E.Blocks.told s.edits.now) (g.E.Blocks.told c.read_page.new.under) (g.E.Blocks.changed s.edits.now) (g.E.Blocks.changed c.read_page.new.under) (g.E.Blocks.counts s.edits.now) (g.E.Blocks.counts c.read_page.new.under)
-          c.in-Ok.ensures.none c.read_page.ensures.told c.read_page.ensures.changed c.read_page.ensures.later,
-      refl,
-    )
-
-pub returns-in-Err-read_page-clause-cause : goal.returns-in-Err-read_page-clause-cause
-returns-in-Err-read_page-clause-cause g c =
-    let s = c.args.self.now in (
-      has_cause s.backing s.bitmap.now s.length s.failed (g.E.Blocks.told s.start.value) (g.E.Blocks.told s.edits.now) (g.E.Blocks.counts s.edits.now) (g.E.Blocks.counts c.read_page.new.under) c.in-Err-read_page.fault c.in-Ok.ensures.none c.in-Err-read_page.ensures.cause
-          (λ m is h. failed_now s.backing s.bitmap.now s.length m c.in-Err-read_page.fault h
-          (undamaged_is s.backing s.bitmap.now m c.in-Err-read_page.fault
-          (c.in-Err-read_page.ensures.sound m is h.owns.stands (index_inside s.backing.sizes.block_size c.args.at c.place-index.result.0 c.place-index.result.1 s.length _ c.place-index.ensures.at c.requires.inside (long_fits s.backing s.bitmap.now s.length m h))))),
-      λ is. c.in-Err-read_page.ensures.block,
-      λ is. c.in-Err-read_page.ensures.block,
+      has_cause s.backing s.bitmap.now s.length s.failed (g.E.Blocks.told s.start.value) (g.E.Blocks.told s.edits.now) (g.E.Blocks.counts s.edits.now) (g.E.Blocks.counts c.get_page.new.under) c.in-Err-get_page.fault c.in-Ok.ensures.none c.in-Err-get_page.ensures.cause
+          (λ m is h. failed_now s.backing s.bitmap.now s.length m c.in-Err-get_page.fault h
+          (undamaged_is s.backing s.bitmap.now m c.in-Err-get_page.fault
+          (c.in-Err-get_page.ensures.sound m is h.owns.stands (index_inside s.backing.sizes.block_size c.args.at c.place-index.result.0 c.place-index.result.1 s.length _ c.place-index.ensures.at c.requires.inside (long_fits s.backing s.bitmap.now s.length m h))))),
+      λ is. c.in-Err-get_page.ensures.block,
+      λ is. c.in-Err-get_page.ensures.block,
     )
 
 pub returns-clause-goes_on : goal.returns-clause-goes_on
 returns-clause-goes_on g c =
     let s = c.args.self.now in (
-      c.read_page.ensures.same,
-      c.read_page.ensures.frame,
-      goes_quiet s.backing s.bitmap.now s.length s.failed (g.E.Blocks.told s.start.value) (g.E.Blocks.told s.edits.now) (g.E.Blocks.told c.read_page.new.under) (g.E.Blocks.changed s.edits.now) (g.E.Blocks.changed c.read_page.new.under) (g.E.Blocks.counts s.edits.now) (g.E.Blocks.counts c.read_page.new.under)
-          c.in-Ok.ensures.none c.read_page.ensures.told c.read_page.ensures.changed c.read_page.ensures.later,
+      c.get_page.ensures.same,
+      c.get_page.ensures.frame,
+      goes_quiet s.backing s.bitmap.now s.length s.failed (g.E.Blocks.told s.start.value) (g.E.Blocks.told s.edits.now) (g.E.Blocks.told c.get_page.new.under) (g.E.Blocks.changed s.edits.now) (g.E.Blocks.changed c.get_page.new.under) (g.E.Blocks.counts s.edits.now) (g.E.Blocks.counts c.get_page.new.under)
+          c.in-Ok.ensures.none c.get_page.ensures.told c.get_page.ensures.changed c.get_page.ensures.later,
       refl,
     )
 
 pub returns-clause-page : goal.returns-clause-page
 returns-clause-page g c =
     let s = c.args.self.now in
-    page_told s.backing s.bitmap.now s.length s.failed (g.E.Blocks.told s.start.value) (g.E.Blocks.told s.edits.now) s.tells s.held c.args.at c.read_page.new.into
+    page_told s.backing s.bitmap.now s.length s.failed (g.E.Blocks.told s.start.value) (g.E.Blocks.told s.edits.now) s.tells s.held c.args.at c.get_page.new.into
     (λ m is h.
     let low = page_inside c.args.at s.length c.requires.whole s.whole c.requires.inside in
     let at = c.place-index.ensures.at in
-    c.in-Ok-read_page.ensures.page s.length m is (readable s.backing s.bitmap.now s.length m h) (omega (arith, low, at)) ∙ ap (λ (k : ℕ). page_at (stream_of s.backing m) k) (sym at))
+    c.in-Ok-get_page.ensures.page s.length m is (readable s.backing s.bitmap.now s.length m h) (omega (arith, low, at)) ∙ ap (λ (k : ℕ). page_at (stream_of s.backing m) k) (sym at))
 
 pub returns-in-Err-clause-is_read : goal.returns-in-Err-clause-is_read
 returns-in-Err-clause-is_read g c = let s = c.args.self.now in (refl, refl, refl, refl, refl, read_same s.bitmap.now s.length (g.E.Blocks.told s.edits.now) s.failed (g.E.Blocks.changed s.edits.now) (g.E.Blocks.pairs s.edits.now) (g.E.Blocks.counts s.edits.now), refl)
 
-pub returns-in-Err-buffer-clause-is_read : goal.returns-in-Err-buffer-clause-is_read
-returns-in-Err-buffer-clause-is_read g c = let s = c.args.self.now in (refl, refl, refl, refl, refl, read_same s.bitmap.now s.length (g.E.Blocks.told s.edits.now) s.failed (g.E.Blocks.changed s.edits.now) (g.E.Blocks.pairs s.edits.now) (g.E.Blocks.counts s.edits.now), refl)
-
-pub returns-in-Err-read_page-clause-is_read : goal.returns-in-Err-read_page-clause-is_read
-returns-in-Err-read_page-clause-is_read g c = let s = c.args.self.now in (c.read_page.ensures.same, refl, c.read_page.ensures.frame, refl, refl, read_quiet s.bitmap.now s.length s.failed (g.E.Blocks.told s.edits.now) (g.E.Blocks.told c.read_page.new.under) (g.E.Blocks.changed s.edits.now) (g.E.Blocks.changed c.read_page.new.under) (g.E.Blocks.pairs s.edits.now) (g.E.Blocks.pairs c.read_page.new.under) (g.E.Blocks.counts s.edits.now) (g.E.Blocks.counts c.read_page.new.under) c.in-Ok.ensures.none c.read_page.ensures.told c.read_page.ensures.changed c.read_page.ensures.pairs c.read_page.ensures.later, refl)
+pub returns-in-Err-get_page-clause-is_read : goal.returns-in-Err-get_page-clause-is_read
+returns-in-Err-get_page-clause-is_read g c = let s = c.args.self.now in (c.get_page.ensures.same, refl, c.get_page.ensures.frame, refl, refl, read_quiet s.bitmap.now s.length s.failed (g.E.Blocks.told s.edits.now) (g.E.Blocks.told c.get_page.new.under) (g.E.Blocks.changed s.edits.now) (g.E.Blocks.changed c.get_page.new.under) (g.E.Blocks.pairs s.edits.now) (g.E.Blocks.pairs c.get_page.new.under) (g.E.Blocks.counts s.edits.now) (g.E.Blocks.counts c.get_page.new.under) c.in-Ok.ensures.none c.get_page.ensures.told c.get_page.ensures.changed c.get_page.ensures.pairs c.get_page.ensures.later, refl)
 
 pub returns-clause-is_read : goal.returns-clause-is_read
-returns-clause-is_read g c = let s = c.args.self.now in (c.read_page.ensures.same, refl, c.read_page.ensures.frame, refl, refl, read_quiet s.bitmap.now s.length s.failed (g.E.Blocks.told s.edits.now) (g.E.Blocks.told c.read_page.new.under) (g.E.Blocks.changed s.edits.now) (g.E.Blocks.changed c.read_page.new.under) (g.E.Blocks.pairs s.edits.now) (g.E.Blocks.pairs c.read_page.new.under) (g.E.Blocks.counts s.edits.now) (g.E.Blocks.counts c.read_page.new.under) c.in-Ok.ensures.none c.read_page.ensures.told c.read_page.ensures.changed c.read_page.ensures.pairs c.read_page.ensures.later, refl)
+returns-clause-is_read g c = let s = c.args.self.now in (c.get_page.ensures.same, refl, c.get_page.ensures.frame, refl, refl, read_quiet s.bitmap.now s.length s.failed (g.E.Blocks.told s.edits.now) (g.E.Blocks.told c.get_page.new.under) (g.E.Blocks.changed s.edits.now) (g.E.Blocks.changed c.get_page.new.under) (g.E.Blocks.pairs s.edits.now) (g.E.Blocks.pairs c.get_page.new.under) (g.E.Blocks.counts s.edits.now) (g.E.Blocks.counts c.get_page.new.under) c.in-Ok.ensures.none c.get_page.ensures.told c.get_page.ensures.changed c.get_page.ensures.pairs c.get_page.ensures.later, refl)

@@ -9,14 +9,14 @@ use Rattle.bfs_stream_pages.proofs.reader.StreamReaderPages.get.Goals as goal
 pub returns-clause-page : goal.returns-clause-page
 returns-clause-page g c =
     let s = c.args.self.now in
-    reader_page s.backing s.length (g.B.Blocks.told s.under.now) s.held c.args.at c.read_page.new.into
+    reader_page s.backing s.length (g.B.Blocks.told s.under.now) s.held c.args.at c.get_page.new.into
     (λ m is h.
     let low = page_inside c.args.at s.length c.requires.whole s.whole c.requires.inside in
     let at = c.place-index.ensures.at in
-    c.in-Ok-read_page.ensures.page s.length m is h (omega (arith, low, at)) ∙ ap (λ (k : ℕ). page_at (stream_of s.backing m) k) (sym at))
+    c.in-Ok.ensures.page s.length m is h (omega (arith, low, at)) ∙ ap (λ (k : ℕ). page_at (stream_of s.backing m) k) (sym at))
 
-pub returns-in-Err-read_page-clause-cause : goal.returns-in-Err-read_page-clause-cause
-returns-in-Err-read_page-clause-cause g c =
+pub returns-in-Err-clause-cause : goal.returns-in-Err-clause-cause
+returns-in-Err-clause-cause g c =
     let s = c.args.self.now in
-    reader_cause s.backing s.length (g.B.Blocks.told s.under.now) (g.B.Blocks.counts s.under.now) (g.B.Blocks.counts c.read_page.new.under) c.in-Err-read_page.fault s.held c.in-Err-read_page.ensures.block c.in-Err-read_page.ensures.cause
-    (λ m is h. c.in-Err-read_page.ensures.sound m is h.stands (index_inside s.backing.sizes.block_size c.args.at c.place-index.result.0 c.place-index.result.1 s.length _ c.place-index.ensures.at c.requires.inside (reads_fits s.backing s.length m h)))
+    reader_cause s.backing s.length (g.B.Blocks.told s.under.now) (g.B.Blocks.counts s.under.now) (g.B.Blocks.counts c.get_page.new.under) c.in-Err.fault s.held c.in-Err.ensures.block c.in-Err.ensures.cause
+    (λ m is h. c.in-Err.ensures.sound m is h.stands (index_inside s.backing.sizes.block_size c.args.at c.place-index.result.0 c.place-index.result.1 s.length _ c.place-index.ensures.at c.requires.inside (reads_fits s.backing s.length m h)))

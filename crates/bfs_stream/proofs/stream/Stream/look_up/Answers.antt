@@ -1,5 +1,4 @@
 use Rattle.std.proofs.Common.{◌≡◌, ◌∙◌, ℕ, List, Option, Some, length, ap, sym, subst, arith}
-use Rattle.std.proofs.lemmas.List.{with_items_is}
 use Rattle.bfs_inode.specs.Inode.{stream_at}
 use Rattle.bfs_stream.specs.Places.{fields, places_at}
 use Rattle.bfs_stream.proofs.Named.{direct_blocks, indirect_blocks, double_blocks}
@@ -9,15 +8,15 @@ use Rattle.bfs_stream.specs.Told.{contents}
 use Rattle.bfs_stream.specs.Scans.{IsDamagedBy, IsLevelRun, ends_of, last_end}
 use Rattle.bfs_stream.proofs.Arrays.{read_is}
 use Rattle.bfs_stream.proofs.Placed.{last_is, ends_are, length-places, told_inode}
-use Rattle.bfs_stream.proofs.stream.Stream.block.Goals as goal
+use Rattle.bfs_stream.proofs.stream.Stream.look_up.Goals as goal
 
 pub returns-then-index-blocks-clause-none : goal.returns-then-index-blocks-clause-none
 returns-then-index-blocks-clause-none g c m is stands =
     let o = c.args.self.now in
     let id : c.self.inside.inode ≡ o.id = ap (λ (x : Origin). x.id) c.self.view_is in
-    let of : AreOfBlock (g.B.Blocks.told c.args.under.now) o.id c.get.new.into = subst (λ (k : ℕ). AreOfBlock (g.B.Blocks.told c.args.under.now) k c.get.new.into) id c.in-Ok-get.ensures.bytes in
+    let of : AreOfBlock (g.B.Blocks.told c.args.under.now) o.id c.get.new.into = subst (λ (k : ℕ). AreOfBlock (g.B.Blocks.told c.args.under.now) k c.get.new.into) id c.in-Ok.ensures.bytes in
     let same = read_is m (g.B.Blocks.told c.args.under.now) o.id c.get.new.into is (told_inode m o stands) of in
-    let read : c.deref.result.now ≡ contents m o.id = c.deref.ensures.value ∙ with_items_is c.in-Ok.bytes c.get.new.into (let a = c.get.auto.into in let b = c.deref_mut.ensures.len in let d = c.deref_mut.ensures.value in let e = c.in-Ok.bytes.ok in omega (arith, a, b)) ∙ same in
+    let read : c.get.new.into ≡ contents m o.id = same in
     let here : c.ends.result ≡ ends_of o.sizes (fields o.sizes (contents m) o.id) = c.ends.ensures ∙ ap (λ (l : List ℕ). ends_of o.sizes (stream_at l)) read in
     let ends = ends_of o.sizes (fields o.sizes (contents m) o.id) in
     let are = ends_are o.sizes (contents m) o.id c.sizes.ensures.sizes stands.sound in
@@ -27,23 +26,22 @@ returns-then-index-blocks-clause-none g c m is stands =
     ∙ sym (length-places o.sizes (contents m) o.id) in
     (last, omega (arith, last))
 
-pub returns-clause-blamed : goal.returns-clause-blamed
-returns-clause-blamed g c =
+pub returns-in-Err-in_levels-clause-blamed : goal.returns-in-Err-in_levels-clause-blamed
+returns-in-Err-in_levels-clause-blamed g c =
     let o = c.args.self.now in
-    let bytes = c.deref_mut-2.result.now in
-    let read : bytes ≡ c.get.new.into = c.deref_mut-2.ensures.value ∙ with_items_is c.in-Ok.bytes c.get.new.into (let a = c.get.auto.into in let b = c.deref_mut.ensures.len in let d = c.deref_mut.ensures.value in let e = c.in-Ok.bytes.ok in omega (arith, a, b)) in
+    let bytes = c.get.new.into in
     let id : c.self.inside.inode ≡ o.id = ap (λ (x : Origin). x.id) c.self.view_is in
     let pair : ℕ → List ℕ → Option (ℕ × List ℕ) = λ k l. Some (k, l) in
-    let last : g.B.Blocks.last c.get.new.self ≡ Some (o.id, bytes) = c.in-Ok-get.ensures.last ∙ ap (λ (l : List ℕ). pair c.self.inside.inode l) (sym read) ∙ ap (λ (k : ℕ). pair k bytes) id in
+    let last : g.B.Blocks.last c.get.new.self ≡ Some (o.id, bytes) = c.in-Ok.ensures.last ∙ ap (λ (k : ℕ). pair k bytes) id in
     ((ends_of o.sizes (stream_at bytes)).indirect, c.in-Err-in_levels.ensures.blamed last)
 
-pub returns-clause-damaged : goal.returns-clause-damaged
-returns-clause-damaged g c m is some =
+pub returns-in-Err-in_levels-clause-damaged : goal.returns-in-Err-in_levels-clause-damaged
+returns-in-Err-in_levels-clause-damaged g c m is some =
     let o = c.args.self.now in
-    let bytes = c.deref_mut-2.result.now in
+    let bytes = c.get.new.into in
     let id : c.self.inside.inode ≡ o.id = ap (λ (x : Origin). x.id) c.self.view_is in
-    let of : AreOfBlock (g.B.Blocks.told c.args.under.now) o.id c.get.new.into = subst (λ (k : ℕ). AreOfBlock (g.B.Blocks.told c.args.under.now) k c.get.new.into) id c.in-Ok-get.ensures.bytes in
+    let of : AreOfBlock (g.B.Blocks.told c.args.under.now) o.id c.get.new.into = subst (λ (k : ℕ). AreOfBlock (g.B.Blocks.told c.args.under.now) k c.get.new.into) id c.in-Ok.ensures.bytes in
     let read : bytes ≡ contents m o.id =
-    c.deref_mut-2.ensures.value ∙ with_items_is c.in-Ok.bytes c.get.new.into (let a = c.get.auto.into in let b = c.deref_mut.ensures.len in let d = c.deref_mut.ensures.value in let e = c.in-Ok.bytes.ok in omega (arith, a, b)) ∙ read_is m (g.B.Blocks.told c.args.under.now) o.id c.get.new.into is some of in
+    read_is m (g.B.Blocks.told c.args.under.now) o.id c.get.new.into is some of in
     subst (λ (l : List ℕ). IsDamagedBy o.sizes m o.id (IsLevelRun o.sizes (ends_of o.sizes (stream_at l)).indirect c.args.index) c.in-Err-in_levels.fault) read
-    (c.in-Err-in_levels.ensures.damaged m (c.in-Ok-get.ensures.told ∙ is))
+    (c.in-Err-in_levels.ensures.damaged m (c.in-Ok.ensures.told ∙ is))

@@ -27,7 +27,7 @@ use Rattle.bfs_values.specs.Rows.{rows_in}
 use Rattle.bfs_values.specs.Stored.{Stored, SameNumbers, with_number}
 use Rattle.bfs_values.specs.Values.{values_in, numbers_in}
 use Rattle.bfs_values.specs.declared.link.Link.TheVariants.{Number}
-use Rattle.bfs_values.proofs.Reaching.{row-put, row-taken}
+use Rattle.bfs_values.proofs.Reaching.{plain-off, plain-with, row-put, row-taken}
 use Rattle.bfs_values.proofs.RowLists.{put-split}
 use Rattle.bfs_values.proofs.Rows.{rows_those}
 use Rattle.bfs_values.proofs.ValuedRows.{keyed, keyed-append, keyed-most}
@@ -402,3 +402,10 @@ row_there kind c key v front back d rows =
 pub plain_zero : IsPlain (pos 0)
 unfolding link_in
 plain_zero = (0, refl)
+
+-- a row with a plain value may have any other one
+pub stored_plain : (kind : KeyKind) (b : List ℕ) (t : Shape) (front back : List Row) (key : Key) (v : ℤ) → length b % 1024 ≡ 0 → IsPlain v → Stored kind b t (front ++ ((key, pos 0) ∷ back)) → Stored kind b t (front ++ ((key, v) ∷ back))
+stored_plain kind b t front back key v whole plain s =
+    let h : Reaches b (front ++ ((key, pos 0) ∷ back)) s.reached = record { whole = whole; values = s.values; mean = s.mean } in
+    let r = plain-with b front key v back s.reached plain (plain-off b front key (pos 0) back s.reached plain_zero h) in
+    record { reached = s.reached; free = s.free; tree = s.tree; values = r.values; mean = r.mean }

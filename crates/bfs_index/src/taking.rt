@@ -10,6 +10,7 @@ ghost use Rattle.bfs_pages.specs.Shapes.{Shape, tree_rows, leaves_of};
 ghost use Rattle.bfs_pages.specs.Trees.{page_in};
 ghost use Rattle.bfs_pages.specs.Writes.{Kept};
 ghost use Rattle.bfs_values.specs.Kinds.{IsValueOf};
+ghost use Rattle.bfs_values.specs.Laws.{IsPlain};
 ghost use Rattle.bfs_values.specs.Reached.{IsWholeTree};
 ghost use Rattle.bfs_values.specs.Rows.{rows_in};
 ghost use Rattle.bfs_values.specs.Stored.{Stored, SameNumbers};
@@ -23,9 +24,21 @@ use bfs_node::{KeyKind, PAGE, TreeFault, row_value, search};
 use bfs_pages::{Found, leaf_for};
 use bfs_remove::remove;
 use bfs_txn::{Pages, Steps};
+use bfs_values::{Link, link_of};
 use std::sync::ledger::Ledger;
 
-/// Takes the row of a key out, which has no id any more: a plain number is written first, so that no page is the row's.
+/// The value with which a row is taken out: its own where that is a plain number, else 0.
+fn plain_value(value: i64) -> i64
+    ensures { IsPlain result }
+{
+    match link_of(value) {
+        Link::Number(_) => value,
+        _ => 0,
+    }
+}
+
+/// Takes the row of a key out, which has no id any more. Where its value isn't a plain number, one is written first, so that no
+/// page is the row's.
 fn drop_row<P: Pages, L: Ledger>(
     pages: &mut P,
     kind: KeyKind,
@@ -40,7 +53,8 @@ fn drop_row<P: Pages, L: Ledger>(
     ensures refused { IfErr result (IsUnpaired kind key.now (P.told pages.new) (P.is_cause pages.old pages.new)) }
     ensures kept { Kept (P.counts pages.old) (P.counts pages.new) (P.frame pages.old) (P.frame pages.new) (P.goes_on pages.old pages.new) }
 {
-    match write_value(pages, kind, key, row, 0, steps) {
+    let plain = plain_value(row.value);
+    match write_value(pages, kind, key, row, plain, steps) {
         Ok(()) => {}
         Err(fault) => return Err(fault),
     }

@@ -9,3 +9,4 @@ pub mod Back
 pub mod Counts
 pub mod Settled
 pub mod Counting
+pub mod Left

@@ -7,3 +7,4 @@ pub mod Givens
 pub mod Tallies
 pub mod Counted
 pub mod Reserved
+pub mod Left

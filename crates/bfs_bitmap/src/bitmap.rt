@@ -20,6 +20,8 @@ pub struct Bitmap {
     /// A bit for each block, set where it is reserved; no bytes before a run is given back.
     pub(crate) reserved: Vec<u8>,
     pub(crate) last: u64,
+    /// The group of none of the runs has left the log by this number.
+    pub(crate) left: u64,
     /// What is known now, and what was when a call was last kept or dropped.
     pub(crate) tally: Tally,
     pub(crate) tally_kept: Tally,
@@ -27,13 +29,14 @@ pub struct Bitmap {
 
 impl Model for Bitmap {
     ghost use Rattle.bfs_bitmap.specs.Runs.{Room, HasSizes};
+    ghost use Rattle.bfs_bitmap.specs.Left.{HasNoneLeft};
     ghost use Rattle.bfs_bitmap.specs.Reserved.{HasReserved};
 
     ghost Value = { Room };
 
     ghost view = { λ b. record { block_size = b.block_size; blocks = b.blocks; group_blocks = b.group_blocks; given = b.given.items; last = b.last; tally = b.tally; tally_kept = b.tally_kept } };
 
-    ghost invariant = { λ b. HasSizes (record { block_size = b.block_size; blocks = b.blocks; group_blocks = b.group_blocks; given = b.given.items; last = b.last; tally = b.tally; tally_kept = b.tally_kept }) × HasReserved b.blocks b.given.items b.reserved.items };
+    ghost invariant = { λ b. HasSizes (record { block_size = b.block_size; blocks = b.blocks; group_blocks = b.group_blocks; given = b.given.items; last = b.last; tally = b.tally; tally_kept = b.tally_kept }) × HasReserved b.blocks b.given.items b.reserved.items × HasNoneLeft b.left b.last b.given.items };
 }
 
 impl Bitmap {
@@ -55,6 +58,7 @@ impl Bitmap {
             given: Vec::new(alloc),
             reserved: Vec::new(alloc),
             last: 0,
+            left: 0,
             tally,
             tally_kept: tally,
         }

@@ -1,14 +1,15 @@
 // Gives runs back, and frees them once their group has left the log.
-ghost use Rattle.std.specs.Prelude.{◌≡◌, ◌≤◌, ◌<◌, ◌⊎◌, ◌+◌, ◌-◌, ◌∷◌, ◌++◌, [], ℕ, List, length, Option, Some, None, OnOk, OnErr, IfErr, map, filter, not, true, false};
+ghost use Rattle.std.specs.Prelude.{◌≡◌, ◌≤◌, ◌<◌, ◌⊎◌, ◌+◌, ◌-◌, ◌∷◌, ◌++◌, [], ℕ, List, length, Option, Some, None, OnOk, OnErr, IfErr, map, filter, not, true, false, IsTrue};
 ghost use Rattle.bfs_bitmap.specs.Runs.{Fits, HasBitmap, IsCounted, AreUsed, IsMarked, IsInside, IsSettled, as_kept, first_of, is_reserved};
 ghost use Rattle.bfs_bitmap.specs.Tallies.{lowered_by};
+ghost use Rattle.bfs_bitmap.specs.declared.tally.Tally.{Tally};
 ghost use Rattle.bfs_bitmap.specs.Givens.{numbered, settled, is_left};
 ghost use Rattle.bfs_bitmap.specs.Fills.{IsBitmapBlock, HasBitOf, IsTold};
 ghost use Rattle.bfs_txn.specs.Faults.{IsCaused};
 ghost use Rattle.bfs_txn.specs.Told.{StaysChanged};
 
 use crate::bits::mark_run;
-use crate::given::{none_left, number_all, settle_all};
+use crate::given::{number_all, settle_all};
 use crate::reserved::{forget_left, forget_unsettled, get_bits};
 use crate::tally::lower_all;
 use crate::window::Window;
@@ -106,6 +107,18 @@ impl Bitmap {
         self.tally = lower_all(self.tally, &self.given, group);
         self.tally_kept = lower_all(self.tally_kept, &self.given, group);
         forget_left(&mut self.given, &mut self.reserved, group);
+        self.left = self.left.max(group.min(self.last));
+    }
+
+    /// Is it known that the group of none of the runs has left the log by this number?
+    fn has_none_left(&self, group: u64) -> bool
+        ensures same { IsTrue result → filter (λ g. not (is_left group g)) self.now.given ≡ self.now.given }
+        ensures lowered { IsTrue result → (t : Tally) → lowered_by group self.now.given t ≡ t }
+    {
+        if group > self.left {
+            return false;
+        }
+        true
     }
 
     /// Frees the runs that were given back in groups up to this number. Takes no memory.
@@ -115,7 +128,7 @@ impl Bitmap {
         ensures fits { (m : ℕ → Option (List ℕ)) → Fits self.old m → Fits self.new m }
         ensures settled { IsSettled self.old → IsSettled self.new }
     {
-        if none_left(&self.given, group) {
+        if self.has_none_left(group) {
             return;
         }
         self.release_some(group);

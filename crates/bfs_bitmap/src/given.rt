@@ -2,8 +2,6 @@
 ghost use Rattle.std.specs.Prelude.{◌≡◌, map, filter, not, IsTrue};
 ghost use Rattle.bfs_bitmap.specs.Runs.{AreKeptFirst};
 ghost use Rattle.bfs_bitmap.specs.Givens.{numbered, settled, is_left};
-ghost use Rattle.bfs_bitmap.specs.Tallies.{lowered_by};
-ghost use Rattle.bfs_bitmap.specs.declared.tally.Tally.{Tally};
 
 /// A run that was given back, with the number of its group once that is closed, and whether its call was kept.
 #[derive(Clone, Copy)]
@@ -95,19 +93,6 @@ pub fn drop_unsettled(given: &mut Vec<Given>)
     ensures { given.new.items ≡ filter (λ g. g.kept) given.old.items }
 {
     given.retain(|run| run.kept);
-}
-
-/// Has the group of none of the runs left the log?
-pub fn none_left(given: &[Given], group: u64) -> bool
-    ensures same { IsTrue result → filter (λ g. not (is_left group g)) given.now ≡ given.now }
-    ensures lowered { IsTrue result → (t : Tally) → lowered_by group given.now t ≡ t }
-{
-    for i in 0..given.len() {
-        if has_left(given[i], group) {
-            return false;
-        }
-    }
-    true
 }
 
 /// Takes out the runs whose group has left the log.

@@ -5,6 +5,7 @@ use Rattle.bfs_bitmap.specs.Runs.{Room, AreKeptFirst, is_reserved}
 use Rattle.bfs_bitmap.proofs.Back.{fits_numbered, settled_numbered, AreAll, LiesIn, IsClosedBy, all_map, closed_numbered, all_leave, reserved-map}
 use Rattle.bfs_bitmap.proofs.Covered.{reserved_same}
 use Rattle.bfs_bitmap.proofs.Settled.{first_map}
+use Rattle.bfs_bitmap.proofs.Left.{left_numbered}
 use Rattle.bfs_bitmap.proofs.bitmap.Bitmap.close_group.Goals as goal
 
 pub invariant_of-self : goal.invariant_of-self
@@ -22,6 +23,7 @@ invariant_of-self c = (
     kept = subst AreKeptFirst (sym c.number_all.ensures) (first_map (numbered c.args.group) c.self.inside.given.items (λ g. refl) c.self.invariant.0.kept);
   },
   reserved_same c.self.inside.blocks c.self.inside.given.items c.number_all.new.given.items c.self.inside.reserved.items (λ k. ap (λ (l : List Given). is_reserved l k) c.number_all.ensures ∙ reserved-map (numbered c.args.group) c.self.inside.given.items k (λ g. refl) (λ g. refl)) c.self.invariant.1,
+  left_numbered c.self.inside.left c.self.inside.last c.args.group c.self.inside.given.items c.number_all.new.given.items c.self.invariant.2 (subst (λ (v : Room). v.last < c.args.group) (sym c.self.view_is) c.requires) c.number_all.ensures,
 )
 
 pub returns-clause-leaves : goal.returns-clause-leaves

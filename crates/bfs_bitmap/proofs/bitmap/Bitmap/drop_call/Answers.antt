@@ -5,6 +5,7 @@ use Rattle.bfs_bitmap.proofs.Back.{settled_dropped, AreAll, LiesIn, IsClosedBy, 
 use Rattle.std.proofs.lemmas.List.{with_items_is}
 use Rattle.bfs_bitmap.proofs.Covered.{reserved_in}
 use Rattle.bfs_bitmap.proofs.Settled.{first_filter}
+use Rattle.bfs_bitmap.proofs.Left.{left_filter}
 use Rattle.bfs_bitmap.proofs.bitmap.Bitmap.drop_call.Goals as goal
 
 pub invariant_of-self : goal.invariant_of-self
@@ -24,6 +25,7 @@ invariant_of-self c =
         kept = subst AreKeptFirst (sym c.forget_unsettled.ensures.given) (first_filter (λ g. g.kept) c.self.inside.given.items c.self.invariant.0.kept);
       },
       reserved_in c.self.inside.blocks c.self.inside.given.items c.forget_unsettled.new.given.items c.self.inside.reserved.items c.deref_mut.result.now c.forget_unsettled.new.bytes _ c.self.invariant.1 is (with_items_is c.self.inside.reserved c.forget_unsettled.new.bytes (let a = c.deref_mut.ensures.len in omega (arith, long, a))) (c.forget_unsettled.ensures.bits c.self.inside.blocks),
+      left_filter c.self.inside.left c.self.inside.last (λ g. g.kept) c.self.inside.given.items c.forget_unsettled.new.given.items c.self.invariant.2 c.forget_unsettled.ensures.given,
     )
 
 pub returns-clause-reserved : goal.returns-clause-reserved

@@ -5,6 +5,7 @@ use Rattle.bfs_bitmap.specs.Runs.{Room, AreKeptFirst, is_reserved}
 use Rattle.bfs_bitmap.proofs.Back.{fits_kept, settled_kept, AreAll, LiesIn, IsClosedBy, all_map, reserved-map}
 use Rattle.bfs_bitmap.proofs.Covered.{reserved_same}
 use Rattle.bfs_bitmap.proofs.Settled.{first_settled}
+use Rattle.bfs_bitmap.proofs.Left.{left_settled}
 use Rattle.bfs_bitmap.proofs.bitmap.Bitmap.keep.Goals as goal
 
 pub invariant_of-self : goal.invariant_of-self
@@ -22,6 +23,7 @@ invariant_of-self c = (
     kept = subst AreKeptFirst (sym c.settle_all.ensures) (first_settled c.self.inside.given.items);
   },
   reserved_same c.self.inside.blocks c.self.inside.given.items c.settle_all.new.given.items c.self.inside.reserved.items (λ k. ap (λ (l : List Given). is_reserved l k) c.settle_all.ensures ∙ reserved-map (settled) c.self.inside.given.items k (λ g. refl) (λ g. refl)) c.self.invariant.1,
+  left_settled c.self.inside.left c.self.inside.last c.self.inside.given.items c.settle_all.new.given.items c.self.invariant.2 c.settle_all.ensures,
 )
 
 pub returns-clause-reserved : goal.returns-clause-reserved

@@ -1,4 +1,4 @@
-use Rattle.std.proofs.Common.{◌≡◌, ◌∙◌, ap, filter, sym, subst, arith, ℕ, List, length, not, true}
+use Rattle.std.proofs.Common.{◌≡◌, ◌∙◌, ap, filter, sym, subst, arith, ℕ, List, length, max, not, true}
 use Rattle.std.proofs.lemmas.List.{with_items_is}
 use Rattle.bfs_bitmap.specs.declared.given.Given.{Given}
 use Rattle.bfs_bitmap.specs.declared.tally.Tally.{Tally}
@@ -8,6 +8,7 @@ use Rattle.bfs_bitmap.specs.Runs.{Room, AreKeptFirst, is_reserved}
 use Rattle.bfs_bitmap.proofs.Back.{fits_left, settled_left, lowered_within, AreAll, LiesIn, IsClosedBy, all_filter, reserved_filter}
 use Rattle.bfs_bitmap.proofs.Covered.{reserved_in}
 use Rattle.bfs_bitmap.proofs.Settled.{first_filter}
+use Rattle.bfs_bitmap.proofs.Left.{left_freed}
 use Rattle.bfs_bitmap.proofs.bitmap.Bitmap.release_some.Goals as goal
 
 tally_is : (group : ℕ) (gs hs : List Given) (t u : Tally) → u ≡ lowered_by group hs t → hs ≡ gs → u ≡ lowered_by group gs t
@@ -47,6 +48,7 @@ invariant_of-self c =
         kept = subst AreKeptFirst (sym c.forget_left.ensures.given) (first_filter (λ g. not (is_left c.args.group g)) c.self.inside.given.items c.self.invariant.0.kept);
       },
       reserved_in c.self.inside.blocks c.self.inside.given.items c.forget_left.new.given.items c.self.inside.reserved.items c.deref_mut.result.now c.forget_left.new.bytes _ c.self.invariant.1 is (with_items_is c.self.inside.reserved c.forget_left.new.bytes (let a = c.deref_mut.ensures.len in omega (arith, long, a))) (c.forget_left.ensures.bits c.self.inside.blocks),
+      left_freed c.self.inside.left c.self.inside.last c.args.group _ c.self.inside.given.items c.forget_left.new.given.items c.self.invariant.2 c.forget_left.ensures.given (c.max-self-inside.ensures ∙ ap (λ (n : ℕ). max c.self.inside.left n) c.min.ensures),
     )
 
 pub returns-clause-reserved : goal.returns-clause-reserved

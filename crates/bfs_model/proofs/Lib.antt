@@ -1,6 +1,5 @@
 pub mod Maps
 pub mod Children
 pub mod Free
-pub mod Knowns
 pub mod Lasts
 pub mod Follows

@@ -8,12 +8,11 @@ use Rattle.bfs_model.specs.declared.model.Attribute as kept_attribute
 use Rattle.bfs_model.specs.declared.model.Node as kept_node
 use Rattle.bfs_model.specs.declared.model.Model.{Model}
 use Rattle.bfs_model.specs.declared.sorts.Pair.{Pair}
-use Rattle.bfs_model.specs.declared.known.Places.{Places}
-use Rattle.bfs_model.specs.declared.known.Places.TheVariants.{All, From, Piece}
 use Rattle.bfs_model.specs.declared.nodes.NodeChange.{NodeChange}
 use Rattle.bfs_model.specs.declared.nodes.NodeChange.TheVariants.{Touch, Content, Size, Mode, Name}
 use Rattle.bfs_tree.specs.Trees.{Attribute, Attributes, Node, Nodes}
-use Rattle.bfs_tree.specs.States.{State, Known, is_in}
+use Rattle.bfs_known.specs.Known.{known_of}
+use Rattle.bfs_tree.specs.States.{State}
 use Rattle.bfs_tree.specs.Steps.{Step}
 use Rattle.bfs_tree.specs.declared.call.Call.{Call}
 use Rattle.bfs_tree.specs.declared.call.Call.TheVariants as calls
@@ -55,24 +54,6 @@ index_entry e = (e.0.items, e.1)
 
 abbrev pub indices_of : List (Vec ℕ × KeyKind) → FinMap text_cmp KeyKind
 indices_of es = from_entries (each index_entry es)
-
-abbrev pub known_of : List ((ℕ × ℕ) × ℕ) → Known
-known_of es = from_entries es
-
--- the place is one of these
-abbrev pub is_among : Places → ℕ → Bool
-is_among All place = true
-is_among (From first) place = nat_le first place
-is_among (Piece at count) place = nat_le at place && nat_lt (place - at) count
-
--- the place is not one of these of the file
-abbrev pub stays : ℕ → Places → ℕ × ℕ → Bool
-stays id places place = not (is_among places place.1 && (place.0 == id))
-
--- the place stands outside these bytes of the file from `at` on, or the byte there is this one
-abbrev pub fits_at : ℕ → ℕ → List ℕ → (ℕ × ℕ) × ℕ → Bool
-fits_at id at bytes known =
-    if is_in id at (length bytes) known.0 then slice_index bytes (known.0.1 - at) == known.1 else true
 
 abbrev pub state_of : Model → State
 state_of m = record {

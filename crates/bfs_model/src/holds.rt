@@ -8,13 +8,14 @@ ghost use Rattle.bfs_tree.specs.Answers.{Ends};
 ghost use Rattle.bfs_tree.specs.Refusals.{is_past};
 ghost use Rattle.bfs_tree.specs.Changes.{holding, holding_to_write, released};
 ghost use Rattle.bfs_tree.specs.Steps.{Reads, ByTree};
-ghost use Rattle.bfs_model.specs.Kept.{known_of, state_of};
+ghost use Rattle.bfs_known.specs.Known.{known_of};
+ghost use Rattle.bfs_model.specs.Kept.{state_of};
 ghost use Rattle.bfs_tree.specs.declared.call.Call.TheVariants as calls;
 ghost use Rattle.bfs_tree.specs.declared.reply.Reply.TheVariants.{Synced};
 
-use crate::known::{Places, agrees, byte_at, forget, learn};
 use crate::model::Model;
 use crate::nodes::{NodeChange, change_node};
+use bfs_known::{Places, agrees, byte_at, forget, learn};
 use bfs_tree::{Hold, Reply};
 use std::alloc::AllocError;
 use std::collections::BTreeMap;

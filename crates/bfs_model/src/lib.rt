@@ -6,7 +6,6 @@ mod apply;
 mod finds;
 mod follow;
 mod holds;
-mod known;
 mod model;
 mod moves;
 mod named;

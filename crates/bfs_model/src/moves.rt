@@ -12,10 +12,10 @@ ghost use Rattle.bfs_tree.specs.Steps.{Writes};
 ghost use Rattle.bfs_model.specs.Kept.{nodes_of, state_of};
 ghost use Rattle.bfs_tree.specs.declared.call.Call.TheVariants.{Remove, Rename, SetSize};
 
-use crate::known::{Places, forget};
 use crate::model::{Model, Node};
 use crate::nodes::{NodeChange, change_node, take_node};
 use crate::reads::{child_at, node_at};
+use bfs_known::{Places, forget};
 use bfs_tree::{Bytes, Hold, Reply};
 use std::alloc::AllocError;
 use std::collections::BTreeMap;

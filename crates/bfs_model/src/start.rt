@@ -2,7 +2,8 @@
 ghost use Rattle.std.specs.Prelude.{◌≡◌, IfOk, [], OnOk};
 ghost use Rattle.std.specs.FinMap.{empty};
 ghost use Rattle.bfs_tree.specs.Trees.{IsPlain, empty_tree, built_in};
-ghost use Rattle.bfs_model.specs.Kept.{indices_of, known_of, nodes_of, state_of};
+ghost use Rattle.bfs_known.specs.Known.{known_of};
+ghost use Rattle.bfs_model.specs.Kept.{indices_of, nodes_of, state_of};
 
 use crate::model::{Model, Node};
 use crate::named::put_index;

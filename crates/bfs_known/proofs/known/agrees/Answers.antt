@@ -2,9 +2,9 @@ use Rattle.std.proofs.Common.{◌≡◌, ◌↔◌, ◌∙◌, Bool, true, false
 use Rattle.std.specs.Prelude.{◌&&◌}
 use Rattle.std.specs.List.{list_all}
 use Rattle.bfs_tree.specs.States.{AgreesWith}
-use Rattle.bfs_model.specs.Kept.{fits_at, known_of}
-use Rattle.bfs_model.proofs.Knowns.{known-fits}
-use Rattle.bfs_model.proofs.known.agrees.Goals as goal
+use Rattle.bfs_known.specs.Known.{fits_at, known_of}
+use Rattle.bfs_known.proofs.Knowns.{known-fits}
+use Rattle.bfs_known.proofs.known.agrees.Goals as goal
 
 pub returns-then-not-fits : goal.returns-then-not-fits
 returns-then-not-fits c =

@@ -12,7 +12,7 @@ use Rattle.std.proofs.lemmas.List.Elements.{recursion_from_All}
 use Rattle.std.specs.FinMap.{find, get, insert, retain_keys, IsAntisymmetric, same_map, get-from_entries, get-insert, get-retain_keys, nat_cmp-IsAntisymmetric}
 use Rattle.std.specs.FinMap.Entries.{where_key, find-where_key}
 use Rattle.bfs_tree.specs.States.{AgreesWith, place_cmp, is_in}
-use Rattle.bfs_model.specs.Kept.{known_of, fits_at}
+use Rattle.bfs_known.specs.Known.{known_of, fits_at}
 
 pub place_cmp_total : IsTotalOrder place_cmp
 place_cmp_total = then_total (on_total (λ (p : ℕ × ℕ). p.0) nat_cmp_total) (on_total (λ (p : ℕ × ℕ). p.1) nat_cmp_total)

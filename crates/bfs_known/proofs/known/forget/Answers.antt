@@ -1,8 +1,8 @@
 use Rattle.std.proofs.Common.{rules}
 use Rattle.std.proofs.lemmas.Map.Made.{filter_same_pairs}
-use Rattle.bfs_model.specs.Kept.{stays}
-use Rattle.bfs_model.proofs.Knowns.{known-kept}
-use Rattle.bfs_model.proofs.known.forget.Goals as goal
+use Rattle.bfs_known.specs.Known.{stays}
+use Rattle.bfs_known.proofs.Knowns.{known-kept}
+use Rattle.bfs_known.proofs.known.forget.Goals as goal
 
 pub returns : goal.returns
 returns c =

@@ -2,14 +2,14 @@
 ghost use Rattle.std.specs.Prelude.{◌≡◌, ◌↔◌, IfOk, OnOk, IsTrue};
 ghost use Rattle.std.specs.FinMap.{get, insert, retain_keys};
 ghost use Rattle.bfs_tree.specs.States.{AgreesWith, learn};
-ghost use Rattle.bfs_model.specs.Kept.{known_of, is_among, stays, fits_at};
+ghost use Rattle.bfs_known.specs.Known.{known_of, is_among, stays, fits_at};
 
 use std::alloc::AllocError;
 use std::collections::BTreeMap;
 
 /// Places of a file: all of them, those from one on, or so many from one on.
 #[derive(Clone, Copy)]
-pub(crate) enum Places {
+pub enum Places {
     All,
     From { place: u64 },
     Piece { at: u64, count: u64 },
@@ -34,7 +34,7 @@ fn does_stay(id: u64, places: Places, place: (u64, u64)) -> bool
 }
 
 /// These places of a file are known no more.
-pub(crate) fn forget(known: &mut BTreeMap<(u64, u64), u8>, id: u64, places: Places)
+pub fn forget(known: &mut BTreeMap<(u64, u64), u8>, id: u64, places: Places)
     ensures { known_of known.new.entries ≡ retain_keys (known_of known.old.entries) (stays id places) }
 {
     known.retain(|place, _| does_stay(id, places, *place));
@@ -55,7 +55,7 @@ fn put_byte(
 
 /// What is known, and these bytes of a file from a place on. Places end at 2^64 - 1, and what would go past
 /// them finds no memory.
-pub(crate) fn learn(
+pub fn learn(
     known: &BTreeMap<(u64, u64), u8>,
     id: u64,
     at: u64,
@@ -74,7 +74,7 @@ pub(crate) fn learn(
 }
 
 /// The byte that is known at a place of a file.
-pub(crate) fn byte_at(known: &BTreeMap<(u64, u64), u8>, id: u64, place: u64) -> Option<u8>
+pub fn byte_at(known: &BTreeMap<(u64, u64), u8>, id: u64, place: u64) -> Option<u8>
     ensures { result ≡ get (known_of known.now.entries) (id, place) }
 {
     known.get(&(id, place)).copied()
@@ -92,7 +92,7 @@ fn fits(place: (u64, u64), byte: u8, id: u64, at: u64, bytes: &[u8]) -> bool
 }
 
 /// The bytes are those that are known, wherever one is known.
-pub(crate) fn agrees(known: &BTreeMap<(u64, u64), u8>, id: u64, at: u64, bytes: &[u8]) -> bool
+pub fn agrees(known: &BTreeMap<(u64, u64), u8>, id: u64, at: u64, bytes: &[u8]) -> bool
     ensures { IsTrue result ↔ AgreesWith (known_of known.now.entries) id at bytes.now }
 {
     for (place, byte) in known.iter() {

@@ -98,6 +98,7 @@ pub fn answer<A: Answers, D: Disk>(
     ensures entry { OnOk result (HasEntry space.old.view.history space.new.view.history session tag call) }
     ensures no_memory { OnErr result (space.new.view.history ≡ space.old.view.history) }
     ensures later { D.faults device.old.disk ≤ D.faults device.new.disk }
+    ensures disk_clock { D.clock device.old.disk ≤ D.clock device.new.disk }
     // The space has replied, or the device has ended it.
     ensures noted { OnOk result (HasReplyIn space.old space.new (D.faults device.old.disk) (D.faults device.new.disk) session tag call ⊎ IsEnded space.old.view.history space.new.view.history session tag call device.old.books.stop (D.faults device.old.disk) (D.faults device.new.disk)) }
     ensures answered { (t0 : Mounted) (adopted : Adoption) → HasCore t0 adopted space.old.view device.old.books (D.state device.old.disk) (D.clock device.old.disk) (D.since device.old.disk)
@@ -181,6 +182,7 @@ pub fn sync<D: Disk>(
     ensures failed { IfErr result (HasFailedSync space.old.view.history space.new.view.history session tag) }
     ensures cause { IfErr result (HasSyncCause device.old.books.stop (D.faults device.old.disk) (D.faults device.new.disk)) }
     ensures later { D.faults device.old.disk ≤ D.faults device.new.disk }
+    ensures disk_clock { D.clock device.old.disk ≤ D.clock device.new.disk }
     // Of a device that had stopped nothing is made durable any more, and the sync is answered so, also where the disk tells nothing.
     ensures stopped { (s : stops.Stop) → device.old.books.stop ≡ Some s → IsStoppedSync space.old.view.history space.new.view.history session tag s result }
     // And it stays stopped, whatever is answered.

@@ -57,6 +57,7 @@ pub fn step<D: Disk>(space: &mut Space, device: &mut Device<D>) -> Result<Progre
     ensures fault { IfErr result (IsStepFault device.old.books device.new.books (D.faults device.old.disk) (D.faults device.new.disk) (D.stops device.old.disk) (D.stops device.new.disk)) }
     ensures stop { OnOk result ((device.old.books.stop ≡ None) × (device.new.books.stop ≡ None)) }
     ensures faults { D.faults device.old.disk ≤ D.faults device.new.disk }
+    ensures disk_clock { D.clock device.old.disk ≤ D.clock device.new.disk }
     ensures spare { device.new.books.spare ≡ device.old.books.spare }
     ensures sealed { sealed_of device.new.books ≡ sealed_of device.old.books }
     ensures durable { durable_of device.old.books ≤ durable_of device.new.books }
@@ -122,6 +123,7 @@ pub fn ask<A: Answers, D: Disk>(
     ensures rests { IsRested device.old.books device.new.books }
     ensures state { D.state device.new.disk ≡ D.state device.old.disk }
     ensures faults { D.faults device.old.disk ≤ D.faults device.new.disk }
+    ensures disk_clock { D.clock device.old.disk ≤ D.clock device.new.disk }
     ensures noted { IfOk result (HasOutcome (counts_of (D.faults device.old.disk) (D.stops device.old.disk) device.old.books.stop) (counts_of (D.faults device.new.disk) (D.stops device.new.disk) device.new.books.stop) space.old space.new session tag now call) }
     ensures no_memory { OnErr result (space.new ≡ space.old) }
     // What the disk tells, the call is entered on, or put off.

@@ -26,6 +26,7 @@ fn push_on<D: Disk>(space: &mut Space, device: &mut Device<D>) -> Result<bool, D
     ensures fault { IfErr result (HasStepCause device.old.books.stop device.new.books.stop (D.faults device.old.disk) (D.faults device.new.disk)) }
     ensures stop { OnOk result ((device.old.books.stop ≡ None) × (device.new.books.stop ≡ None)) }
     ensures faults { D.faults device.old.disk ≤ D.faults device.new.disk }
+    ensures disk_clock { D.clock device.old.disk ≤ D.clock device.new.disk }
     ensures spare { device.new.books.spare ≡ device.old.books.spare }
     ensures sealed { sealed_of device.new.books ≡ sealed_of device.old.books }
     ensures durable { durable_of device.old.books ≤ durable_of device.new.books }
@@ -51,6 +52,7 @@ pub fn rest<D: Disk>(space: &mut Space, device: &mut Device<D>) -> Result<(), De
     ensures fault { IfErr result (HasStepCause device.old.books.stop device.new.books.stop (D.faults device.old.disk) (D.faults device.new.disk)) }
     ensures stop { OnOk result ((device.old.books.stop ≡ None) × (device.new.books.stop ≡ None)) }
     ensures faults { D.faults device.old.disk ≤ D.faults device.new.disk }
+    ensures disk_clock { D.clock device.old.disk ≤ D.clock device.new.disk }
     ensures spare { device.new.books.spare ≡ device.old.books.spare }
     ensures sealed { sealed_of device.new.books ≡ sealed_of device.old.books }
     ensures durable { durable_of device.old.books ≤ durable_of device.new.books }
@@ -85,6 +87,7 @@ fn push_to<D: Disk>(
     ensures fault { IfErr result (HasStepCause device.old.books.stop device.new.books.stop (D.faults device.old.disk) (D.faults device.new.disk)) }
     ensures stop { OnOk result ((device.old.books.stop ≡ None) × (device.new.books.stop ≡ None)) }
     ensures faults { D.faults device.old.disk ≤ D.faults device.new.disk }
+    ensures disk_clock { D.clock device.old.disk ≤ D.clock device.new.disk }
     ensures spare { device.new.books.spare ≡ device.old.books.spare }
     ensures sealed { sealed_of device.new.books ≡ sealed_of device.old.books }
     ensures durable { durable_of device.old.books ≤ durable_of device.new.books }
@@ -117,6 +120,7 @@ pub fn flush<D: Disk>(
     ensures fault { IfErr result (HasStepCause device.old.books.stop device.new.books.stop (D.faults device.old.disk) (D.faults device.new.disk)) }
     ensures stop { OnOk result ((device.old.books.stop ≡ None) × (device.new.books.stop ≡ None)) }
     ensures faults { D.faults device.old.disk ≤ D.faults device.new.disk }
+    ensures disk_clock { D.clock device.old.disk ≤ D.clock device.new.disk }
     ensures spare { device.new.books.spare ≡ device.old.books.spare }
     ensures sealed { sealed_of device.new.books ≡ sealed_of device.old.books }
     ensures durable { durable_of device.old.books ≤ durable_of device.new.books }
@@ -145,6 +149,7 @@ fn make_place<D: Disk>(space: &mut Space, device: &mut Device<D>) -> Result<(), 
     ensures fault { IfErr result (HasStepCause device.old.books.stop device.new.books.stop (D.faults device.old.disk) (D.faults device.new.disk)) }
     ensures stop { OnOk result (device.new.books.stop ≡ device.old.books.stop) }
     ensures faults { D.faults device.old.disk ≤ D.faults device.new.disk }
+    ensures disk_clock { D.clock device.old.disk ≤ D.clock device.new.disk }
     ensures spare { device.new.books.spare ≡ device.old.books.spare }
     ensures sealed { sealed_of device.new.books ≡ sealed_of device.old.books }
     ensures durable { durable_of device.old.books ≤ durable_of device.new.books }
@@ -170,6 +175,7 @@ pub fn make_durable<D: Disk>(space: &mut Space, device: &mut Device<D>) -> Resul
     ensures fault { IfErr result (HasStepCause device.old.books.stop device.new.books.stop (D.faults device.old.disk) (D.faults device.new.disk)) }
     ensures stop { OnOk result ((device.old.books.stop ≡ None) × (device.new.books.stop ≡ None)) }
     ensures faults { D.faults device.old.disk ≤ D.faults device.new.disk }
+    ensures disk_clock { D.clock device.old.disk ≤ D.clock device.new.disk }
     ensures spare { device.old.books.spare ≤ device.new.books.spare + 1 }
     ensures durable { durable_of device.old.books ≤ durable_of device.new.books }
     ensures counts { KeepsCounts device.old.books.stop device.new.books.stop (D.faults device.old.disk) (D.faults device.new.disk) (D.stops device.old.disk) (D.stops device.new.disk) }
@@ -194,6 +200,7 @@ pub fn settle<D: Disk>(space: &mut Space, device: &mut Device<D>) -> Result<(), 
     ensures fault { IfErr result (HasStepCause device.old.books.stop device.new.books.stop (D.faults device.old.disk) (D.faults device.new.disk)) }
     ensures stop { OnOk result ((device.old.books.stop ≡ None) × (device.new.books.stop ≡ None)) }
     ensures faults { D.faults device.old.disk ≤ D.faults device.new.disk }
+    ensures disk_clock { D.clock device.old.disk ≤ D.clock device.new.disk }
     ensures spare { device.old.books.spare ≤ device.new.books.spare + 1 }
     ensures durable { durable_of device.old.books ≤ durable_of device.new.books }
     ensures counts { KeepsCounts device.old.books.stop device.new.books.stop (D.faults device.old.disk) (D.faults device.new.disk) (D.stops device.old.disk) (D.stops device.new.disk) }

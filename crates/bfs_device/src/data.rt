@@ -84,6 +84,7 @@ pub fn read_data<D: Disk>(
     ensures unmoved { IsSome journal.old.stop → disk.new ≡ disk.old }
     ensures state { D.state disk.new ≡ D.state disk.old }
     ensures faults { D.faults disk.old ≤ D.faults disk.new }
+    ensures disk_clock { D.clock disk.old ≤ D.clock disk.new }
     ensures stops { D.stops disk.new ≡ D.stops disk.old }
     ensures one { IsSome (D.state disk.old) → OnOk result (D.clock disk.new ≡ D.clock disk.old + 1) }
     ensures moved { HasMoved (D.clock disk.old) journal.old.moment (D.clock disk.new) journal.new.moment }
@@ -127,6 +128,7 @@ pub fn write_data<D: Disk>(
     ensures fault { IfErr result (IsStepFault (books_of journal.old) (books_of journal.new) (D.faults disk.old) (D.faults disk.new) (D.stops disk.old) (D.stops disk.new)) }
     ensures unmoved { IsSome journal.old.stop → disk.new ≡ disk.old }
     ensures faults { D.faults disk.old ≤ D.faults disk.new }
+    ensures disk_clock { D.clock disk.old ≤ D.clock disk.new }
     ensures stops { D.stops disk.old ≤ D.stops disk.new }
     ensures one { IsSome (D.state disk.old) → OnOk result (D.clock disk.new ≡ D.clock disk.old + 1) }
     ensures failed { journal.old.stop ≡ None → OnErr result (HalfWritten (D.state disk.old) ((layout_of journal.old.sup).sectors * block) from.now (D.state disk.new)) }
@@ -219,6 +221,7 @@ fn fetch<D: Disk>(
     ensures fault { IfErr result (IsReadFault (books_of journal.old) (books_of journal.new) (D.faults disk.old) (D.faults disk.new)) }
     ensures state { D.state disk.new ≡ D.state disk.old }
     ensures faults { D.faults disk.old ≤ D.faults disk.new }
+    ensures disk_clock { D.clock disk.old ≤ D.clock disk.new }
     ensures stops { D.stops disk.new ≡ D.stops disk.old }
     ensures moved { HasMoved (D.clock disk.old) journal.old.moment (D.clock disk.new) journal.new.moment }
     ensures right { (t : ℕ → Bool) (s : State) → IsRight (books_of journal.old) t s → IsRight (books_of journal.new) t s }
@@ -261,6 +264,7 @@ fn read_kept<D: Disk>(
     ensures fault { IfErr result (IsReadFault (books_of journal.old) (books_of journal.new) (D.faults disk.old) (D.faults disk.new)) }
     ensures state { D.state disk.new ≡ D.state disk.old }
     ensures faults { D.faults disk.old ≤ D.faults disk.new }
+    ensures disk_clock { D.clock disk.old ≤ D.clock disk.new }
     ensures stops { D.stops disk.new ≡ D.stops disk.old }
     ensures moved { HasMoved (D.clock disk.old) journal.old.moment (D.clock disk.new) journal.new.moment }
     ensures right { (t : ℕ → Bool) (s : State) → IsRight (books_of journal.old) t s → IsRight (books_of journal.new) t s }
@@ -299,6 +303,7 @@ pub fn read_newest<D: Disk>(
     ensures unmoved { IsSome journal.old.stop → disk.new ≡ disk.old }
     ensures state { D.state disk.new ≡ D.state disk.old }
     ensures faults { D.faults disk.old ≤ D.faults disk.new }
+    ensures disk_clock { D.clock disk.old ≤ D.clock disk.new }
     ensures stops { D.stops disk.new ≡ D.stops disk.old }
     ensures moved { HasMoved (D.clock disk.old) journal.old.moment (D.clock disk.new) journal.new.moment }
     ensures right { (t : ℕ → Bool) (s : State) → IsRight (books_of journal.old) t s → IsRight (books_of journal.new) t s }

@@ -203,6 +203,7 @@ impl<D: Disk> Device<D> {
         ensures fault { IfErr result (IsStepFault self.old.books self.new.books (D.faults self.old.disk) (D.faults self.new.disk) (D.stops self.old.disk) (D.stops self.new.disk)) }
         ensures unmoved { IsUnmoved self.old.books → self.new.disk ≡ self.old.disk }
         ensures faults { D.faults self.old.disk ≤ D.faults self.new.disk }
+        ensures disk_clock { D.clock self.old.disk ≤ D.clock self.new.disk }
         ensures stops { D.stops self.old.disk ≤ D.stops self.new.disk }
         ensures moved { HasMoved (D.clock self.old.disk) self.old.books.moment (D.clock self.new.disk) self.new.books.moment }
         ensures right { (t : ℕ → Bool) (right : Tells (D.state self.old.disk) (IsRight self.old.books t))
@@ -237,6 +238,7 @@ impl<D: Disk> Device<D> {
         ensures unmoved { IsSome self.old.books.stop → self.new.disk ≡ self.old.disk }
         ensures state { D.state self.new.disk ≡ D.state self.old.disk }
         ensures faults { D.faults self.old.disk ≤ D.faults self.new.disk }
+        ensures disk_clock { D.clock self.old.disk ≤ D.clock self.new.disk }
         ensures stops { D.stops self.new.disk ≡ D.stops self.old.disk }
         ensures moved { HasMoved (D.clock self.old.disk) self.old.books.moment (D.clock self.new.disk) self.new.books.moment }
         ensures right { (t : ℕ → Bool) (s : State) → IsRight self.old.books t s → IsRight self.new.books t s }
@@ -265,6 +267,7 @@ impl<D: Disk> Device<D> {
         ensures unmoved { IsSome self.old.books.stop → self.new.disk ≡ self.old.disk }
         ensures state { D.state self.new.disk ≡ D.state self.old.disk }
         ensures faults { D.faults self.old.disk ≤ D.faults self.new.disk }
+        ensures disk_clock { D.clock self.old.disk ≤ D.clock self.new.disk }
         ensures stops { D.stops self.new.disk ≡ D.stops self.old.disk }
         ensures one { IsSome (D.state self.old.disk) → OnOk result (D.clock self.new.disk ≡ D.clock self.old.disk + 1) }
         ensures moved { HasMoved (D.clock self.old.disk) self.old.books.moment (D.clock self.new.disk) self.new.books.moment }
@@ -287,6 +290,7 @@ impl<D: Disk> Device<D> {
         ensures fault { IfErr result (IsStepFault self.old.books self.new.books (D.faults self.old.disk) (D.faults self.new.disk) (D.stops self.old.disk) (D.stops self.new.disk)) }
         ensures unmoved { IsSome self.old.books.stop → self.new.disk ≡ self.old.disk }
         ensures faults { D.faults self.old.disk ≤ D.faults self.new.disk }
+        ensures disk_clock { D.clock self.old.disk ≤ D.clock self.new.disk }
         ensures stops { D.stops self.old.disk ≤ D.stops self.new.disk }
         ensures one { IsSome (D.state self.old.disk) → OnOk result (D.clock self.new.disk ≡ D.clock self.old.disk + 1) }
         ensures failed { self.old.books.stop ≡ None → OnErr result (HalfWritten (D.state self.old.disk) ((layout_of self.old.books.sup).sectors * block) from.now (D.state self.new.disk)) }

@@ -91,6 +91,7 @@ pub fn step_of<D: Disk>(disk: &mut D, journal: &mut Journal) -> Result<Progress,
     ensures fault { IfErr result (IsStepFault (books_of journal.old) (books_of journal.new) (D.faults disk.old) (D.faults disk.new) (D.stops disk.old) (D.stops disk.new)) }
     ensures unmoved { IsUnmoved (books_of journal.old) → disk.new ≡ disk.old }
     ensures faults { D.faults disk.old ≤ D.faults disk.new }
+    ensures disk_clock { D.clock disk.old ≤ D.clock disk.new }
     ensures stops { D.stops disk.old ≤ D.stops disk.new }
     ensures moved { HasMoved (D.clock disk.old) journal.old.moment (D.clock disk.new) journal.new.moment }
     ensures right { (t : ℕ → Bool) (right : Tells (D.state disk.old) (IsRight (books_of journal.old) t))

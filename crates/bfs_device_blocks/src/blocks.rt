@@ -26,6 +26,7 @@ pub struct DeviceBlocks<'a, D: Disk> {
     ghost rests: { IsRested start.value.books device.now.books },
     ghost same: { D.state device.now.disk ≡ D.state start.value.disk },
     ghost risen: { D.faults start.value.disk ≤ D.faults device.now.disk },
+    ghost waited: { D.clock start.value.disk ≤ D.clock device.now.disk },
     ghost unstopped: { D.stops device.now.disk ≡ D.stops start.value.disk },
     ghost fits: { device.now.books.sup.block_size ≤ 8192 },
     ghost sized: { ∥ AreSized device.now.books.sup.block_size (option_map (newest_map device.now.books) (D.state device.now.disk)) ∥₁ },
@@ -57,6 +58,7 @@ impl<'a, D: Disk> DeviceBlocks<'a, D> {
         ensures rests { IsRested self.entry.start.value.books self.entry.device.now.books }
         ensures state { D.state self.entry.device.now.disk ≡ D.state self.entry.start.value.disk }
         ensures faults { D.faults self.entry.start.value.disk ≤ D.faults self.entry.device.now.disk }
+        ensures disk_clock { D.clock self.entry.start.value.disk ≤ D.clock self.entry.device.now.disk }
         ensures stops { D.stops self.entry.device.now.disk ≡ D.stops self.entry.start.value.disk }
         ensures reads { ∥ HasBeenRead self.entry.start.value.books self.entry.device.now.books (D.state self.entry.start.value.disk) (D.state self.entry.device.now.disk) (D.clock self.entry.start.value.disk) (D.clock self.entry.device.now.disk) (D.since self.entry.start.value.disk) (D.since self.entry.device.now.disk) ∥₁ }
         ensures core { (t0 : Mounted) (adopted : Adoption) (sp : SpaceView) → HasCore t0 adopted sp self.entry.start.value.books (D.state self.entry.start.value.disk) (D.clock self.entry.start.value.disk) (D.since self.entry.start.value.disk)

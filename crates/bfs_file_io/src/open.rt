@@ -97,6 +97,7 @@ fn write_next<D: Disk>(
     ensures rest { device.new.books ≡ record device.old.books { moment = device.new.books.moment; stop = device.new.books.stop } }
     ensures cause { IfErr result (HasPieceCause device.old.books.stop (D.faults device.old.disk) (D.faults device.new.disk)) }
     ensures faults { D.faults device.old.disk ≤ D.faults device.new.disk }
+    ensures disk_clock { D.clock device.old.disk ≤ D.clock device.new.disk }
 {
     device.steady();
     let _durable = device.durable();
@@ -145,6 +146,7 @@ fn read_next<D: Disk>(
     ensures state { D.state device.new.disk ≡ D.state device.old.disk }
     ensures cause { IfErr result (HasPieceCause device.old.books.stop (D.faults device.old.disk) (D.faults device.new.disk)) }
     ensures faults { D.faults device.old.disk ≤ D.faults device.new.disk }
+    ensures disk_clock { D.clock device.old.disk ≤ D.clock device.new.disk }
 {
     device.steady();
     let start = begin_in(at, size) + done;
@@ -203,6 +205,7 @@ fn load_block<D: Disk>(
     ensures state { D.state device.new.disk ≡ D.state device.old.disk }
     ensures cause { IfErr result (HasPieceCause device.old.books.stop (D.faults device.old.disk) (D.faults device.new.disk)) }
     ensures faults { D.faults device.old.disk ≤ D.faults device.new.disk }
+    ensures disk_clock { D.clock device.old.disk ≤ D.clock device.new.disk }
 {
     device.steady();
     read_block(device, place, &mut block[..size])
@@ -231,6 +234,7 @@ fn load_next<D: Disk>(
     ensures state { D.state device.new.disk ≡ D.state device.old.disk }
     ensures cause { IfErr result (HasPieceCause device.old.books.stop (D.faults device.old.disk) (D.faults device.new.disk)) }
     ensures faults { D.faults device.old.disk ≤ D.faults device.new.disk }
+    ensures disk_clock { D.clock device.old.disk ≤ D.clock device.new.disk }
 {
     device.steady();
     let places = open.places.as_slice();
@@ -278,6 +282,7 @@ pub fn make_next<D: Disk>(
     ensures stopped { (s : stops.Stop) → device.old.books.stop ≡ Some s → OnOk result ⊥ }
     ensures cause { IfErr result (HasPieceCause device.old.books.stop (D.faults device.old.disk) (D.faults device.new.disk)) }
     ensures faults { D.faults device.old.disk ≤ D.faults device.new.disk }
+    ensures disk_clock { D.clock device.old.disk ≤ D.clock device.new.disk }
 {
     if let Some(Stop { durable, faults }) = device.stopped() {
         return note_made(open, Err(DeviceFault::Stopped { durable, faults }));

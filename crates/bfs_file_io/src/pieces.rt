@@ -86,6 +86,7 @@ pub fn ask_hold<D: Disk>(
     ensures rests { IsRested device.old.books device.new.books }
     ensures state { D.state device.new.disk ≡ D.state device.old.disk }
     ensures faults { D.faults device.old.disk ≤ D.faults device.new.disk }
+    ensures disk_clock { D.clock device.old.disk ≤ D.clock device.new.disk }
     ensures noted { IfOk result (HasOutcome (counts_of (D.faults device.old.disk) (D.stops device.old.disk) device.old.books.stop) (counts_of (D.faults device.new.disk) (D.stops device.new.disk) device.new.books.stop) space.old space.new piece.session piece.tag piece.now (Hold piece.id piece.at piece.length piece.write)) }
     ensures no_memory { OnErr result (space.new ≡ space.old) }
     ensures plain { IfOk result (λ o. IsPlain space.old.view.history space.new.view.history) }
@@ -172,6 +173,7 @@ fn ask_once<D: Disk>(
     ensures joined { AreJoined space.new device.new.books (D.state device.new.disk) }
     ensures rests { IsRested device.old.books device.new.books }
     ensures faults { D.faults device.old.disk ≤ D.faults device.new.disk }
+    ensures disk_clock { D.clock device.old.disk ≤ D.clock device.new.disk }
     ensures asked { IfOk result (HasAsked space.old space.new device.old.books device.new.books (D.state device.new.disk) piece.session piece.tag piece.id piece.at piece.length piece.write places.new.items) }
     ensures no_memory { OnErr result (space.new ≡ space.old) }
     ensures noted { IfOk result (OnReply (HasReplyIn space.old space.new (D.faults device.old.disk) (D.faults device.new.disk) piece.session piece.tag (Hold piece.id piece.at piece.length piece.write))) }
@@ -203,6 +205,7 @@ fn rest_for<D: Disk>(
     ensures fault { IfErr result (HasStepCause device.old.books.stop device.new.books.stop (D.faults device.old.disk) (D.faults device.new.disk)) }
     ensures stop { OnOk result (device.new.books.stop ≡ None) }
     ensures faults { D.faults device.old.disk ≤ D.faults device.new.disk }
+    ensures disk_clock { D.clock device.old.disk ≤ D.clock device.new.disk }
     ensures spare { device.new.books.spare ≡ device.old.books.spare }
     ensures counts { KeepsCounts device.old.books.stop device.new.books.stop (D.faults device.old.disk) (D.faults device.new.disk) (D.stops device.old.disk) (D.stops device.new.disk) }
     ensures open { (p : OpenView) → IsOpen p space.old.view device.old.books (D.state device.old.disk) → IsOpen p space.new.view device.new.books (D.state device.new.disk) }
@@ -258,6 +261,7 @@ fn make_quiet<D: Disk>(
     ensures joined { AreJoined space.new device.new.books (D.state device.new.disk) }
     ensures spare { 1 ≤ device.new.books.spare }
     ensures faults { D.faults device.old.disk ≤ D.faults device.new.disk }
+    ensures disk_clock { D.clock device.old.disk ≤ D.clock device.new.disk }
     ensures ready { IfOk result (λ ready. ready ≡ true → IsAwaited space.old space.new device.old.books device.new.books piece.write) }
     ensures ended { IfOk result (λ ready. ready ≡ false → IsEnded space.old.view.history space.new.view.history piece.session piece.tag (Hold piece.id piece.at piece.length piece.write) device.old.books.stop (D.faults device.old.disk) (D.faults device.new.disk) × (space.new.promised ≡ space.old.promised)) }
     ensures no_memory { OnErr result ((space.new.view.history ≡ space.old.view.history) × (space.new.promised ≡ space.old.promised)) }
@@ -311,6 +315,7 @@ fn make_empty<D: Disk>(
     ensures joined { AreJoined space.new device.new.books (D.state device.new.disk) }
     ensures spare { 1 ≤ device.new.books.spare }
     ensures faults { D.faults device.old.disk ≤ D.faults device.new.disk }
+    ensures disk_clock { D.clock device.old.disk ≤ D.clock device.new.disk }
     ensures ready { IfOk result (λ ready. ready ≡ true → IsAwaited space.old space.new device.old.books device.new.books piece.write) }
     ensures ended { IfOk result (λ ready. ready ≡ false → IsEnded space.old.view.history space.new.view.history piece.session piece.tag (Hold piece.id piece.at piece.length piece.write) device.old.books.stop (D.faults device.old.disk) (D.faults device.new.disk) × (space.new.promised ≡ space.old.promised)) }
     ensures no_memory { OnErr result ((space.new.view.history ≡ space.old.view.history) × (space.new.promised ≡ space.old.promised)) }
@@ -347,6 +352,7 @@ fn ask_again<D: Disk>(
     ensures joined { AreJoined space.new device.new.books (D.state device.new.disk) }
     ensures spare { 1 ≤ device.new.books.spare }
     ensures faults { D.faults device.old.disk ≤ D.faults device.new.disk }
+    ensures disk_clock { D.clock device.old.disk ≤ D.clock device.new.disk }
     ensures taken { IfOk result (λ taken. taken ≡ true → TookHold space.old space.new device.old.books device.new.books (D.state device.new.disk) piece.session piece.tag piece.id piece.at piece.length piece.write places.new.items) }
     ensures untaken { IfOk result (λ taken. taken ≡ false → HasUntaken space.old.view.history space.new.view.history piece.session piece.tag (Hold piece.id piece.at piece.length piece.write) × (space.new.promised ≡ space.old.promised)) }
     ensures no_memory { OnErr result ((space.new.view.history ≡ space.old.view.history) × (space.new.promised ≡ space.old.promised)) }
@@ -389,6 +395,7 @@ fn hold<D: Disk>(
     ensures joined { AreJoined space.new device.new.books (D.state device.new.disk) }
     ensures spare { 1 ≤ device.new.books.spare }
     ensures faults { D.faults device.old.disk ≤ D.faults device.new.disk }
+    ensures disk_clock { D.clock device.old.disk ≤ D.clock device.new.disk }
     ensures taken { IfOk result (λ taken. taken ≡ true → TookHold space.old space.new device.old.books device.new.books (D.state device.new.disk) piece.session piece.tag piece.id piece.at piece.length piece.write places.new.items) }
     ensures untaken { IfOk result (λ taken. taken ≡ false → HasUntaken space.old.view.history space.new.view.history piece.session piece.tag (Hold piece.id piece.at piece.length piece.write) × (space.new.promised ≡ space.old.promised)) }
     ensures no_memory { OnErr result ((space.new.view.history ≡ space.old.view.history) × (space.new.promised ≡ space.old.promised)) }
@@ -455,6 +462,7 @@ fn write_bytes<D: Disk>(
     ensures rest { device.new.books ≡ record device.old.books { moment = device.new.books.moment; stop = device.new.books.stop } }
     ensures cause { IfErr result (HasPieceCause device.old.books.stop (D.faults device.old.disk) (D.faults device.new.disk)) }
     ensures faults { D.faults device.old.disk ≤ D.faults device.new.disk }
+    ensures disk_clock { D.clock device.old.disk ≤ D.clock device.new.disk }
 {
     if bytes.len() == 0 {
         return Ok(());
@@ -486,6 +494,7 @@ fn read_bytes<D: Disk>(
     ensures rests { IsRested device.old.books device.new.books }
     ensures cause { IfErr result (HasPieceCause device.old.books.stop (D.faults device.old.disk) (D.faults device.new.disk)) }
     ensures faults { D.faults device.old.disk ≤ D.faults device.new.disk }
+    ensures disk_clock { D.clock device.old.disk ≤ D.clock device.new.disk }
 {
     if into.len() == 0 {
         return Ok(());
@@ -611,6 +620,7 @@ fn write_held<D: Disk>(
     ensures spare { device.new.books.spare ≡ device.old.books.spare }
     ensures gone { HasGone space.old.view.history space.new.view.history piece.session piece.tag piece.id (D.faults device.old.disk) (D.faults device.new.disk) bytes.now }
     ensures faults { D.faults device.old.disk ≤ D.faults device.new.disk }
+    ensures disk_clock { D.clock device.old.disk ≤ D.clock device.new.disk }
     ensures stamps { HasDrawn space.old.view.history space.new.view.history piece.now }
     ensures failures { HasFailures space.old.view.history space.new.view.history device.old.books.stop device.new.books.stop (D.faults device.old.disk) (D.faults device.new.disk) (D.stops device.old.disk) (D.stops device.new.disk) }
     ensures open { (p : OpenView) → p.hold.session ≢ piece.session → IsOpen p space.old.view device.old.books (D.state device.old.disk) → IsOpen p space.new.view device.new.books (D.state device.new.disk) }
@@ -652,6 +662,7 @@ fn read_held<D: Disk>(
     ensures spare { device.new.books.spare ≡ device.old.books.spare }
     ensures gone { HasGone space.old.view.history space.new.view.history piece.session piece.tag piece.id (D.faults device.old.disk) (D.faults device.new.disk) into.new }
     ensures faults { D.faults device.old.disk ≤ D.faults device.new.disk }
+    ensures disk_clock { D.clock device.old.disk ≤ D.clock device.new.disk }
     ensures stamps { HasDrawn space.old.view.history space.new.view.history piece.now }
     ensures failures { HasFailures space.old.view.history space.new.view.history device.old.books.stop device.new.books.stop (D.faults device.old.disk) (D.faults device.new.disk) (D.stops device.old.disk) (D.stops device.new.disk) }
     ensures open { (p : OpenView) → p.hold.session ≢ piece.session → IsOpen p space.old.view device.old.books (D.state device.old.disk) → IsOpen p space.new.view device.new.books (D.state device.new.disk) }
@@ -696,6 +707,7 @@ pub fn write<D: Disk>(
     ensures entries { OnOk result (HasPiece space.old.view.history space.new.view.history piece.session piece.tag (Hold piece.id piece.at (length bytes.now) true) piece.id (λ given. given ≡ bytes.now)) }
     ensures no_memory { OnErr result (space.new.view.history ≡ space.old.view.history) }
     ensures later { D.faults device.old.disk ≤ D.faults device.new.disk }
+    ensures disk_clock { D.clock device.old.disk ≤ D.clock device.new.disk }
     ensures noted { OnOk result (HasHoldIn space.old (D.faults device.old.disk) (D.faults device.new.disk) piece.session piece.tag (Hold piece.id piece.at (length bytes.now) true) device.old.books.stop) }
     ensures answered { (t0 : Mounted) (adopted : Adoption) → HasCore t0 adopted space.old.view device.old.books (D.state device.old.disk) (D.clock device.old.disk) (D.since device.old.disk)
         → OnOk result (IsHoldIn t0 space.old (D.faults device.old.disk) (D.faults device.new.disk) piece.session piece.tag (Hold piece.id piece.at (length bytes.now) true) device.old.books.stop) }
@@ -760,6 +772,7 @@ pub fn read<D: Disk>(
     ensures entries { OnOk result (HasPiece space.old.view.history space.new.view.history piece.session piece.tag (Hold piece.id piece.at (length into.old) false) piece.id (λ given. given ≡ into.new)) }
     ensures no_memory { OnErr result (space.new.view.history ≡ space.old.view.history) }
     ensures later { D.faults device.old.disk ≤ D.faults device.new.disk }
+    ensures disk_clock { D.clock device.old.disk ≤ D.clock device.new.disk }
     ensures noted { OnOk result (HasHoldIn space.old (D.faults device.old.disk) (D.faults device.new.disk) piece.session piece.tag (Hold piece.id piece.at (length into.old) false) device.old.books.stop) }
     ensures answered { (t0 : Mounted) (adopted : Adoption) → HasCore t0 adopted space.old.view device.old.books (D.state device.old.disk) (D.clock device.old.disk) (D.since device.old.disk)
         → OnOk result (IsHoldIn t0 space.old (D.faults device.old.disk) (D.faults device.new.disk) piece.session piece.tag (Hold piece.id piece.at (length into.old) false) device.old.books.stop) }

@@ -33,6 +33,7 @@ pub fn read_block<D: Disk>(
     ensures cause { IfErr result (HasPieceCause device.old.books.stop (D.faults device.old.disk) (D.faults device.new.disk)) }
     ensures stopped { IfErr result (TellsStop device.new.books.stop) }
     ensures faults { D.faults device.old.disk ≤ D.faults device.new.disk }
+    ensures disk_clock { D.clock device.old.disk ≤ D.clock device.new.disk }
     ensures stops { D.stops device.new.disk ≡ D.stops device.old.disk }
     ensures one { IsSome (D.state device.old.disk) → OnOk result (D.clock device.new.disk ≡ D.clock device.old.disk + 1) }
 {
@@ -62,6 +63,7 @@ fn read_some<D: Disk>(
     ensures cause { IfErr result (HasPieceCause device.old.books.stop (D.faults device.old.disk) (D.faults device.new.disk)) }
     ensures stopped { IfErr result (TellsStop device.new.books.stop) }
     ensures faults { D.faults device.old.disk ≤ D.faults device.new.disk }
+    ensures disk_clock { D.clock device.old.disk ≤ D.clock device.new.disk }
     ensures stops { D.stops device.new.disk ≡ D.stops device.old.disk }
     ensures one { IsSome (D.state device.old.disk) → OnOk result (D.clock device.new.disk ≡ D.clock device.old.disk + 1) }
 {
@@ -94,6 +96,7 @@ pub fn read_part<D: Disk>(
     ensures cause { IfErr result (HasPieceCause device.old.books.stop (D.faults device.old.disk) (D.faults device.new.disk)) }
     ensures stopped { IfErr result (TellsStop device.new.books.stop) }
     ensures faults { D.faults device.old.disk ≤ D.faults device.new.disk }
+    ensures disk_clock { D.clock device.old.disk ≤ D.clock device.new.disk }
     ensures stops { D.stops device.new.disk ≡ D.stops device.old.disk }
     ensures one { IsSome (D.state device.old.disk) → OnOk result (D.clock device.new.disk ≡ D.clock device.old.disk + 1) }
 {
@@ -121,6 +124,7 @@ fn write_whole<D: Disk>(device: &mut Device<D>, place: u64, from: &[u8]) -> Resu
     ensures cause { IfErr result (HasPieceCause device.old.books.stop (D.faults device.old.disk) (D.faults device.new.disk)) }
     ensures stopped { IfErr result (TellsStop device.new.books.stop) }
     ensures faults { D.faults device.old.disk ≤ D.faults device.new.disk }
+    ensures disk_clock { D.clock device.old.disk ≤ D.clock device.new.disk }
     ensures stops { D.stops device.old.disk ≤ D.stops device.new.disk }
     ensures halted { IfErr result (HasHalted device.new.books.stop (D.stops device.old.disk) (D.stops device.new.disk)) }
     ensures one { IsSome (D.state device.old.disk) → OnOk result (D.clock device.new.disk ≡ D.clock device.old.disk + 1) }
@@ -158,6 +162,7 @@ pub fn write_in<D: Disk>(
     ensures cause { IfErr result (HasPieceCause device.old.books.stop (D.faults device.old.disk) (D.faults device.new.disk)) }
     ensures stopped { IfErr result (TellsStop device.new.books.stop) }
     ensures faults { D.faults device.old.disk ≤ D.faults device.new.disk }
+    ensures disk_clock { D.clock device.old.disk ≤ D.clock device.new.disk }
     ensures stops { D.stops device.old.disk ≤ D.stops device.new.disk }
     ensures halted { IfErr result (HasHalted device.new.books.stop (D.stops device.old.disk) (D.stops device.new.disk)) }
     ensures buffer_length { length block.new ≡ length block.old }
@@ -195,6 +200,7 @@ fn write_some<D: Disk>(
     ensures cause { IfErr result (HasPieceCause device.old.books.stop (D.faults device.old.disk) (D.faults device.new.disk)) }
     ensures stopped { IfErr result (TellsStop device.new.books.stop) }
     ensures faults { D.faults device.old.disk ≤ D.faults device.new.disk }
+    ensures disk_clock { D.clock device.old.disk ≤ D.clock device.new.disk }
     ensures stops { D.stops device.old.disk ≤ D.stops device.new.disk }
     ensures halted { IfErr result (HasHalted device.new.books.stop (D.stops device.old.disk) (D.stops device.new.disk)) }
 {
@@ -230,6 +236,7 @@ pub fn write_part<D: Disk>(
     ensures cause { IfErr result (HasPieceCause device.old.books.stop (D.faults device.old.disk) (D.faults device.new.disk)) }
     ensures stopped { IfErr result (TellsStop device.new.books.stop) }
     ensures faults { D.faults device.old.disk ≤ D.faults device.new.disk }
+    ensures disk_clock { D.clock device.old.disk ≤ D.clock device.new.disk }
     ensures stops { D.stops device.old.disk ≤ D.stops device.new.disk }
     ensures halted { IfErr result (HasHalted device.new.books.stop (D.stops device.old.disk) (D.stops device.new.disk)) }
 {

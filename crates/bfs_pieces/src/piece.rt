@@ -51,6 +51,7 @@ pub fn read_piece<D: Disk>(
     // A failed read stops no device.
     ensures stopped { IfErr result (TellsStop device.new.books.stop) }
     ensures faults { D.faults device.old.disk ≤ D.faults device.new.disk }
+    ensures disk_clock { D.clock device.old.disk ≤ D.clock device.new.disk }
     ensures stops { D.stops device.new.disk ≡ D.stops device.old.disk }
 {
     let size = block.len();
@@ -108,6 +109,7 @@ pub fn write_block<D: Disk>(
     // A failed write stops the device, and a failed read before it doesn't.
     ensures stopped { IfErr result (TellsStop device.new.books.stop) }
     ensures faults { D.faults device.old.disk ≤ D.faults device.new.disk }
+    ensures disk_clock { D.clock device.old.disk ≤ D.clock device.new.disk }
     ensures stops { D.stops device.old.disk ≤ D.stops device.new.disk }
     ensures halted { IfErr result (HasHalted device.new.books.stop (D.stops device.old.disk) (D.stops device.new.disk)) }
 {
@@ -147,6 +149,7 @@ pub fn write_piece<D: Disk>(
     // A failed write stops the device, and a failed read before it doesn't.
     ensures stopped { IfErr result (TellsStop device.new.books.stop) }
     ensures faults { D.faults device.old.disk ≤ D.faults device.new.disk }
+    ensures disk_clock { D.clock device.old.disk ≤ D.clock device.new.disk }
     ensures stops { D.stops device.old.disk ≤ D.stops device.new.disk }
     ensures halted { IfErr result (HasHalted device.new.books.stop (D.stops device.old.disk) (D.stops device.new.disk)) }
 {

@@ -36,6 +36,7 @@ fn call<D: Disk, C: Clock>(
     ensures core { (t0 : Mounted) (adopted : Adoption) → HasCore t0 adopted volume.old.space.view volume.old.device.books (D.state volume.old.device.disk) (D.clock volume.old.device.disk) (D.since volume.old.device.disk)
         → HasCore t0 adopted volume.new.space.view volume.new.device.books (D.state volume.new.device.disk) (D.clock volume.new.device.disk) (D.since volume.new.device.disk) }
     ensures later { D.faults volume.old.device.disk ≤ D.faults volume.new.device.disk }
+    ensures disk_clock { D.clock volume.old.device.disk ≤ D.clock volume.new.device.disk }
     ensures failures { HasFailures volume.old.space.view.history volume.new.space.view.history volume.old.device.books.stop volume.new.device.books.stop (D.faults volume.old.device.disk) (D.faults volume.new.device.disk) (D.stops volume.old.device.disk) (D.stops volume.new.device.disk) }
 {
     match volume.call(session, tag, call) {
@@ -62,6 +63,7 @@ fn write<D: Disk, C: Clock>(
     ensures core { (t0 : Mounted) (adopted : Adoption) → HasCore t0 adopted volume.old.space.view volume.old.device.books (D.state volume.old.device.disk) (D.clock volume.old.device.disk) (D.since volume.old.device.disk)
         → HasCore t0 adopted volume.new.space.view volume.new.device.books (D.state volume.new.device.disk) (D.clock volume.new.device.disk) (D.since volume.new.device.disk) }
     ensures later { D.faults volume.old.device.disk ≤ D.faults volume.new.device.disk }
+    ensures disk_clock { D.clock volume.old.device.disk ≤ D.clock volume.new.device.disk }
     ensures failures { HasFailures volume.old.space.view.history volume.new.space.view.history volume.old.device.books.stop volume.new.device.books.stop (D.faults volume.old.device.disk) (D.faults volume.new.device.disk) (D.stops volume.old.device.disk) (D.stops volume.new.device.disk) }
 {
     match volume.write(session, tag, id, at, bytes) {
@@ -88,6 +90,7 @@ fn read_into<D: Disk, C: Clock>(
     ensures core { (t0 : Mounted) (adopted : Adoption) → HasCore t0 adopted volume.old.space.view volume.old.device.books (D.state volume.old.device.disk) (D.clock volume.old.device.disk) (D.since volume.old.device.disk)
         → HasCore t0 adopted volume.new.space.view volume.new.device.books (D.state volume.new.device.disk) (D.clock volume.new.device.disk) (D.since volume.new.device.disk) }
     ensures later { D.faults volume.old.device.disk ≤ D.faults volume.new.device.disk }
+    ensures disk_clock { D.clock volume.old.device.disk ≤ D.clock volume.new.device.disk }
     ensures failures { HasFailures volume.old.space.view.history volume.new.space.view.history volume.old.device.books.stop volume.new.device.books.stop (D.faults volume.old.device.disk) (D.faults volume.new.device.disk) (D.stops volume.old.device.disk) (D.stops volume.new.device.disk) }
 {
     match volume.read(session, tag, id, at, into) {
@@ -123,6 +126,7 @@ fn read<D: Disk, C: Clock>(
     ensures core { (t0 : Mounted) (adopted : Adoption) → HasCore t0 adopted volume.old.space.view volume.old.device.books (D.state volume.old.device.disk) (D.clock volume.old.device.disk) (D.since volume.old.device.disk)
         → HasCore t0 adopted volume.new.space.view volume.new.device.books (D.state volume.new.device.disk) (D.clock volume.new.device.disk) (D.since volume.new.device.disk) }
     ensures later { D.faults volume.old.device.disk ≤ D.faults volume.new.device.disk }
+    ensures disk_clock { D.clock volume.old.device.disk ≤ D.clock volume.new.device.disk }
     ensures failures { HasFailures volume.old.space.view.history volume.new.space.view.history volume.old.device.books.stop volume.new.device.books.stop (D.faults volume.old.device.disk) (D.faults volume.new.device.disk) (D.stops volume.old.device.disk) (D.stops volume.new.device.disk) }
 {
     let mut into = match room(alloc, count as usize) {
@@ -147,6 +151,7 @@ fn sync<D: Disk, C: Clock>(
     ensures core { (t0 : Mounted) (adopted : Adoption) → HasCore t0 adopted volume.old.space.view volume.old.device.books (D.state volume.old.device.disk) (D.clock volume.old.device.disk) (D.since volume.old.device.disk)
         → HasCore t0 adopted volume.new.space.view volume.new.device.books (D.state volume.new.device.disk) (D.clock volume.new.device.disk) (D.since volume.new.device.disk) }
     ensures later { D.faults volume.old.device.disk ≤ D.faults volume.new.device.disk }
+    ensures disk_clock { D.clock volume.old.device.disk ≤ D.clock volume.new.device.disk }
     ensures failures { HasFailures volume.old.space.view.history volume.new.space.view.history volume.old.device.books.stop volume.new.device.books.stop (D.faults volume.old.device.disk) (D.faults volume.new.device.disk) (D.stops volume.old.device.disk) (D.stops volume.new.device.disk) }
 {
     match volume.sync(session, tag) {
@@ -178,6 +183,7 @@ pub fn ask<D: Disk, C: Clock>(
     ensures core { (t0 : Mounted) (adopted : Adoption) → HasCore t0 adopted volume.old.space.view volume.old.device.books (D.state volume.old.device.disk) (D.clock volume.old.device.disk) (D.since volume.old.device.disk)
         → HasCore t0 adopted volume.new.space.view volume.new.device.books (D.state volume.new.device.disk) (D.clock volume.new.device.disk) (D.since volume.new.device.disk) }
     ensures later { D.faults volume.old.device.disk ≤ D.faults volume.new.device.disk }
+    ensures disk_clock { D.clock volume.old.device.disk ≤ D.clock volume.new.device.disk }
     ensures failures { HasFailures volume.old.space.view.history volume.new.space.view.history volume.old.device.books.stop volume.new.device.books.stop (D.faults volume.old.device.disk) (D.faults volume.new.device.disk) (D.stops volume.old.device.disk) (D.stops volume.new.device.disk) }
 {
     match due {

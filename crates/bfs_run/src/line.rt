@@ -76,6 +76,7 @@ fn turn<D: Disk, C: Clock>(
     ensures core { (t0 : Mounted) (adopted : Adoption) → HasCore t0 adopted volume.old.space.view volume.old.device.books (D.state volume.old.device.disk) (D.clock volume.old.device.disk) (D.since volume.old.device.disk)
         → HasCore t0 adopted volume.new.space.view volume.new.device.books (D.state volume.new.device.disk) (D.clock volume.new.device.disk) (D.since volume.new.device.disk) }
     ensures later { D.faults volume.old.device.disk ≤ D.faults volume.new.device.disk }
+    ensures disk_clock { D.clock volume.old.device.disk ≤ D.clock volume.new.device.disk }
     ensures failures { HasFailures volume.old.space.view.history volume.new.space.view.history volume.old.device.books.stop volume.new.device.books.stop (D.faults volume.old.device.disk) (D.faults volume.new.device.disk) (D.stops volume.old.device.disk) (D.stops volume.new.device.disk) }
 {
     let due = match calls.due(alloc) {
@@ -109,6 +110,7 @@ pub fn run_line<D: Disk, C: Clock>(
     ensures core { (t0 : Mounted) (adopted : Adoption) → HasCore t0 adopted volume.old.space.view volume.old.device.books (D.state volume.old.device.disk) (D.clock volume.old.device.disk) (D.since volume.old.device.disk)
         → HasCore t0 adopted volume.new.space.view volume.new.device.books (D.state volume.new.device.disk) (D.clock volume.new.device.disk) (D.since volume.new.device.disk) }
     ensures later { D.faults volume.old.device.disk ≤ D.faults volume.new.device.disk }
+    ensures disk_clock { D.clock volume.old.device.disk ≤ D.clock volume.new.device.disk }
     ensures failures { HasFailures volume.old.space.view.history volume.new.space.view.history volume.old.device.books.stop volume.new.device.books.stop (D.faults volume.old.device.disk) (D.faults volume.new.device.disk) (D.stops volume.old.device.disk) (D.stops volume.new.device.disk) }
 {
     let mut calls = Calls::of(root, &line.command);

@@ -93,6 +93,7 @@ fn run_lines<D: Disk, C: Clock + Drop, P: Watcher>(
     ensures read { result.0 ≡ Run.Unread → ⊥ }
     ensures good { (number : ℕ) → result.0 ≡ Run.BadLine number → ⊥ }
     ensures later { D.faults volume.device.disk ≤ D.faults result.1 }
+    ensures disk_clock { D.clock volume.device.disk ≤ D.clock result.1 }
 {
     let root = volume.root();
     let ran = run_script(alloc, &mut volume, root, script, watcher);
@@ -142,6 +143,7 @@ fn mount_quiet<D: Disk, C: Clock + Drop>(
     ensures going { IfOk result (λ v. v.device.books.stop ≡ None) }
     ensures stops { MatchResult result (λ v. D.stops disk ≤ D.stops v.device.disk) (λ e. D.stops disk ≤ D.stops e.1) }
     ensures later { MatchResult result (λ v. D.faults disk ≤ D.faults v.device.disk) (λ e. D.faults disk ≤ D.faults e.1) }
+    ensures disk_clock { MatchResult result (λ v. D.clock disk ≤ D.clock v.device.disk) (λ e. D.clock disk ≤ D.clock e.1) }
 {
     let before = disk.faults();
     match make_quiet(&mut disk) {
@@ -175,6 +177,7 @@ pub fn run_shell<D: Disk, R: Source, C: Clock + Drop, P: Watcher>(
     ensures cause { (why : mounting.Unmounted) → result.0 ≡ Run.Unmounted why → HasUnmountedCause (D.faults disk) (D.faults result.1) why }
     ensures unread { result.0 ≡ Run.Unread → Rose (R.faults source.old) (R.faults source.new) }
     ensures later { D.faults disk ≤ D.faults result.1 }
+    ensures disk_clock { D.clock disk ≤ D.clock result.1 }
     // Of each failed entry the disk's counts of faults, and of a stop, are told, whatever the disk tells.
     ensures failures { IsUnmountedRun result.0 ⊎ HasRunFailures result.0 (D.faults disk) (D.faults result.1) (D.stops disk) (D.stops result.1) }
     // What a script is refused for is true of it, whatever the disk tells.
@@ -211,6 +214,7 @@ pub fn run_workload<D: Disk, C: Clock + Drop, P: Watcher>(
     ensures unread { result.0 ≡ Run.Unread → ⊥ }
     ensures good { (number : ℕ) → result.0 ≡ Run.BadLine number → ⊥ }
     ensures later { D.faults disk ≤ D.faults result.1 }
+    ensures disk_clock { D.clock disk ≤ D.clock result.1 }
     // Of each failed entry the disk's counts of faults, and of a stop, are told, whatever the disk tells.
     ensures failures { IsUnmountedRun result.0 ⊎ HasRunFailures result.0 (D.faults disk) (D.faults result.1) (D.stops disk) (D.stops result.1) }
     // Over what the disk tells, it is a run of the workload's lines, on the volume that the image recovers to; from the call on.

@@ -236,6 +236,7 @@ pub fn shell<D: Disk, R: Source, C: Clock + Drop, W: Sink, X: AllocGlobal + Epri
     ensures output_failed { result.0 ≡ 6 → Rose (W.faults out.old) (W.faults out.new) }
     ensures others { (result.0 ≡ 2) ⊎ ((result.0 ≡ 8) ⊎ ((result.0 ≡ 10) ⊎ (result.0 ≡ 11))) → ⊥ }
     ensures disk_later { D.faults disk ≤ D.faults result.1 }
+    ensures disk_clock { D.clock disk ≤ D.clock result.1 }
     ensures output_later { W.faults out.old ≤ W.faults out.new }
 {
     let before = disk.faults();

@@ -344,7 +344,7 @@ pub fn bfs<
     ensures script_failed { result.0 ≡ 5 → Rose (R.faults script.old) (R.faults script.new) }
     ensures output_failed { result.0 ≡ 6 → Rose (W.faults out.old) (W.faults out.new) }
     ensures disk_later { D.faults disk ≤ D.faults result.1 }
-    ensures clock_later { (Runs words.now → ⊥) → D.clock disk ≤ D.clock result.1 }
+    ensures clock_later { D.clock disk ≤ D.clock result.1 }
     ensures output_later { W.faults out.old ≤ W.faults out.new }
 
     // Where what is asked for can be done and none of these counts rises, it is done, unless memory is wanting.

@@ -54,6 +54,7 @@ pub fn answer_among<A: Answers, D: Disk>(
     ensures entry { OnOk result (HasEntry space.old.view.history space.new.view.history session tag call) }
     ensures no_memory { OnErr result (space.new.view.history ≡ space.old.view.history) }
     ensures later { D.faults device.old.disk ≤ D.faults device.new.disk }
+    ensures disk_clock { D.clock device.old.disk ≤ D.clock device.new.disk }
     // The space has replied, or the device has ended it.
     ensures noted { OnOk result (HasReplyIn space.old space.new (D.faults device.old.disk) (D.faults device.new.disk) session tag call ⊎ IsEnded space.old.view.history space.new.view.history session tag call device.old.books.stop (D.faults device.old.disk) (D.faults device.new.disk)) }
     ensures answered { (t0 : Mounted) (adopted : Adoption) → HasCore t0 adopted space.old.view device.old.books (D.state device.old.disk) (D.clock device.old.disk) (D.since device.old.disk)
@@ -96,6 +97,7 @@ pub fn sync_among<D: Disk>(
     ensures failed { IfErr result (HasFailedSync space.old.view.history space.new.view.history session tag) }
     ensures cause { IfErr result (HasSyncCause device.old.books.stop (D.faults device.old.disk) (D.faults device.new.disk)) }
     ensures later { D.faults device.old.disk ≤ D.faults device.new.disk }
+    ensures disk_clock { D.clock device.old.disk ≤ D.clock device.new.disk }
     // Of a device that had stopped nothing is made durable any more, and the sync is answered so, also where the disk tells nothing.
     ensures stopped { (s : stops.Stop) → device.old.books.stop ≡ Some s → IsStoppedSync space.old.view.history space.new.view.history session tag s result }
     // And it stays stopped, whatever is answered.
@@ -134,6 +136,7 @@ pub fn write_among<D: Disk>(
     ensures entries { OnOk result (HasPiece space.old.view.history space.new.view.history piece.session piece.tag (Hold piece.id piece.at (length bytes.now) true) piece.id (λ given. given ≡ bytes.now)) }
     ensures no_memory { OnErr result (space.new.view.history ≡ space.old.view.history) }
     ensures later { D.faults device.old.disk ≤ D.faults device.new.disk }
+    ensures disk_clock { D.clock device.old.disk ≤ D.clock device.new.disk }
     ensures noted { OnOk result (HasHoldIn space.old (D.faults device.old.disk) (D.faults device.new.disk) piece.session piece.tag (Hold piece.id piece.at (length bytes.now) true) device.old.books.stop) }
     ensures answered { (t0 : Mounted) (adopted : Adoption) → HasCore t0 adopted space.old.view device.old.books (D.state device.old.disk) (D.clock device.old.disk) (D.since device.old.disk)
         → OnOk result (IsHoldIn t0 space.old (D.faults device.old.disk) (D.faults device.new.disk) piece.session piece.tag (Hold piece.id piece.at (length bytes.now) true) device.old.books.stop) }
@@ -177,6 +180,7 @@ pub fn read_among<D: Disk>(
     ensures entries { OnOk result (HasPiece space.old.view.history space.new.view.history piece.session piece.tag (Hold piece.id piece.at (length into.old) false) piece.id (λ given. given ≡ into.new)) }
     ensures no_memory { OnErr result (space.new.view.history ≡ space.old.view.history) }
     ensures later { D.faults device.old.disk ≤ D.faults device.new.disk }
+    ensures disk_clock { D.clock device.old.disk ≤ D.clock device.new.disk }
     ensures noted { OnOk result (HasHoldIn space.old (D.faults device.old.disk) (D.faults device.new.disk) piece.session piece.tag (Hold piece.id piece.at (length into.old) false) device.old.books.stop) }
     ensures answered { (t0 : Mounted) (adopted : Adoption) → HasCore t0 adopted space.old.view device.old.books (D.state device.old.disk) (D.clock device.old.disk) (D.since device.old.disk)
         → OnOk result (IsHoldIn t0 space.old (D.faults device.old.disk) (D.faults device.new.disk) piece.session piece.tag (Hold piece.id piece.at (length into.old) false) device.old.books.stop) }

@@ -51,6 +51,7 @@ fn attempt_hold<D: Disk>(
     ensures entry { IfOk result (HasTried space.old.view.history space.new.view.history piece.session piece.tag (HoldCall piece.id piece.at piece.length piece.write)) }
     ensures no_memory { OnErr result ((space.new.view.history ≡ space.old.view.history) × (space.new.promised ≡ space.old.promised)) }
     ensures later { D.faults device.old.disk ≤ D.faults device.new.disk }
+    ensures disk_clock { D.clock device.old.disk ≤ D.clock device.new.disk }
     // The space has answered, or the device had stopped.
     ensures noted { IfOk result (λ o. HasOutcomeIn space.old space.new (D.faults device.old.disk) (D.faults device.new.disk) piece.session piece.tag (HoldCall piece.id piece.at piece.length piece.write) o ⊎ IsEnded space.old.view.history space.new.view.history piece.session piece.tag (HoldCall piece.id piece.at piece.length piece.write) device.old.books.stop (D.faults device.old.disk) (D.faults device.new.disk)) }
     ensures answered { (t0 : Mounted) (adopted : Adoption) → HasCore t0 adopted space.old.view device.old.books (D.state device.old.disk) (D.clock device.old.disk) (D.since device.old.disk)
@@ -146,6 +147,7 @@ pub fn hold_open<D: Disk>(
     ensures entry { IfOk result (HasTried space.old.view.history space.new.view.history piece.session piece.tag (HoldCall piece.id piece.at piece.length piece.write)) }
     ensures no_memory { OnErr result (space.new.view.history ≡ space.old.view.history) }
     ensures later { D.faults device.old.disk ≤ D.faults device.new.disk }
+    ensures disk_clock { D.clock device.old.disk ≤ D.clock device.new.disk }
     // The space has answered, or the device had stopped.
     ensures noted { IfOk result (λ o. HasOutcomeIn space.old space.new (D.faults device.old.disk) (D.faults device.new.disk) piece.session piece.tag (HoldCall piece.id piece.at piece.length piece.write) o ⊎ IsEnded space.old.view.history space.new.view.history piece.session piece.tag (HoldCall piece.id piece.at piece.length piece.write) device.old.books.stop (D.faults device.old.disk) (D.faults device.new.disk)) }
     ensures answered { (t0 : Mounted) (adopted : Adoption) → HasCore t0 adopted space.old.view device.old.books (D.state device.old.disk) (D.clock device.old.disk) (D.since device.old.disk)
@@ -201,6 +203,7 @@ fn make_one<D: Disk>(
     ensures stopped { (s : stops.Stop) → device.old.books.stop ≡ Some s → IfOk result (λ h. (h ≡ happens.Pieced 0) ⊎ (h ≡ happens.Fault (faults.Stopped s.durable s.faults))) }
     ensures spare { device.new.books.spare ≡ device.old.books.spare }
     ensures later { D.faults device.old.disk ≤ D.faults device.new.disk }
+    ensures disk_clock { D.clock device.old.disk ≤ D.clock device.new.disk }
     ensures counts { KeepsCounts device.old.books.stop device.new.books.stop (D.faults device.old.disk) (D.faults device.new.disk) (D.stops device.old.disk) (D.stops device.new.disk) }
     ensures core { (t0 : Mounted) (adopted : Adoption) → HasCore t0 adopted space.now.view device.old.books (D.state device.old.disk) (D.clock device.old.disk) (D.since device.old.disk)
         → HasCore t0 adopted space.now.view device.new.books (D.state device.new.disk) (D.clock device.new.disk) (D.since device.new.disk) }
@@ -239,6 +242,7 @@ pub fn make_piece<D: Disk>(
     ensures stopped { (s : stops.Stop) → device.old.books.stop ≡ Some s → IfOk result (λ h. (h ≡ happens.Pieced 0) ⊎ (h ≡ happens.Fault (faults.Stopped s.durable s.faults))) }
     ensures spare { device.new.books.spare ≡ device.old.books.spare }
     ensures later { D.faults device.old.disk ≤ D.faults device.new.disk }
+    ensures disk_clock { D.clock device.old.disk ≤ D.clock device.new.disk }
     ensures counts { KeepsCounts device.old.books.stop device.new.books.stop (D.faults device.old.disk) (D.faults device.new.disk) (D.stops device.old.disk) (D.stops device.new.disk) }
     ensures core { (t0 : Mounted) (adopted : Adoption) → HasCore t0 adopted space.now.view device.old.books (D.state device.old.disk) (D.clock device.old.disk) (D.since device.old.disk)
         → HasCore t0 adopted space.now.view device.new.books (D.state device.new.disk) (D.clock device.new.disk) (D.since device.new.disk) }

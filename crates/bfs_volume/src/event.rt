@@ -119,6 +119,7 @@ pub fn attempt<A: Answers, D: Disk>(
     ensures stays_stopped { (s : stops.Stop) → device.old.books.stop ≡ Some s → device.new.books.stop ≡ Some s }
     ensures stamps { HasDrawn space.old.view.history space.new.view.history now }
     ensures failures { HasFailures space.old.view.history space.new.view.history device.old.books.stop device.new.books.stop (D.faults device.old.disk) (D.faults device.new.disk) (D.stops device.old.disk) (D.stops device.new.disk) }
+    ensures disk_clock { D.clock device.old.disk ≤ D.clock device.new.disk }
     ensures open { (p : OpenView) → p.hold.session ≢ session → IsOpen p space.old.view device.old.books (D.state device.old.disk) → IsOpen p space.new.view device.new.books (D.state device.new.disk) }
     ensures core { (t0 : Mounted) (adopted : Adoption) → HasCore t0 adopted space.old.view device.old.books (D.state device.old.disk) (D.clock device.old.disk) (D.since device.old.disk)
         → HasCore t0 adopted space.new.view device.new.books (D.state device.new.disk) (D.clock device.new.disk) (D.since device.new.disk) }
@@ -171,6 +172,7 @@ fn call_event<D: Disk>(
     ensures asked { IfOk result (IsAsked space.old space.new device.old.books.stop (D.faults device.old.disk) (D.faults device.new.disk) session tag call) }
     ensures no_memory { OnErr result (space.new.view.history ≡ space.old.view.history) }
     ensures later { D.faults device.old.disk ≤ D.faults device.new.disk }
+    ensures disk_clock { D.clock device.old.disk ≤ D.clock device.new.disk }
     ensures replied { (t0 : Mounted) (adopted : Adoption) → HasCore t0 adopted space.old.view device.old.books (D.state device.old.disk) (D.clock device.old.disk) (D.since device.old.disk)
         → IfOk result (IsCalled t0 space.old space.new device.old.books device.new.books (D.state device.new.disk) (D.faults device.old.disk) (D.faults device.new.disk) session tag call) }
     // Of a device that had stopped it is answered so, also where the disk tells nothing.
@@ -210,6 +212,7 @@ fn hold_event<D: Disk>(
     ensures asked { IfOk result (IsAsked space.old space.new device.old.books.stop (D.faults device.old.disk) (D.faults device.new.disk) piece.session piece.tag (HoldCall piece.id piece.at piece.length piece.write)) }
     ensures no_memory { OnErr result (space.new.view.history ≡ space.old.view.history) }
     ensures later { D.faults device.old.disk ≤ D.faults device.new.disk }
+    ensures disk_clock { D.clock device.old.disk ≤ D.clock device.new.disk }
     ensures replied { (t0 : Mounted) (adopted : Adoption) → HasCore t0 adopted space.old.view device.old.books (D.state device.old.disk) (D.clock device.old.disk) (D.since device.old.disk)
         → IfOk result (IsCalled t0 space.old space.new device.old.books device.new.books (D.state device.new.disk) (D.faults device.old.disk) (D.faults device.new.disk) piece.session piece.tag (HoldCall piece.id piece.at piece.length piece.write)) }
     // Of a device that had stopped it is answered so, also where the disk tells nothing.
@@ -275,6 +278,7 @@ pub fn make_event<D: Disk>(
     ensures stays_stopped { (s : stops.Stop) → device.old.books.stop ≡ Some s → device.new.books.stop ≡ Some s }
     ensures stamps { HasDrawn space.old.view.history space.new.view.history now }
     ensures failures { HasCountsOf event space.old.view.history space.new.view.history device.old.books.stop device.new.books.stop (D.faults device.old.disk) (D.faults device.new.disk) (D.stops device.old.disk) (D.stops device.new.disk) }
+    ensures disk_clock { D.clock device.old.disk ≤ D.clock device.new.disk }
     ensures core { (t0 : Mounted) (adopted : Adoption) → HasCore t0 adopted space.old.view device.old.books (D.state device.old.disk) (D.clock device.old.disk) (D.since device.old.disk)
         → HasCore t0 adopted space.new.view device.new.books (D.state device.new.disk) (D.clock device.new.disk) (D.since device.new.disk) }
 {

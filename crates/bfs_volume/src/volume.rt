@@ -140,6 +140,7 @@ impl<D: Disk, C: Clock> Volume<D, C> {
         ensures going { IfOk result (λ v. v.device.books.stop ≡ None) }
         ensures stops { MatchResult result (λ v. D.stops disk ≤ D.stops v.device.disk) (λ e. D.stops disk ≤ D.stops e.1) }
         ensures later { MatchResult result (λ v. D.faults disk ≤ D.faults v.device.disk) (λ e. D.faults disk ≤ D.faults e.1) }
+        ensures disk_clock { MatchResult result (λ v. D.clock disk ≤ D.clock v.device.disk) (λ e. D.clock disk ≤ D.clock e.1) }
     {
         let mut disk = disk;
         let (sup, nodes) = match replay_and_check(alloc, &mut disk) {
@@ -183,6 +184,7 @@ impl<D: Disk, C: Clock> Volume<D, C> {
         ensures entry { OnOk result (HasEntry self.old.space.view.history self.new.space.view.history session tag call) }
         ensures no_memory { OnErr result (self.new.space.view.history ≡ self.old.space.view.history) }
         ensures later { D.faults self.old.device.disk ≤ D.faults self.new.device.disk }
+        ensures disk_clock { D.clock self.old.device.disk ≤ D.clock self.new.device.disk }
         // The space has replied, or the device has ended it; and over what the disk tells the reply is as the space's call says it.
         ensures noted { OnOk result (HasReplyIn self.old.space self.new.space (D.faults self.old.device.disk) (D.faults self.new.device.disk) session tag call ⊎ IsEnded self.old.space.view.history self.new.space.view.history session tag call self.old.device.books.stop (D.faults self.old.device.disk) (D.faults self.new.device.disk)) }
         ensures answered { (t0 : Mounted) (adopted : Adoption) → HasCore t0 adopted self.old.space.view self.old.device.books (D.state self.old.device.disk) (D.clock self.old.device.disk) (D.since self.old.device.disk)
@@ -238,6 +240,7 @@ impl<D: Disk, C: Clock> Volume<D, C> {
         ensures stamps { (s : ℕ) → C.stands self.old.clock ≡ Some s → HasDrawn self.old.space.view.history self.new.space.view.history s }
         // And of each failed entry the disk's counts of faults, and of a stop, are told, whatever the disk tells.
         ensures failures { HasCountsOf event self.old.space.view.history self.new.space.view.history self.old.device.books.stop self.new.device.books.stop (D.faults self.old.device.disk) (D.faults self.new.device.disk) (D.stops self.old.device.disk) (D.stops self.new.device.disk) }
+        ensures disk_clock { D.clock self.old.device.disk ≤ D.clock self.new.device.disk }
         ensures core { (t0 : Mounted) (adopted : Adoption) → HasCore t0 adopted self.old.space.view self.old.device.books (D.state self.old.device.disk) (D.clock self.old.device.disk) (D.since self.old.device.disk)
             → HasCore t0 adopted self.new.space.view self.new.device.books (D.state self.new.device.disk) (D.clock self.new.device.disk) (D.since self.new.device.disk) }
     {
@@ -261,6 +264,7 @@ impl<D: Disk, C: Clock> Volume<D, C> {
         ensures failed { IfErr result (HasFailedSync self.old.space.view.history self.new.space.view.history session tag) }
         ensures cause { IfErr result (HasSyncCause self.old.device.books.stop (D.faults self.old.device.disk) (D.faults self.new.device.disk)) }
         ensures later { D.faults self.old.device.disk ≤ D.faults self.new.device.disk }
+        ensures disk_clock { D.clock self.old.device.disk ≤ D.clock self.new.device.disk }
         // Of a device that had stopped nothing is made durable any more, and the sync is answered so, also where the disk tells nothing.
         ensures stopped { (s : stops.Stop) → self.old.device.books.stop ≡ Some s → IsStoppedSync self.old.space.view.history self.new.space.view.history session tag s result }
         // And it stays stopped, whatever is answered.
@@ -302,6 +306,7 @@ impl<D: Disk, C: Clock> Volume<D, C> {
         ensures entries { OnOk result (HasPiece self.old.space.view.history self.new.space.view.history session tag (Hold id at (length bytes.now) true) id (λ given. given ≡ bytes.now)) }
         ensures no_memory { OnErr result (self.new.space.view.history ≡ self.old.space.view.history) }
         ensures later { D.faults self.old.device.disk ≤ D.faults self.new.device.disk }
+        ensures disk_clock { D.clock self.old.device.disk ≤ D.clock self.new.device.disk }
         ensures noted { OnOk result (HasHoldIn self.old.space (D.faults self.old.device.disk) (D.faults self.new.device.disk) session tag (Hold id at (length bytes.now) true) self.old.device.books.stop) }
         ensures answered { (t0 : Mounted) (adopted : Adoption) → HasCore t0 adopted self.old.space.view self.old.device.books (D.state self.old.device.disk) (D.clock self.old.device.disk) (D.since self.old.device.disk)
             → OnOk result (IsHoldIn t0 self.old.space (D.faults self.old.device.disk) (D.faults self.new.device.disk) session tag (Hold id at (length bytes.now) true) self.old.device.books.stop) }
@@ -355,6 +360,7 @@ impl<D: Disk, C: Clock> Volume<D, C> {
         ensures entries { OnOk result (HasPiece self.old.space.view.history self.new.space.view.history session tag (Hold id at (length into.old) false) id (λ given. given ≡ into.new)) }
         ensures no_memory { OnErr result (self.new.space.view.history ≡ self.old.space.view.history) }
         ensures later { D.faults self.old.device.disk ≤ D.faults self.new.device.disk }
+        ensures disk_clock { D.clock self.old.device.disk ≤ D.clock self.new.device.disk }
         ensures noted { OnOk result (HasHoldIn self.old.space (D.faults self.old.device.disk) (D.faults self.new.device.disk) session tag (Hold id at (length into.old) false) self.old.device.books.stop) }
         ensures answered { (t0 : Mounted) (adopted : Adoption) → HasCore t0 adopted self.old.space.view self.old.device.books (D.state self.old.device.disk) (D.clock self.old.device.disk) (D.since self.old.device.disk)
             → OnOk result (IsHoldIn t0 self.old.space (D.faults self.old.device.disk) (D.faults self.new.device.disk) session tag (Hold id at (length into.old) false) self.old.device.books.stop) }
@@ -446,6 +452,7 @@ impl<D: Disk, C: Clock> Volume<D, C> {
         ensures cause { IfErr result.3 (HasStopCause self.device.books.stop (D.faults self.device.disk) (D.faults result.0)) }
         ensures counts { (stop : Option stops.Stop) × KeepsCounts self.device.books.stop stop (D.faults self.device.disk) (D.faults result.0) (D.stops self.device.disk) (D.stops result.0) }
         ensures later { D.faults self.device.disk ≤ D.faults result.0 }
+        ensures disk_clock { D.clock self.device.disk ≤ D.clock result.0 }
     {
         let Volume {
             alloc: _,

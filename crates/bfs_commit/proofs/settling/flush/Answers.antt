@@ -14,6 +14,7 @@ loop-fault-preserved g c =
       promised = e.promised ∙ i.promised;
       stop = went.1 ∙ sym went.0 ∙ i.stop;
       faults = let first = i.faults in let then_on = e.faults in omega (arith, first, then_on);
+      disk_clock = let first = i.disk_clock in let then_on = e.disk_clock in omega (arith, first, then_on);
       spare = e.spare ∙ i.spare;
       sealed = e.sealed ∙ i.sealed;
       durable = let first = i.durable in let then_on = e.durable in omega (arith, first, then_on);

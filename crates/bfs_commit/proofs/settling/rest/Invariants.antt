@@ -16,6 +16,7 @@ invariant-loop-fault g l = record {
   promised : l.space.promised ≡ l.fn.space.promised;
   stop : l.device.books.stop ≡ l.fn.device.books.stop;
   faults : g.D.Disk.faults l.fn.device.disk ≤ g.D.Disk.faults l.device.disk;
+  disk_clock : g.D.Disk.clock l.fn.device.disk ≤ g.D.Disk.clock l.device.disk;
   spare : l.device.books.spare ≡ l.fn.device.books.spare;
   sealed : sealed_of l.device.books ≡ sealed_of l.fn.device.books;
   durable : durable_of l.fn.device.books ≤ durable_of l.device.books;

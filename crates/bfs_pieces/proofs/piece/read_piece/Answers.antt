@@ -46,5 +46,6 @@ loop-done-preserved g c =
       size = e.size ∙ v.size;
       core = λ t0 adopted sp core. e.core t0 adopted sp (v.core t0 adopted sp core);
       faults = omega (arith, v.faults, e.faults);
+      disk_clock = omega (arith, v.disk_clock, e.disk_clock);
       stops = e.stops ∙ v.stops;
     }

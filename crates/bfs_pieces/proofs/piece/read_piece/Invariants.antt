@@ -24,6 +24,7 @@ invariant-loop-done g l = record {
   core : (t0 : Mounted) (adopted : Adoption) (sp : SpaceView) → HasCore t0 adopted sp l.fn.device.books (g.D.Disk.state l.fn.device.disk) (g.D.Disk.clock l.fn.device.disk) (g.D.Disk.since l.fn.device.disk)
       → HasCore t0 adopted sp l.device.books (g.D.Disk.state l.device.disk) (g.D.Disk.clock l.device.disk) (g.D.Disk.since l.device.disk);
   faults : g.D.Disk.faults l.fn.device.disk ≤ g.D.Disk.faults l.device.disk;
+  disk_clock : g.D.Disk.clock l.fn.device.disk ≤ g.D.Disk.clock l.device.disk;
   stops : g.D.Disk.stops l.device.disk ≡ g.D.Disk.stops l.fn.device.disk;
 }
 

@@ -55,6 +55,7 @@ loop-done-preserved g c =
       rest = rest_on old.books l.device.books new.books v.rest e.rest e.stop;
       size = e.size ∙ v.size;
       faults = omega (arith, v.faults, e.faults);
+      disk_clock = omega (arith, v.disk_clock, e.disk_clock);
       stops = omega (arith, v.stops, e.stops);
     }
 
@@ -71,6 +72,7 @@ loop-done-init g c =
       rest = refl;
       size = refl;
       faults = omega arith;
+      disk_clock = omega arith;
       stops = omega arith;
     }
 

@@ -26,6 +26,7 @@ invariant-loop-done g l = record {
   rest : l.device.books ≡ record l.fn.device.books { moment = l.device.books.moment; stop = l.fn.device.books.stop };
   size : g.D.Disk.size l.device.disk ≡ g.D.Disk.size l.fn.device.disk;
   faults : g.D.Disk.faults l.fn.device.disk ≤ g.D.Disk.faults l.device.disk;
+  disk_clock : g.D.Disk.clock l.fn.device.disk ≤ g.D.Disk.clock l.device.disk;
   stops : g.D.Disk.stops l.fn.device.disk ≤ g.D.Disk.stops l.device.disk;
 }
 

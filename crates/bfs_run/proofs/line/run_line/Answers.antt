@@ -15,6 +15,7 @@ turns-init g c = record {
   clock = refl;
   stamps = λ s is. drawn_none c.args.volume.now.space.view.history c.args.volume.now.space.view.history s refl;
   later = omega arith;
+  disk_clock = omega arith;
   failures = unfailed c.args.volume.now.space.view.history c.args.volume.now.device.books.stop (g.D.Disk.faults c.args.volume.now.device.disk) (g.D.Disk.stops c.args.volume.now.device.disk);
 }
 
@@ -42,6 +43,7 @@ turns-preserved g c = record {
   stamps = λ s is. drawn_both c.args.volume.now.space.view.history c.turns.volume.space.view.history c.turn-ended.new.volume.space.view.history s (c.turns.invariant.stamps s is) (c.in-Ok-false.ensures.stamps s (c.turns.invariant.clock ∙ is));
   failures = failed_both c.args.volume.now.space.view.history c.turns.volume.space.view.history c.turn-ended.new.volume.space.view.history c.args.volume.now.device.books.stop c.turns.volume.device.books.stop c.turn-ended.new.volume.device.books.stop (g.D.Disk.faults c.args.volume.now.device.disk) (g.D.Disk.faults c.turns.volume.device.disk) (g.D.Disk.faults c.turn-ended.new.volume.device.disk) (g.D.Disk.stops c.args.volume.now.device.disk) (g.D.Disk.stops c.turns.volume.device.disk) (g.D.Disk.stops c.turn-ended.new.volume.device.disk) c.turns.invariant.failures c.in-Ok-false.ensures.failures;
   later = (let a = c.turns.invariant.later in let b = c.in-Ok-false.ensures.later in omega (arith, a, b));
+  disk_clock = (let a = c.turns.invariant.disk_clock in let b = c.in-Ok-false.ensures.disk_clock in omega (arith, a, b));
 }
 
 pub returns-in-Err-clause-begun : goal.returns-in-Err-clause-begun

@@ -18,6 +18,7 @@ invariant-turns g l = record {
   clock : g.C.Clock.stands l.volume.clock ≡ g.C.Clock.stands l.fn.volume.clock;
   stamps : (s : ℕ) → g.C.Clock.stands l.fn.volume.clock ≡ Some s → HasDrawn l.fn.volume.space.view.history l.volume.space.view.history s;
   later : g.D.Disk.faults l.fn.volume.device.disk ≤ g.D.Disk.faults l.volume.device.disk;
+  disk_clock : g.D.Disk.clock l.fn.volume.device.disk ≤ g.D.Disk.clock l.volume.device.disk;
   failures : HasFailures l.fn.volume.space.view.history l.volume.space.view.history l.fn.volume.device.books.stop l.volume.device.books.stop (g.D.Disk.faults l.fn.volume.device.disk) (g.D.Disk.faults l.volume.device.disk) (g.D.Disk.stops l.fn.volume.device.disk) (g.D.Disk.stops l.volume.device.disk);
 }
 

@@ -11,6 +11,7 @@ lines-preserved g c = record {
   stamps = λ s is. drawn_both c.args.volume.now.space.view.history c.lines.volume.space.view.history c.run_next.new.volume.space.view.history s (c.lines.invariant.stamps s is) (c.in-Ok.ensures.stamps s (c.lines.invariant.clock ∙ is));
   failures = failed_both c.args.volume.now.space.view.history c.lines.volume.space.view.history c.run_next.new.volume.space.view.history c.args.volume.now.device.books.stop c.lines.volume.device.books.stop c.run_next.new.volume.device.books.stop (g.D.Disk.faults c.args.volume.now.device.disk) (g.D.Disk.faults c.lines.volume.device.disk) (g.D.Disk.faults c.run_next.new.volume.device.disk) (g.D.Disk.stops c.args.volume.now.device.disk) (g.D.Disk.stops c.lines.volume.device.disk) (g.D.Disk.stops c.run_next.new.volume.device.disk) c.lines.invariant.failures c.in-Ok.ensures.failures;
   later = (let a = c.lines.invariant.later in let b = c.in-Ok.ensures.later in omega (arith, a, b));
+  disk_clock = (let a = c.lines.invariant.disk_clock in let b = c.in-Ok.ensures.disk_clock in omega (arith, a, b));
 }
 
 pub returns-in-Err-clause-stamps : goal.returns-in-Err-clause-stamps

@@ -48,7 +48,7 @@ returns g c =
       script_failed = λ five. absurd (n.script_whole five);
       output_failed = n.output_failed;
       disk_later = n.disk_later;
-      clock_later = λ other. n.clock_later;
+      clock_later = n.clock_later;
       output_later = n.output_later;
       complete = λ image told can disk script output.
           let reads : Tells (g.D.Disk.state c.args.disk) (λ s. ReadsAs s image) = (told.0, told.1, told.2.reads) in
@@ -107,7 +107,7 @@ returns-in-Some g c =
       script_failed = λ five. absurd (e.others (inr (inl five)));
       output_failed = e.output_failed;
       disk_later = e.disk_later;
-      clock_later = λ other. absurd (other (inr (w.seed, w.count, asks)));
+      clock_later = e.disk_clock;
       output_later = e.output_later;
       complete = λ image told can disk script output.
           can_elim words _ image _ can
@@ -153,7 +153,7 @@ returns-in-Ok-Shell g c =
       script_failed = e.script_failed;
       output_failed = e.output_failed;
       disk_later = e.disk_later;
-      clock_later = λ other. absurd (other (inl asks));
+      clock_later = e.disk_clock;
       output_later = e.output_later;
       complete = λ image told can disk script output.
           can_elim words _ image _ can

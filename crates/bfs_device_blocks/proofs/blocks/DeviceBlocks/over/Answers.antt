@@ -12,6 +12,7 @@ invariant_of-result g c =
     record {
       rests = subst (λ (x : View g.row.D.Denot). IsRested x.books d.books) (sym c.of-start.ensures) refl;
       risen = subst (λ (x : View g.row.D.Denot). g.D.Disk.faults x.disk ≤ g.D.Disk.faults d.disk) (sym c.of-start.ensures) (omega arith);
+      waited = subst (λ (x : View g.row.D.Denot). g.D.Disk.clock x.disk ≤ g.D.Disk.clock d.disk) (sym c.of-start.ensures) (omega arith);
       unstopped = subst (λ (x : View g.row.D.Denot). g.D.Disk.stops d.disk ≡ g.D.Disk.stops x.disk) (sym c.of-start.ensures) refl;
       same = subst (λ (x : View g.row.D.Denot). g.D.Disk.state d.disk ≡ g.D.Disk.state x.disk) (sym c.of-start.ensures) refl;
       fits = (sizes d.books.sup c.steady.ensures.steady.valid).2;

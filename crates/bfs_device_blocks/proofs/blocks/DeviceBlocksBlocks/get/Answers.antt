@@ -16,6 +16,7 @@ invariant_of-self-2 g c =
       same = e.state ∙ u.same;
       unstopped = e.stops ∙ u.unstopped;
       risen = omega (arith, u.risen, e.faults);
+      waited = omega (arith, u.waited, e.disk_clock);
       fits = subst (λ (s : Super). s.block_size ≤ 8192) (sym e.sup) u.fits;
       sized = ∥∥₁_map u.sized (λ sized. sized_rested mid.books new.books (g.D.Disk.state mid.disk) (g.D.Disk.state new.disk) e.rests e.state sized);
       reads = ∥∥₁_map u.reads (λ reads. read_more start.books mid.books new.books (g.D.Disk.state start.disk) (g.D.Disk.state mid.disk) (g.D.Disk.state new.disk) (g.D.Disk.clock start.disk) (g.D.Disk.clock mid.disk) (g.D.Disk.clock new.disk)

@@ -1,7 +1,7 @@
 #!/bin/sh
-# Calls a second of processor time by their kind, on a volume in a memory file system that has so many files already, in ten folders: a script of so many calls of one kind is run by
-# `sh`, and the processor time of a run without them is taken off. Each file has a size of its own: the numbers of one key stand in a chain of pages, which
-# grows with the files that are as long (all new ones are, with no bytes). Beside it SQLite in memory of the same kind: one table of names and one of attributes, a
+# Calls a second of processor time by their kind, on a volume in a memory file system with so many files in ten folders: one script of `sh` makes the files and then makes up to 20,000 calls
+# of one kind, and the processor time of the script without them is taken off. Each file has a size of its own, since the numbers of one key stand in a chain of pages that
+# grows with the files that are as long; so a `make` is told with the `size` that follows it. Beside it SQLite in memory of the same kind: one table of names and one of attributes, a
 # statement a line and one transaction.
 # usage: bench/calls.sh [FILES..]
 set -eu
@@ -26,49 +26,48 @@ import sys
 import time
 
 program, work, files = sys.argv[1], sys.argv[2], int(sys.argv[3])
-calls = 2000
+calls = min(files, 20000)
 
 
-def run(image, lines):
-    """The processor time of a script."""
-    before = resource.getrusage(resource.RUSAGE_CHILDREN)
-    done = subprocess.run([program, image, "sh"], input="".join(f"1 {line}\n" for line in lines).encode(), capture_output=True)
-    assert done.returncode == 0, done.stdout[-200:]
-    after = resource.getrusage(resource.RUSAGE_CHILDREN)
-    return after.ru_utime + after.ru_stime - before.ru_utime - before.ru_stime
+def run(lines, times):
+    """The least processor time of a script on the empty volume."""
+    script = "".join(f"1 {line}\n" for line in lines).encode()
+    took = []
+    for _ in range(times):
+        shutil.copy(f"{work}/volume.img", f"{work}/copy.img")
+        before = resource.getrusage(resource.RUSAGE_CHILDREN)
+        done = subprocess.run([program, f"{work}/copy.img", "sh"], input=script, capture_output=True)
+        assert done.returncode == 0, done.stdout[-200:]
+        after = resource.getrusage(resource.RUSAGE_CHILDREN)
+        took.append(after.ru_utime + after.ru_stime - before.ru_utime - before.ru_stime)
+    return min(took)
 
 
-image = f"{work}/volume.img"
-filled = run(image, ["mkindex weight LONG"] + [f"mkdir /d{i}" for i in range(10)] + [line for i in range(files) for line in (f"make /d{i % 10}/file{i}", f"size /d{i % 10}/file{i} {i * 977 % 65536 + 1}")])
-step = max(1, files // calls)
-there = [f"/d{i % 10}/file{i}" for i in range(0, files, step)][:calls]
+fill = ["mkindex weight LONG"] + [f"mkdir /d{i}" for i in range(10)] + [line for i in range(files) for line in (f"make /d{i % 10}/file{i}", f"size /d{i % 10}/file{i} {i * 977 % 65536 + 1}")]
+there = [f"/d{i % 10}/file{i}" for i in range(0, files, files // calls)][:calls]
+attributes = [f"attr {path} weight LONG:{i}" for i, path in enumerate(there)]
 kinds = {
-    "make": [f"make /d{i % 10}/new{i}" for i in range(len(there))],
-    "stat": [f"stat {path}" for path in there],
-    "attr": [f"attr {path} weight LONG:{i}" for i, path in enumerate(there)],
-    "getattr": None,
-    "mv": [f"mv {path} {path}x" for path in there],
-    "size": [f"size {path} 1000" for path in there],
-    "rm": [f"rm {path}" for path in there],
+    "stat": ([], [f"stat {path}" for path in there]),
+    "attr": ([], attributes),
+    "getattr": (attributes, [f"getattr {path} weight" for path in there]),
+    "mv": ([], [f"mv {path} {path}x" for path in there]),
+    "size": ([], [f"size {path} {i * 31 % 60000 + 1}" for i, path in enumerate(there)]),
+    "rm": ([], [f"rm {path}" for path in there]),
 }
-told = []
-for kind, lines in kinds.items():
-    copy = f"{work}/copy.img"
-    shutil.copy(image, copy)
-    if kind == "getattr":
-        run(copy, kinds["attr"])
-        lines = [f"getattr {path} weight" for path in there]
-    base = min(run(copy, ["ls /"]) for _ in range(3))
-    seconds = run(copy, lines) - base
+filled = run(fill, 3)
+told = [f"make and size {2 * files / filled:.0f}"]
+for kind, (before, lines) in kinds.items():
+    base = run(fill + before, 3) if before else filled
+    seconds = run(fill + before + lines, 3) - base
     told.append(f"{kind} {len(lines) / seconds:.0f}" if seconds > base / 20 else f"{kind} (below the noise)")
-print(f"bfs sh, {files} files, calls a second: {', '.join(told)}; filled in {filled:.1f} s")
+print(f"bfs sh, {files} files, calls a second: {', '.join(told)}", flush=True)
 
 base = sqlite3.connect(f"{work}/names.db", isolation_level=None)
 base.executescript("pragma journal_mode=wal; create table nodes (id integer primary key, dir int, name text, size int, unique (dir, name)); create table attrs (id int, name text, value int, primary key (id, name)); create index weight on attrs (name, value);")
 base.execute("begin")
 base.executemany("insert into nodes (dir, name, size) values (?, ?, 0)", ((i % 10, f"file{i}") for i in range(files)))
 base.execute("commit")
-pairs = [(i % 10, f"file{i}") for i in range(0, files, step)][:calls]
+pairs = [(i % 10, f"file{i}") for i in range(0, files, files // calls)][:calls]
 work_of = {
     "make": lambda i, d, n: base.execute("insert into nodes (dir, name, size) values (?, ?, 0)", (d, f"new{i}")),
     "stat": lambda i, d, n: base.execute("select * from nodes where dir = ? and name = ?", (d, n)).fetchone(),

@@ -20,7 +20,7 @@ fn a_disk_fails_exactly_its_planned_calls(rt: HostRuntime) -> Result<(), Fail> {
     ];
     let faults = disk.faults();
     assert_eq!(rt; made, [true, false, false, true, true, false, true]);
-    assert_eq!(rt; (into[511], faults), (2, 3));
+    assert_eq!(rt; (into[511], faults, disk.wants()), (2, 3, 0));
     Ok(())
 }
 

@@ -81,6 +81,7 @@ fn a_sink_fails_exactly_its_planned_calls(rt: HostRuntime) -> Result<(), Fail> {
         assert_eq!(rt; sink.put(b"ab").is_ok(), call != 2 && call != 4);
     }
     assert!(rt; sink.bytes() == b"ababab".as_slice());
+    assert_eq!(rt; sink.wants(), 0);
     Ok(())
 }
 

@@ -28,6 +28,7 @@ pub struct MemSink {
     plan: Vec<u64>,
     made: u64,
     faults: u64,
+    wants: u64,
 }
 
 impl Mem {
@@ -63,6 +64,7 @@ impl Mem {
         ensures room { result.room ≡ 2 ^ 64 - 1 }
         ensures plan { result.plan.items ≡ [] }
         ensures made { result.made ≡ 0 }
+        ensures wants { result.wants ≡ 0 }
     {
         Mem::full_sink(alloc, u64::MAX)
     }
@@ -74,6 +76,7 @@ impl Mem {
         ensures room { result.room ≡ room }
         ensures plan { result.plan.items ≡ [] }
         ensures made { result.made ≡ 0 }
+        ensures wants { result.wants ≡ 0 }
     {
         MemSink {
             bytes: Vec::new(alloc),
@@ -81,6 +84,7 @@ impl Mem {
             plan: Vec::new(alloc),
             made: 0,
             faults: 0,
+            wants: 0,
         }
     }
 
@@ -91,6 +95,7 @@ impl Mem {
         ensures room { result.room ≡ 2 ^ 64 - 1 }
         ensures plan { result.plan.items ≡ plan.items }
         ensures made { result.made ≡ 0 }
+        ensures wants { result.wants ≡ 0 }
     {
         MemSink {
             bytes: Vec::new(alloc),
@@ -98,6 +103,7 @@ impl Mem {
             plan,
             made: 0,
             faults: 0,
+            wants: 0,
         }
     }
 }
@@ -142,6 +148,13 @@ impl MemSink {
         &self.bytes
     }
 
+    /// How many calls found no memory for the bytes.
+    pub fn wants(&self) -> u64
+        ensures { result ≡ self.now.wants }
+    {
+        self.wants
+    }
+
     // Counts a call. It is told how many of so many bytes have room, or nothing where it is to fail.
     fn granted(&mut self, wanted: usize) -> Option<usize>
         ensures made { self.new.made ≡ min (self.old.made + 1) (2 ^ 64 - 1) }
@@ -151,6 +164,7 @@ impl MemSink {
         ensures bytes { self.new.bytes ≡ self.old.bytes }
         ensures same_room { self.new.room ≡ self.old.room }
         ensures faults { self.new.faults ≡ self.old.faults }
+        ensures wants { self.new.wants ≡ self.old.wants }
     {
         self.made = self.made.saturating_add(1);
         if self.plan.contains(&self.made) {
@@ -173,9 +187,11 @@ impl Sink for MemSink {
         ensures cause { HasCause (⟦<MemSink as Sink>⟧.faults self.old) (⟦<MemSink as Sink>⟧.faults self.new) result }
         ensures made { self.new.made ≡ min (self.old.made + 1) (2 ^ 64 - 1) }
         ensures plan { self.new.plan ≡ self.old.plan }
-        // The calls of the plan fail. Where nothing is to be taken, no other does.
+        // The calls of the plan fail. Each other that fails had bytes to take and wanted memory, and is counted; no other call is.
         ensures planned { OnOk result (Contains self.old.plan.items self.new.made → ⊥) }
-        ensures others { OnErr result (Contains self.old.plan.items self.new.made ⊎ (0 < min (length from.now) self.old.room)) }
+        ensures others { OnErr result (Contains self.old.plan.items self.new.made ⊎ ((0 < min (length from.now) self.old.room) × Rose self.old.wants self.new.wants)) }
+        ensures wants { Contains self.old.plan.items self.new.made → self.new.wants ≡ self.old.wants }
+        ensures served { OnOk result (self.new.wants ≡ self.old.wants) }
         // Each other call takes as much as has room.
         ensures room { IfOk result (λ n. (n ≡ min (length from.now) self.old.room) × (self.new.room ≡ self.old.room - n)) }
         ensures unused { OnErr result (self.new.room ≡ self.old.room) }
@@ -189,6 +205,7 @@ impl Sink for MemSink {
             return Ok(0);
         }
         if self.bytes.extend_from_slice(&from[..n]).is_err() {
+            self.wants = self.wants.saturating_add(1);
             self.faults = self.faults.saturating_add(1);
             return Err(Failed);
         }

@@ -1,7 +1,7 @@
 // The disk in memory.
 ghost use Rattle.std.specs.Prelude.{◌≡◌, ◌≤◌, ◌<◌, ◌*◌, ◌/◌, ◌+◌, ◌^◌, ◌-◌, ◌==◌, ◌⊎◌, min, [], ℕ, List, Some, length, true, Contains, IfOk, OnOk, OnErr, IsSome};
 ghost use Rattle.std.specs.Option.{option_map};
-ghost use Rattle.bfs_base.specs.Counts.{HasCause};
+ghost use Rattle.bfs_base.specs.Counts.{HasCause, Rose};
 ghost use Rattle.bfs_base.specs.Moments.{Elapses};
 ghost use Rattle.bfs_disk.specs.Disk.{MayLeave, HalfWritten, told_written, ReadsSectors, InRange, StaysKnown};
 ghost use Rattle.bfs_disk.specs.Memory.{state_after, moments, LeftSince, is_record, IsPicked};
@@ -26,6 +26,7 @@ pub struct MemDisk {
     made: u64,
     faults: u64,
     stops: u64,
+    wants: u64,
     ghost recorded: { is_record calls.items bytes.items ≡ true },
 }
 
@@ -53,6 +54,7 @@ impl MemDisk {
         ensures stops { ⟦<MemDisk as Disk>⟧.stops result ≡ 0 }
         ensures plan { result.plan.items ≡ calls.items }
         ensures made { result.made ≡ 0 }
+        ensures wants { result.wants ≡ 0 }
     {
         see(&bytes);
         MemDisk {
@@ -64,7 +66,15 @@ impl MemDisk {
             made: 0,
             faults: 0,
             stops: 0,
+            wants: 0,
         }
+    }
+
+    /// How many calls found no memory for their record.
+    pub fn wants(&self) -> u64
+        ensures { result ≡ self.now.wants }
+    {
+        self.wants
     }
 
     /// One crash image: sector k has its newest content where bit `k mod 64` of the pick is 1, else its oldest.
@@ -90,6 +100,7 @@ impl MemDisk {
             made: _,
             faults: _,
             stops: _,
+            wants: _,
         } = self;
         bytes
     }
@@ -134,6 +145,7 @@ impl Disk for MemDisk {
         // A call of the plan fails, and no other does before the last value of the counter.
         ensures planned { OnOk result (Contains self.old.plan.items self.new.made → ⊥) }
         ensures others { OnErr result (Contains self.old.plan.items self.new.made ⊎ (self.old.idle ≡ 2 ^ 64 - 1)) }
+        ensures wants { self.new.wants ≡ self.old.wants }
     {
         let planned = is_planned(&self.plan, &mut self.made);
         match count(&mut self.idle, planned, &mut self.faults) {
@@ -156,6 +168,7 @@ impl Disk for MemDisk {
         // A call of the plan fails, and no other does before the last value of the counter.
         ensures planned { OnOk result (Contains self.old.plan.items self.new.made → ⊥) }
         ensures others { OnErr result (Contains self.old.plan.items self.new.made ⊎ (self.old.idle ≡ 2 ^ 64 - 1)) }
+        ensures wants { self.new.wants ≡ self.old.wants }
     {
         let planned = is_planned(&self.plan, &mut self.made);
         match count(&mut self.idle, planned, &mut self.faults) {
@@ -179,8 +192,11 @@ impl Disk for MemDisk {
         ensures stops { HasCause (⟦<MemDisk as Disk>⟧.stops self.old) (⟦<MemDisk as Disk>⟧.stops self.new) result }
         ensures made { self.new.made ≡ min (self.old.made + 1) (2 ^ 64 - 1) }
         ensures plan { self.new.plan ≡ self.old.plan }
-        // A call of the plan fails.
+        // A call of the plan fails. Each other that fails wanted memory, and is counted; no other call is.
         ensures planned { OnOk result (Contains self.old.plan.items self.new.made → ⊥) }
+        ensures others { OnErr result (Contains self.old.plan.items self.new.made ⊎ Rose self.old.wants self.new.wants) }
+        ensures wants { Contains self.old.plan.items self.new.made → self.new.wants ≡ self.old.wants }
+        ensures served { OnOk result (self.new.wants ≡ self.old.wants) }
         // Else it changes nothing.
         ensures untouched { OnErr result (⟦<MemDisk as Disk>⟧.state self.new ≡ ⟦<MemDisk as Disk>⟧.state self.old) }
     {
@@ -199,6 +215,7 @@ impl Disk for MemDisk {
         ) {
             Ok(()) => Ok(()),
             Err(_) => {
+                self.wants = self.wants.saturating_add(1);
                 self.stops = self.stops.saturating_add(1);
                 Err(refuse(&mut self.idle, &mut self.faults))
             }
@@ -215,8 +232,11 @@ impl Disk for MemDisk {
         ensures stops { HasCause (⟦<MemDisk as Disk>⟧.stops self.old) (⟦<MemDisk as Disk>⟧.stops self.new) result }
         ensures made { self.new.made ≡ min (self.old.made + 1) (2 ^ 64 - 1) }
         ensures plan { self.new.plan ≡ self.old.plan }
-        // A call of the plan fails.
+        // A call of the plan fails. Each other that fails wanted memory, and is counted; no other call is.
         ensures planned { OnOk result (Contains self.old.plan.items self.new.made → ⊥) }
+        ensures others { OnErr result (Contains self.old.plan.items self.new.made ⊎ Rose self.old.wants self.new.wants) }
+        ensures wants { Contains self.old.plan.items self.new.made → self.new.wants ≡ self.old.wants }
+        ensures served { OnOk result (self.new.wants ≡ self.old.wants) }
     {
         if is_planned(&self.plan, &mut self.made) {
             self.stops = self.stops.saturating_add(1);
@@ -225,6 +245,7 @@ impl Disk for MemDisk {
         match settle(&mut self.calls, &mut self.idle) {
             Ok(()) => Ok(()),
             Err(_) => {
+                self.wants = self.wants.saturating_add(1);
                 self.stops = self.stops.saturating_add(1);
                 Err(refuse(&mut self.idle, &mut self.faults))
             }

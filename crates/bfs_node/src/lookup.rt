@@ -1,8 +1,8 @@
 // Looks a key up among the rows of a page.
-ghost use Rattle.std.specs.Prelude.{◌≡◌, length};
+ghost use Rattle.std.specs.Prelude.{◌≡◌, length, IfOk};
 ghost use Rattle.bfs_base.specs.Keys.{key_cmp};
 ghost use Rattle.bfs_node.specs.Page.{IsPage, IsKeyLength, rows_of};
-ghost use Rattle.bfs_node.specs.Search.{IsSought, Ascends, IsPlace, IsInRows};
+ghost use Rattle.bfs_node.specs.Search.{IsSought, Ascends, IsPlace, IsInRows, key_at};
 
 use crate::KeyKind;
 use crate::read::{row_count, row_key};
@@ -32,6 +32,7 @@ pub fn search(page: &[u8], kind: KeyKind, sought: &[u8]) -> Result<usize, usize>
     requires page { IsPage kind page.now }
     requires sought { IsSought kind sought.now }
     ensures inside { IsInRows (rows_of page.now) result }
+    ensures key { IfOk result (λ i. key_at (rows_of page.now) i ≡ sought.now) }
     ensures place { Ascends kind (rows_of page.now) → IsPlace kind (rows_of page.now) sought.now result }
 {
     let mut low = 0;

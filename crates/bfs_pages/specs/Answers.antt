@@ -1,6 +1,7 @@
 -- Which page is of which kind, and why a call on a tree is refused.
 use Rattle.std.specs.Prelude.{◌≡◌, ◌≤◌, ◌<◌, ◌⊎◌, ℕ, negsuc, List, length, Option, Some, None, IfSome, true}
 use Rattle.bfs_node.specs.BaseKeyKind.{KeyKind}
+use Rattle.bfs_node.specs.Header.{header_at}
 use Rattle.bfs_node.specs.Page.{rows_of, row_in, value_of, links_of}
 use Rattle.bfs_node.specs.declared.header.Header.{Header}
 use Rattle.bfs_node.specs.declared.fault.PageKind.{PageKind}
@@ -89,6 +90,23 @@ IsBlamed told size last Absent = Unit {0}
 IsBlamed told size last (Damaged page sort) = ((page ≡ last) ⊎ ((size ≡ 0) × (page ≡ 0))) ⊎ ((page ≡ 0) × (sort ≡ HeaderKind) × IfSome told (λ bytes. last ≡ place_of (header_in bytes).free_pointer))
 IsBlamed told size last (Pages fault) = Unit {0}
 IsBlamed told size last NoMemory = Unit {0}
+
+-- these bytes are no page of this kind in a stream of so many bytes, whatever else is in the stream
+abbrev pub IsUnlike : KeyKind → ℕ → List ℕ → PageKind → Type 0
+IsUnlike kind size page HeaderKind = ¬ IsHeaderFor kind size (header_at page)
+IsUnlike kind size page Interior = ¬ IsInteriorPage kind size page
+IsUnlike kind size page Leaf = ¬ IsLeafPage kind size page
+IsUnlike kind size page Fragment = ⊥
+IsUnlike kind size page Duplicates = ⊥
+
+-- the page that is blamed is the one that was read last, and the bytes that were read are no page of its kind; or the stream has
+-- no pages, and it is the header
+abbrev pub IsBroken : {F : Type 0} → KeyKind → ℕ → ℕ → List ℕ → TreeFault F → Type 0
+IsBroken kind size last seen Exists = Unit {0}
+IsBroken kind size last seen Absent = Unit {0}
+IsBroken kind size last seen (Damaged page sort) = ((page ≡ last) × IsUnlike kind size seen sort) ⊎ ((size ≡ 0) × (page ≡ 0) × (sort ≡ HeaderKind))
+IsBroken kind size last seen (Pages fault) = Unit {0}
+IsBroken kind size last seen NoMemory = Unit {0}
 
 -- the call failed by the pages alone: over a tree's pages none is damaged
 abbrev pub IsOfPages : {F : Type 0} → TreeFault F → Type 0

@@ -4,7 +4,7 @@ ghost use Rattle.bfs_node.specs.Keys.{IsTreeKind};
 ghost use Rattle.bfs_node.specs.Page.{IsPage};
 ghost use Rattle.bfs_node.specs.Search.{IsSought};
 ghost use Rattle.bfs_txn.specs.Faults.{AreLater};
-ghost use Rattle.bfs_pages.specs.Answers.{IsChild, IsUnread, IsJustRead, IsOfPages, IsLeafPage, IsLeafFor, IsFound};
+ghost use Rattle.bfs_pages.specs.Answers.{IsChild, IsUnread, IsJustRead, IsBroken, IsOfPages, IsLeafPage, IsLeafFor, IsFound};
 ghost use Rattle.bfs_pages.specs.Shapes.{Shape};
 ghost use Rattle.bfs_pages.specs.Trees.{header_in, IsTree, page_in};
 
@@ -39,9 +39,11 @@ pub fn leaf_for<P: Pages, L: Ledger>(
     ensures fields { OnOk result (IsLeafPage kind (P.size pages.old) page.new) }
     ensures read { IfOk result (λ at. IfSome (P.told pages.old) (λ b. page.new ≡ page_in b at)) }
     ensures last { IfOk result (λ at. P.last pages.new ≡ at) }
+    ensures bytes { OnOk result (P.page pages.new ≡ page.new) }
     ensures leaf { (b reached : List ℕ) (t : Shape) (fs : List ℕ) → P.told pages.old ≡ Some b → IsTree kind b reached t fs → MatchResult result (λ at. IsLeafFor kind b t key.now at page.new) IsOfPages }
     ensures refused { IfErr result (IsUnread kind (P.told pages.new) (P.is_cause pages.old pages.new)) }
     ensures just_read { IfErr result (IsJustRead (P.size pages.new) (P.last pages.new)) }
+    ensures broken { IfErr result (IsBroken kind (P.size pages.new) (P.last pages.new) (P.page pages.new)) }
     ensures steps { (b : List ℕ) → P.told pages.old ≡ Some b → steps.new ≤ steps.old + (header_in b).levels + 1 }
     ensures told { P.told pages.new ≡ P.told pages.old }
     ensures size { P.size pages.new ≡ P.size pages.old }
@@ -83,6 +85,7 @@ pub fn find<P: Pages, L: Ledger>(
     ensures last { IfOk result (λ o. IfSome o (λ f. P.last pages.new ≡ f.leaf)) }
     ensures refused { IfErr result (IsUnread kind (P.told pages.new) (P.is_cause pages.old pages.new)) }
     ensures just_read { IfErr result (IsJustRead (P.size pages.new) (P.last pages.new)) }
+    ensures broken { IfErr result (IsBroken kind (P.size pages.new) (P.last pages.new) (P.page pages.new)) }
     ensures steps { (b : List ℕ) → P.told pages.old ≡ Some b → steps.new ≤ steps.old + (header_in b).levels + 1 }
     ensures told { P.told pages.new ≡ P.told pages.old }
     ensures size { P.size pages.new ≡ P.size pages.old }

@@ -11,6 +11,8 @@ use std::sync::ledger::Ledger;
 pub struct MemPages {
     bytes: Vec<u8>,
     last: Snapshot<u64>,
+    /// The bytes of all pages as they were at the last read.
+    seen: Snapshot<Vec<u8>>,
     ghost pages: { length bytes.items % 1024 ≡ 0 },
 }
 
@@ -20,9 +22,11 @@ impl MemPages {
         requires { length bytes.items % 1024 ≡ 0 }
         ensures { result.bytes.items ≡ bytes.items }
     {
+        let seen = Snapshot::of(&bytes);
         MemPages {
             bytes,
             last: Snapshot::of(&0),
+            seen,
         }
     }
 
@@ -37,6 +41,7 @@ impl MemPages {
 impl Pages for MemPages {
     ghost use Rattle.std.specs.Prelude.{◌≡◌, Some, None, [], refl};
     ghost use Rattle.std.proofs.Common.{◌∙◌};
+    ghost use Rattle.bfs_txn.specs.Pages.{page_at};
 
     type Fault = AllocError;
 
@@ -49,6 +54,8 @@ impl Pages for MemPages {
     ghost frame = { λ p. [] };
 
     ghost last = { λ p. p.last.value };
+
+    ghost page = { λ p. page_at p.seen.value.items p.last.value };
 
     ghost goes_on = { λ p q. Unit {0} };
 
@@ -86,6 +93,7 @@ impl Pages for MemPages {
         let start = at as usize;
         into.copy_from_slice(&self.bytes[start..start + 1024]);
         self.last = Snapshot::of(&at);
+        self.seen = Snapshot::of(&self.bytes);
         Ok(())
     }
 

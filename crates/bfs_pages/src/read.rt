@@ -5,7 +5,7 @@ ghost use Rattle.bfs_node.specs.Header.{IsHeader};
 ghost use Rattle.bfs_node.specs.Page.{IsPage, rows_of, row_in, value_of, links_of};
 ghost use Rattle.bfs_txn.specs.Faults.{AreLater};
 ghost use Rattle.bfs_node.specs.declared.fault.PageKind.TheVariants.{Header as HeaderKind, Leaf, Interior};
-ghost use Rattle.bfs_pages.specs.Answers.{IsChild, IsLink, IsUnread, IsJustRead, IsHeaderFor, IsLeafPage, IsInteriorPage, IsAt};
+ghost use Rattle.bfs_pages.specs.Answers.{IsChild, IsLink, IsUnread, IsJustRead, IsBroken, IsHeaderFor, IsLeafPage, IsInteriorPage, IsAt};
 ghost use Rattle.bfs_pages.specs.Trees.{header_in, IsTreeHeader, page_in, place_of, is_page};
 
 use crate::places::{is_child, is_link, place};
@@ -56,6 +56,7 @@ pub fn read_header<P: Pages, L: Ledger>(
     ensures header { IfOk result (λ h. IfSome (P.told pages.old) (λ b. h ≡ header_in b)) }
     ensures refused { IfErr result (IsUnread kind (P.told pages.new) (P.is_cause pages.old pages.new)) }
     ensures just_read { IfErr result (IsJustRead (P.size pages.new) (P.last pages.new)) }
+    ensures broken { IfErr result (IsBroken kind (P.size pages.new) (P.last pages.new) (P.page pages.new)) }
     ensures at { IfErr result (IsAt 0 HeaderKind) }
     ensures steps { steps.new ≤ steps.old + 1 }
     ensures told { P.told pages.new ≡ P.told pages.old }
@@ -169,9 +170,11 @@ pub fn read_leaf<P: Pages, L: Ledger>(
     ensures leaf { OnOk result (IsLeafPage kind (P.size pages.old) page.new) }
     ensures read { OnOk result (IfSome (P.told pages.old) (λ b. page.new ≡ page_in b at)) }
     ensures last { OnOk result (P.last pages.new ≡ at) }
+    ensures bytes { OnOk result (P.page pages.new ≡ page.new) }
     ensures length { length page.new ≡ 1024 }
     ensures refused { IfErr result (IsUnread kind (P.told pages.new) (P.is_cause pages.old pages.new)) }
     ensures just_read { IfErr result (IsJustRead (P.size pages.new) (P.last pages.new)) }
+    ensures broken { IfErr result (IsBroken kind (P.size pages.new) (P.last pages.new) (P.page pages.new)) }
     ensures at { IfErr result (IsAt at Leaf) }
     ensures steps { steps.new ≤ steps.old + 1 }
     ensures told { P.told pages.new ≡ P.told pages.old }
@@ -213,6 +216,7 @@ pub fn read_interior<P: Pages, L: Ledger>(
     ensures length { length page.new ≡ 1024 }
     ensures refused { IfErr result (IsUnread kind (P.told pages.new) (P.is_cause pages.old pages.new)) }
     ensures just_read { IfErr result (IsJustRead (P.size pages.new) (P.last pages.new)) }
+    ensures broken { IfErr result (IsBroken kind (P.size pages.new) (P.last pages.new) (P.page pages.new)) }
     ensures at { IfErr result (IsAt at Interior) }
     ensures steps { steps.new ≤ steps.old + 1 }
     ensures told { P.told pages.new ≡ P.told pages.old }

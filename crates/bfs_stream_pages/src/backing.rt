@@ -7,7 +7,7 @@ ghost use Rattle.bfs_bitmap.specs.Runs.{Room};
 ghost use Rattle.bfs_bitmap.specs.Fills.{IsBitmapBlock};
 ghost use Rattle.bfs_inode.specs.Inode.{stream_at};
 ghost use Rattle.bfs_txn.specs.Faults.{AreLater};
-ghost use Rattle.bfs_txn.specs.Pages.{page_at, with_page};
+ghost use Rattle.bfs_txn.specs.Pages.{page_at, seen_page, with_page};
 ghost use Rattle.bfs_txn.specs.Told.{StaysChanged};
 ghost use Rattle.bfs_stream.specs.Sizes.{sizes_of, HasSizes};
 ghost use Rattle.bfs_stream.specs.Places.{places_at, whole_at};
@@ -141,6 +141,7 @@ impl Backing {
         ensures found { (m : ℕ → Option (List ℕ)) → B.told under.old ≡ Some m → Stands self.old m → AreTold m (places_at self.old.sizes (contents m) self.old.id) → IfOk result (λ n. (slice_get (places_at self.old.sizes (contents m) self.old.id) index ≡ Some n) × (block.new ≡ contents m n)) }
         ensures sound { (m : ℕ → Option (List ℕ)) → B.told under.old ≡ Some m → Stands self.old m → index < length (places_at self.old.sizes (contents m) self.old.id) → IfErr result IsUndamaged }
         ensures below { IfOk result (λ n. n < self.old.sizes.blocks) }
+        ensures last { IfOk result (λ n. B.last under.new ≡ Some (n, block.new)) }
         ensures length { length block.new ≡ self.old.sizes.block_size }
         ensures same { self.new ≡ self.old }
         ensures told { B.told under.new ≡ B.told under.old }
@@ -177,6 +178,7 @@ impl Backing {
         requires page { length into.old ≡ 1024 }
         requires inside { start + 1024 ≤ self.old.sizes.block_size }
         ensures page { (long : ℕ) (m : ℕ → Option (List ℕ)) → B.told under.old ≡ Some m → IsReadable self.old long m → self.old.sizes.block_size * index + start + 1024 ≤ long → OnOk result (into.new ≡ page_at (stream_of self.old m) (self.old.sizes.block_size * index + start)) }
+        ensures seen { OnOk result (seen_page start (B.last under.new) ≡ into.new) }
         ensures sound { (m : ℕ → Option (List ℕ)) → B.told under.old ≡ Some m → Stands self.old m → index < length (places_at self.old.sizes (contents m) self.old.id) → IfErr result IsUndamaged }
         ensures length { length into.new ≡ 1024 }
         ensures same { self.new ≡ self.old }
@@ -209,6 +211,7 @@ impl Backing {
         requires page { length into.old ≡ 1024 }
         requires inside { start + 1024 ≤ self.old.sizes.block_size }
         ensures page { (long : ℕ) (m : ℕ → Option (List ℕ)) → B.told under.old ≡ Some m → IsReadable self.old long m → self.old.sizes.block_size * index + start + 1024 ≤ long → OnOk result (into.new ≡ page_at (stream_of self.old m) (self.old.sizes.block_size * index + start)) }
+        ensures seen { OnOk result (seen_page start (B.last under.new) ≡ into.new) }
         ensures sound { (m : ℕ → Option (List ℕ)) → B.told under.old ≡ Some m → Stands self.old m → index < length (places_at self.old.sizes (contents m) self.old.id) → IfErr result IsUndamaged }
         ensures length { length into.new ≡ 1024 }
         ensures same { self.new ≡ self.old }

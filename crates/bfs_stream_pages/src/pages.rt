@@ -28,6 +28,9 @@ pub struct StreamPages<'a, 'b, E: Edits> {
     fixed: bool,
     start: Snapshot<E>,
     last: Snapshot<u64>,
+    /// The blocks as they were right behind the last read, and the byte of a block from which the page was taken.
+    seen: Snapshot<E>,
+    from: Snapshot<usize>,
     ghost size: { E.size edits.now ≡ backing.sizes.block_size },
     ghost volume: { IsOfVolume backing.sizes bitmap.now },
     ghost whole: { length % 1024 ≡ 0 },
@@ -65,6 +68,7 @@ impl<'a, 'b, E: Edits> StreamPages<'a, 'b, E> {
         ensures start { result.start.value ≡ edits.old }
     {
         let start = Snapshot::of(edits);
+        let seen = Snapshot::of(edits);
         StreamPages {
             edits,
             bitmap,
@@ -74,6 +78,8 @@ impl<'a, 'b, E: Edits> StreamPages<'a, 'b, E> {
             fixed,
             start,
             last: Snapshot::of(&0),
+            seen,
+            from: Snapshot::of(&0),
         }
     }
 }
@@ -106,6 +112,7 @@ fn go_on(failed: Option<GrowFault>) -> Result<(), GrowFault>
 impl<E: Edits> Pages for StreamPages<'_, '_, E> {
     ghost use Rattle.std.specs.Prelude.{◌≡◌, ◌∷◌, [], refl, List};
     ghost use Rattle.std.specs.Option.{option_map};
+    ghost use Rattle.bfs_txn.specs.Pages.{seen_page};
     ghost use Rattle.bfs_stream_pages.specs.Held.{known, stream_of};
     ghost use Rattle.bfs_stream_pages.specs.Goes.{GoesOn, IsRead};
     ghost use Rattle.bfs_stream_pages.specs.Causes.{IsPageCause, IsOfBlock};
@@ -124,6 +131,8 @@ impl<E: Edits> Pages for StreamPages<'_, '_, E> {
     ghost frame = { λ p. p.edits.ghost_name ∷ p.bitmap.ghost_name ∷ [] };
 
     ghost last = { λ p. p.last.value };
+
+    ghost page = { λ p. seen_page p.from.value (E.last p.seen.value) };
 
     ghost goes_on = { λ p q. (q.backing ≡ p.backing) × (E.frame q.edits.now ≡ E.frame p.edits.now) × GoesOn p.backing p.bitmap.now q.bitmap.now p.length q.length (known p.failed (E.told p.start.value) (E.told p.edits.now)) (known q.failed (E.told q.start.value) (E.told q.edits.now)) p.failed q.failed (E.changed p.edits.now) (E.changed q.edits.now) (E.counts p.edits.now) (E.counts q.edits.now) × (q.fixed ≡ p.fixed) };
 
@@ -168,6 +177,8 @@ impl<E: Edits> Pages for StreamPages<'_, '_, E> {
             Err(fault) => return Err(fault),
         }
         self.last = Snapshot::of(&at);
+        self.seen = Snapshot::of(self.edits);
+        self.from = Snapshot::of(&start);
         Ok(())
     }
 
@@ -233,6 +244,8 @@ impl<E: Edits> Drop for StreamPages<'_, '_, E> {
             fixed: _,
             start: _,
             last: _,
+            seen: _,
+            from: _,
         } = self;
     }
 }

@@ -19,6 +19,9 @@ pub struct StreamReader<'a, B: Blocks> {
     backing: Backing,
     length: u64,
     last: Snapshot<u64>,
+    /// The blocks as they were right behind the last read, and the byte of a block from which the page was taken.
+    seen: Snapshot<B>,
+    from: Snapshot<usize>,
     ghost size: { B.size under.now ≡ backing.sizes.block_size },
     ghost whole: { length % 1024 ≡ 0 },
     ghost held: { (m : ℕ → Option (List ℕ)) → B.told under.now ≡ Some m → ∥ IsReadable backing length m ∥₁ },
@@ -43,11 +46,14 @@ impl<'a, B: Blocks> StreamReader<'a, B> {
         ensures backing { result.backing ≡ record { id = inode; sizes = sizes_of sup.now } }
         ensures length { result.length ≡ length }
     {
+        let seen = Snapshot::of(under);
         StreamReader {
             under,
             backing: Backing::at(alloc, inode, sup),
             length,
             last: Snapshot::of(&0),
+            seen,
+            from: Snapshot::of(&0),
         }
     }
 }
@@ -56,6 +62,7 @@ impl<B: Blocks> Pages for StreamReader<'_, B> {
     ghost use Rattle.std.specs.Prelude.{◌≡◌, ◌∷◌, [], refl, List};
     ghost use Rattle.std.specs.Option.{option_map};
     ghost use Rattle.std.proofs.Common.{◌∙◌};
+    ghost use Rattle.bfs_txn.specs.Pages.{seen_page};
     ghost use Rattle.bfs_stream_pages.specs.Held.{stream_of};
     ghost use Rattle.bfs_stream_pages.specs.Goes.{OnlyReads};
     ghost use Rattle.bfs_stream_pages.specs.Causes.{IsReadCause};
@@ -72,6 +79,8 @@ impl<B: Blocks> Pages for StreamReader<'_, B> {
     ghost frame = { λ p. p.under.ghost_name ∷ [] };
 
     ghost last = { λ p. p.last.value };
+
+    ghost page = { λ p. seen_page p.from.value (B.last p.seen.value) };
 
     ghost goes_on = { λ p q. (q.backing ≡ p.backing) × (B.frame q.under.now ≡ B.frame p.under.now) × (q.under.ghost_name ≡ p.under.ghost_name) × OnlyReads p.length q.length (B.told p.under.now) (B.told q.under.now) (B.changed p.under.now) (B.changed q.under.now) (B.pairs p.under.now) (B.pairs q.under.now) (B.counts p.under.now) (B.counts q.under.now) };
 
@@ -112,6 +121,8 @@ impl<B: Blocks> Pages for StreamReader<'_, B> {
             Err(fault) => return Err(fault),
         }
         self.last = Snapshot::of(&at);
+        self.seen = Snapshot::of(self.under);
+        self.from = Snapshot::of(&start);
         Ok(())
     }
 
@@ -136,6 +147,8 @@ impl<B: Blocks> Drop for StreamReader<'_, B> {
             backing: _,
             length: _,
             last: _,
+            seen: _,
+            from: _,
         } = self;
     }
 }

@@ -1,5 +1,5 @@
 -- What is told of a stream of pages of 1,024 bytes.
-use Rattle.std.specs.Prelude.{◌≡◌, ℕ, ◌+◌, List, take, drop, ◌++◌, length, Option, IfSome}
+use Rattle.std.specs.Prelude.{◌≡◌, ℕ, ◌+◌, List, [], take, drop, ◌++◌, length, Option, Some, None, IfSome}
 
 -- the page at this place
 abbrev pub page_at : List ℕ → ℕ → List ℕ
@@ -16,3 +16,8 @@ with_page at page bytes = take at bytes ++ page ++ drop (at + length page) bytes
 -- what is told of a stream is of its length
 abbrev pub HasLength : Option (List ℕ) → ℕ → Type 0
 HasLength told n = IfSome told (λ bytes. length bytes ≡ n)
+
+-- a page of the block that was read last, from a byte of the block on
+abbrev pub seen_page : ℕ → Option (ℕ × List ℕ) → List ℕ
+seen_page start None = []
+seen_page start (Some seen) = page_at seen.1 start

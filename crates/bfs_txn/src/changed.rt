@@ -1,5 +1,5 @@
 // Changed blocks.
-ghost use Rattle.std.specs.Prelude.{◌≡◌, ◌≤◌, ◌<◌, ◌+◌, ◌-◌, ℕ, List, [], ◌∷◌, length, take, drop, OnOk, OnErr, Option, Some, None, MatchOption, MatchResult, IsTrue, if◌then◌else◌};
+ghost use Rattle.std.specs.Prelude.{◌≡◌, ◌≤◌, ◌<◌, ◌+◌, ◌-◌, ℕ, List, [], ◌∷◌, length, take, drop, OnOk, OnErr, IfSome, Option, Some, None, MatchOption, MatchResult, IsTrue, if◌then◌else◌};
 ghost use Rattle.std.specs.Prelude.{◌↔◌, ◌==◌, slice_set, slice_index_or, insert};
 ghost use Rattle.std.specs.List.Sorted.{IsPermutation};
 ghost use Rattle.bfs_txn.specs.Changed.{newest, number_at, bytes_at, Ascends, AscendsIn, AreOfSize, AreLayered, IsAt, IsGap};
@@ -23,12 +23,19 @@ impl Model for Block {
     ghost view = { λ b. (b.number, b.bytes.items) };
 }
 
+/// How many places are noted.
+const NOTED: usize = 128;
+
 /// Changed blocks, as a list of pairs: a block's number and its bytes. Outside of an overlay the numbers ascend, so
-/// each block stands there once, and a look-up takes as many steps as the length has binary digits.
+/// each block stands there once, and a look-up takes as many steps as the length has binary digits; one where a block
+/// stands that was looked for a short time ago takes a single step.
 #[derive(Drop)]
 pub struct Changed {
     alloc: Global,
     blocks: Vec<Block>,
+    /// Where blocks stood when they were last looked for, by the low bits of their numbers. A place that holds another
+    /// block by now is passed over.
+    hints: [usize; NOTED],
 }
 
 impl Model for Changed {
@@ -47,6 +54,7 @@ impl Changed {
         Changed {
             alloc,
             blocks: Vec::new(alloc),
+            hints: [0; NOTED],
         }
     }
 
@@ -84,26 +92,29 @@ impl Changed {
         requires { Ascends self.now }
         ensures { MatchOption result (newest self.now block ≡ None) (λ r. newest self.now block ≡ Some r.now) }
     {
-        self.find_above(0, block)
+        match self.place_of(0, block) {
+            Some(i) => Some(self.bytes(i)),
+            None => None,
+        }
     }
 }
 
 // What an overlay does with a list whose pairs from a mark on are those of its call.
 impl Changed {
-    /// The newest bytes of a block.
-    pub(crate) fn find_above(&self, mark: usize, block: u64) -> Option<&[u8]>
-        requires within { mark ≤ length self.now }
-        requires kept { AscendsIn self.now 0 mark }
-        requires own { AscendsIn self.now mark (length self.now) }
-        ensures { MatchOption result (newest self.now block ≡ None) (λ r. newest self.now block ≡ Some r.now) }
+    /// Where the newest bytes of a block stand, which is noted.
+    pub(crate) fn place_above(&mut self, mark: usize, block: u64) -> Option<usize>
+        requires within { mark ≤ length self.old }
+        requires kept { AscendsIn self.old 0 mark }
+        requires own { AscendsIn self.old mark (length self.old) }
+        ensures same { self.new ≡ self.old }
+        ensures inside { IfSome result (λ i. i < length self.old) }
+        ensures place { MatchOption result (newest self.old block ≡ None) (λ i. newest self.old block ≡ Some (bytes_at self.old i)) }
     {
-        match self.place_in(mark, self.len(), block) {
-            Ok(i) => Some(self.bytes(i)),
-            Err(_) => match self.place_in(0, mark, block) {
-                Ok(i) => Some(self.bytes(i)),
-                Err(_) => None,
-            },
+        let found = self.place_of(mark, block);
+        if let Some(i) = found {
+            self.note(block, i);
         }
+        found
     }
 
     /// Puts a block's bytes among the pairs from the mark on.
@@ -157,6 +168,35 @@ impl Changed {
 
 // The list itself.
 impl Changed {
+    /// Notes where a block stands.
+    fn note(&mut self, block: u64, at: usize)
+        ensures { self.new ≡ self.old }
+    {
+        self.hints[(block % NOTED as u64) as usize] = at;
+    }
+
+    /// Where a block may stand.
+    fn noted(&self, block: u64) -> usize {
+        self.hints[(block % NOTED as u64) as usize]
+    }
+
+    /// Where the newest bytes of a block stand.
+    fn place_of(&self, mark: usize, block: u64) -> Option<usize>
+        requires within { mark ≤ length self.now }
+        requires kept { AscendsIn self.now 0 mark }
+        requires own { AscendsIn self.now mark (length self.now) }
+        ensures inside { IfSome result (λ i. i < length self.now) }
+        ensures place { MatchOption result (newest self.now block ≡ None) (λ i. newest self.now block ≡ Some (bytes_at self.now i)) }
+    {
+        match self.place_in(mark, self.len(), block) {
+            Ok(i) => Some(i),
+            Err(_) => match self.place_in(0, mark, block) {
+                Ok(i) => Some(i),
+                Err(_) => None,
+            },
+        }
+    }
+
     /// Where a block stands between two places, or would.
     fn place_in(&self, from: usize, to: usize, block: u64) -> Result<usize, usize>
         requires order { from ≤ to }
@@ -164,6 +204,10 @@ impl Changed {
         requires ascends { AscendsIn self.now from to }
         ensures { MatchResult result (IsAt self.now from to block) (IsGap self.now from to block) }
     {
+        let noted = self.noted(block);
+        if from <= noted && noted < to && self.block(noted) == block {
+            return Ok(noted);
+        }
         let at = from + count_below(&self.blocks[from..to], block);
         if at == to {
             return Err(at);

@@ -42,8 +42,8 @@ impl<B: Blocks> Blocks for Overlay<'_, B> {
     ghost sized = { λ o. over_sized o.mark (B.size o.under.now) o.group.now (B.told o.under.now) o.layered (B.sized o.under.now) };
 
     fn get(&mut self, block: u64, into: &mut [u8]) -> Result<(), BlockFault> {
-        if let Some(bytes) = self.group.find_above(self.mark, block) {
-            into.copy_from_slice(bytes);
+        if let Some(i) = self.group.place_above(self.mark, block) {
+            into.copy_from_slice(self.group.bytes(i));
             self.own = Snapshot::of(&Some(block));
             self.seen = Snapshot::of(self.group);
             return Ok(());

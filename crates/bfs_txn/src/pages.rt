@@ -26,6 +26,9 @@ pub trait Pages {
     /// The place of the page that was read last.
     ghost last: { Self → ℕ };
 
+    /// The bytes of the page that was read last. After a read that failed nothing is said of them.
+    ghost page: { Self → List ℕ };
+
     /// The second is the first after some calls: what no call may change stays.
     ghost goes_on: { Self → Self → Type 0 };
 
@@ -50,6 +53,7 @@ pub trait Pages {
         requires inside { at < size self.old }
         ensures page { OnOk result (IsPageAt (told self.old) at into.new) }
         ensures last { OnOk result (last self.new ≡ at) }
+        ensures bytes { OnOk result (page self.new ≡ into.new) }
         ensures steps { steps.new ≡ steps.old + 1 }
         ensures told { told self.new ≡ told self.old }
         ensures size { size self.new ≡ size self.old }

@@ -34,6 +34,16 @@ loop-low-preserved c =
           (turned c.args.kind (key_at (rows_of c.args.page.now) (c.loop-low.low + (c.loop-low.high - c.loop-low.low) / 2)) c.args.sought.now greater);
     }
 
+pub returns-in-Equal-clause-key : goal.returns-in-Equal-clause-key
+returns-in-Equal-clause-key c =
+    let lt : c.loop-low.low + (c.loop-low.high - c.loop-low.low) / 2 < length (rows_of c.args.page.now) = omega (arith, c.loop-low.invariant.within) in
+    let equal : key_cmp c.args.kind (key_at (rows_of c.args.page.now) (c.loop-low.low + (c.loop-low.high - c.loop-low.low) / 2)) c.args.sought.now ≡ Equal =
+    sym (ap (λ k. key_cmp c.args.kind k c.args.sought.now) c.row_key.ensures) ∙ sym c.in-Equal.ensures in
+    let small : IsBytes c.args.page.now = λ i. omega (arith, c.type_inv.page i) in
+    same_key c.args.kind (key_at (rows_of c.args.page.now) (c.loop-low.low + (c.loop-low.high - c.loop-low.low) / 2)) c.args.sought.now (c.requires.page.keys (c.loop-low.low + (c.loop-low.high - c.loop-low.low) / 2) lt) c.requires.sought
+    (bytes_of_key c.args.page.now small (c.loop-low.low + (c.loop-low.high - c.loop-low.low) / 2) lt)
+    (λ i. omega (arith, c.type_inv.sought i)) equal
+
 pub returns-in-Equal-clause-place : goal.returns-in-Equal-clause-place
 returns-in-Equal-clause-place c = λ up.
     let lt : c.loop-low.low + (c.loop-low.high - c.loop-low.low) / 2 < length (rows_of c.args.page.now) = omega (arith, c.loop-low.invariant.within) in

@@ -1,4 +1,5 @@
-use Rattle.std.proofs.Common.{◌∙◌, ℕ, List, Some, take, drop, ap}
+use Rattle.std.proofs.Common.{◌∙◌, ℕ, List, Option, Some, take, drop, ap, sym}
+use Rattle.bfs_txn.specs.Pages.{seen_page}
 use Rattle.bfs_txn.specs.Told.{AreSized}
 use Rattle.bfs_stream_pages.specs.GoesLaws.{sized_of}
 use Rattle.bfs_stream_pages.proofs.Paged.{page_read}
@@ -11,3 +12,7 @@ returns-clause-page g c long m is held low =
     let found = c.in-Ok.ensures.found m is held.stands held.told in
     c.take_part.ensures.part ∙ ap (λ (n : ℕ). take n (drop c.args.start c.load.new.block)) c.requires.page ∙ ap (λ (b : List ℕ). take 1024 (drop c.args.start b)) found.1
     ∙ page_read o long m held sized c.args.index c.args.start c.in-Ok.field-0 1024 found.0 c.requires.inside low
+
+pub returns-clause-seen : goal.returns-clause-seen
+returns-clause-seen g c =
+    ap (λ (o : Option (ℕ × List ℕ)). seen_page c.args.start o) c.in-Ok.ensures.last ∙ sym (c.take_part.ensures.part ∙ ap (λ (n : ℕ). take n (drop c.args.start c.load.new.block)) c.requires.page)

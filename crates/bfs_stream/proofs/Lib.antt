@@ -1,6 +1,7 @@
 pub mod Named
 pub mod Sized
 pub mod Levels
+pub mod Passed
 pub mod Arrays
 pub mod Doubles
 pub mod Placed
@@ -17,6 +18,7 @@ pub mod Few
 pub mod Stops
 pub mod Others
 pub mod Damages
+pub mod Blames
 pub mod Giving
 pub mod CutOthers
 pub mod Emptied

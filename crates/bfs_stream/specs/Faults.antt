@@ -3,10 +3,10 @@ use Rattle.std.specs.Prelude.{◌≡◌, ◌≤◌, ◌<◌, ℕ, List, Option, 
 use Rattle.bfs_txn.specs.declared.fault.BlockFault.{BlockFault}
 use Rattle.bfs_txn.specs.declared.fault.BlockFault.TheVariants.{Disk, Stopped, Damaged, NoMemory}
 use Rattle.bfs_txn.specs.Faults.{Counts, IsCauseOf}
-use Rattle.bfs_stream.specs.Scans.{IsDamage, IsDamagedBy, IsBlamed, IsLevelRun, ends_of}
+use Rattle.bfs_stream.specs.Scans.{IsDamage, IsDamagedBy, IsBlamed, ends_of, last_end}
 use Rattle.bfs_bitmap.specs.Runs.{Room, HasNoRun}
-use Rattle.bfs_inode.specs.Inode.{stream_at}
-use Rattle.bfs_stream.specs.Sizes.{Origin}
+use Rattle.bfs_inode.specs.Inode.{Stream, stream_at}
+use Rattle.bfs_stream.specs.Sizes.{Sizes, Origin}
 use Rattle.bfs_stream.specs.Told.{contents}
 use Rattle.bfs_stream.specs.Grown.{IsStuck, room_at}
 use Rattle.bfs_stream.specs.declared.fault.StreamFault.{StreamFault}
@@ -30,16 +30,20 @@ abbrev pub HasNoBlock : List ℕ → ℕ → StreamFault → Type 0
 HasNoBlock places i (PastEnd blocks) = (blocks ≡ length places) × (length places ≤ i)
 HasNoBlock places i (Block fault) = ¬ IsDamage fault
 
--- which block is damaged where there is no block at a place
-abbrev pub IsDamagedAt : Origin → (ℕ → Option (List ℕ)) → ℕ → StreamFault → Type 0
-IsDamagedAt o m place (PastEnd blocks) = Unit {0}
-IsDamagedAt o m place (Block fault) = IsDamagedBy o.sizes m o.id (IsLevelRun o.sizes (ends_of o.sizes (stream_at (contents m o.id))).indirect place) fault
+-- by the fields in the inode the stream ends at this block, and the place lies behind it
+abbrev pub IsPastEnd : Sizes → Stream → ℕ → ℕ → Type 0
+IsPastEnd s t place blocks = (blocks ≡ last_end (ends_of s t)) × (blocks ≤ place)
 
--- What was read last where there is no block at a place: the inode, where the stream ends before it; and a damaged block, by
--- its runs of the level that has the place, where that level is known by where the double indirect one begins.
+-- which block is damaged where there is no block at a place, or where the stream ends before it, by what is told
+abbrev pub IsDamagedAt : Origin → (ℕ → Option (List ℕ)) → ℕ → StreamFault → Type 0
+IsDamagedAt o m place (PastEnd blocks) = IsPastEnd o.sizes (stream_at (contents m o.id)) place blocks
+IsDamagedAt o m place (Block fault) = IsDamagedBy o.sizes m o.id (stream_at (contents m o.id)) place fault
+
+-- What was read last where there is no block at a place, also where nothing is told: the inode, where the stream ends before
+-- it by the bytes that were read; and a damaged block, whose own bytes break the format, behind an inode of some bytes.
 abbrev pub IsBlamedAt : Origin → Option (ℕ × List ℕ) → ℕ → StreamFault → Type 0
-IsBlamedAt o last place (PastEnd blocks) = (bytes : List ℕ) × (last ≡ Some (o.id, bytes))
-IsBlamedAt o last place (Block fault) = (end : ℕ) × IsBlamed o.sizes last o.id (IsLevelRun o.sizes end place) fault
+IsBlamedAt o last place (PastEnd blocks) = (bytes : List ℕ) × (last ≡ Some (o.id, bytes)) × IsPastEnd o.sizes (stream_at bytes) place blocks
+IsBlamedAt o last place (Block fault) = (inode : List ℕ) × IsBlamed o.sizes last o.id (stream_at inode) place fault
 
 -- why a stream did not grow, beside what its blocks say: its room is less than so many blocks, or a fault has its cause
 abbrev pub IsGrowCause : ℕ → Counts → Counts → GrowFault → Type 0

@@ -1,12 +1,12 @@
 // Looks one place up.
-ghost use Rattle.std.specs.Prelude.{◌≡◌, ◌<◌, ◌≤◌, ◌↔◌, IsTrue, ◌+◌, ◌*◌, ◌/◌, ◌%◌, ℕ, List, length, Option, Some, None, OnErr, IfOk, IfErr, IsSome, max, slice_get, All};
+ghost use Rattle.std.specs.Prelude.{◌≡◌, ◌<◌, ◌≤◌, ◌↔◌, ◌⊎◌, IsTrue, ◌+◌, ◌*◌, ◌/◌, ◌%◌, ℕ, List, length, Option, Some, None, OnErr, IfOk, IfErr, IsSome, max, slice_get, All};
 ghost use Rattle.std.specs.List.{flat_map};
 ghost use Rattle.bfs_inode.specs.Inode.{stream_at};
 ghost use Rattle.bfs_txn.specs.Faults.{AreLater};
 ghost use Rattle.bfs_stream.specs.Sizes.{IsInVolume, IsWhole, HasSizes, array_length, runs_per_block};
 ghost use Rattle.bfs_stream.specs.Places.{run_blocks, used_runs, array_runs, places_at, fields};
 ghost use Rattle.bfs_stream.specs.Told.{AreTold, Stands, contents};
-ghost use Rattle.bfs_stream.specs.Scans.{IsDamage, IsDamagedBy, IsBlamed, IsLevelRun, IsUsed, HasDouble, block_in, ends_of, last_end};
+ghost use Rattle.bfs_stream.specs.Scans.{IsDamage, IfDamaged, IsDamagedBy, IsBlamed, HasEnded, IsLevelDamaged, IsLevelBlamed, IsTableDamaged, IsTableBlamed, IsDoubleDamaged, IsDoubleBlamed, IsUnreached, HasDouble, block_in, ends_of, last_end};
 ghost use Rattle.bfs_stream.specs.Faults.{IsCauseIn, IsStreamCause, IsDamagedAt, IsBlamedAt, HasNoBlock};
 
 use crate::scan::Scan;
@@ -75,8 +75,7 @@ impl Stream {
     fn too_short<B: Blocks>(&self, under: &mut B, bytes: &mut [u8]) -> BlockFault
         requires size { B.size under.old ≡ self.now.sizes.block_size }
         requires length { length bytes.old ≡ self.now.sizes.block_size }
-        ensures damaged { (m : ℕ → Option (List ℕ)) → IsDamagedBy self.now.sizes m self.now.id (IsUsed self.now.sizes) result }
-        ensures blamed { IsBlamed self.now.sizes (B.last under.new) self.now.id (IsUsed self.now.sizes) result }
+        ensures blamed { IfDamaged (λ block. (block ≡ self.now.id) × (bytes : List ℕ) × (B.last under.new ≡ Some (block, bytes))) result }
         ensures length { length bytes.new ≡ self.now.sizes.block_size }
         ensures told { B.told under.new ≡ B.told under.old }
         ensures changed { B.changed under.new ≡ B.changed under.old }
@@ -105,8 +104,8 @@ impl Stream {
         requires array { IsInVolume self.now.sizes array }
         ensures found { (m : ℕ → Option (List ℕ)) → B.told under.old ≡ Some m → AreTold m (run_blocks self.now.sizes array) → IfOk result (λ block. block_in self.now.sizes (array_runs self.now.sizes (contents m) array) place ≡ Some block) }
         ensures none { (m : ℕ → Option (List ℕ)) → B.told under.old ≡ Some m → AreTold m (run_blocks self.now.sizes array) → All (IsInVolume self.now.sizes) (used_runs (array_runs self.now.sizes (contents m) array)) → IfErr result (λ fault. IsDamage fault → block_in self.now.sizes (array_runs self.now.sizes (contents m) array) place ≡ None) }
-        ensures damaged { (m : ℕ → Option (List ℕ)) → B.told under.old ≡ Some m → IfErr result (IsDamagedBy self.now.sizes m self.now.id (IsUsed self.now.sizes)) }
-        ensures blamed { IfErr result (IsBlamed self.now.sizes (B.last under.new) self.now.id (IsUsed self.now.sizes)) }
+        ensures damaged { (m : ℕ → Option (List ℕ)) → B.told under.old ≡ Some m → IfErr result (IfDamaged (IsLevelDamaged self.now.sizes m self.now.id array place)) }
+        ensures blamed { IfErr result (IfDamaged (λ block. (bytes : List ℕ) × (B.last under.new ≡ Some (block, bytes)) × IsLevelBlamed self.now.sizes self.now.id array place block bytes)) }
         ensures below { IfOk result (λ block. block < self.now.sizes.blocks) }
         ensures length { length bytes.new ≡ self.now.sizes.block_size }
         ensures told { B.told under.new ≡ B.told under.old }
@@ -148,8 +147,8 @@ impl Stream {
         requires place { place < array_length self.now.sizes * runs_per_block self.now.sizes }
         ensures found { (m : ℕ → Option (List ℕ)) → B.told under.old ≡ Some m → AreTold m (run_blocks self.now.sizes array) → IfOk result (λ run. slice_get (array_runs self.now.sizes (contents m) array) place ≡ Some run) }
         ensures none { (m : ℕ → Option (List ℕ)) → B.told under.old ≡ Some m → AreTold m (run_blocks self.now.sizes array) → IfErr result (λ fault. IsDamage fault → (run : Run) × (slice_get (array_runs self.now.sizes (contents m) array) place ≡ Some run) × (¬ IsWhole self.now.sizes run)) }
-        ensures damaged { (m : ℕ → Option (List ℕ)) → B.told under.old ≡ Some m → IfErr result (IsDamagedBy self.now.sizes m self.now.id (IsWhole self.now.sizes)) }
-        ensures blamed { IfErr result (IsBlamed self.now.sizes (B.last under.new) self.now.id (IsWhole self.now.sizes)) }
+        ensures damaged { (m : ℕ → Option (List ℕ)) → B.told under.old ≡ Some m → IfErr result (IfDamaged (IsTableDamaged self.now.sizes m array place)) }
+        ensures blamed { IfErr result (IfDamaged (λ block. (bytes : List ℕ) × (B.last under.new ≡ Some (block, bytes)) × IsTableBlamed self.now.sizes array place block bytes)) }
         ensures whole { IfOk result (IsWhole self.now.sizes) }
         ensures length { length bytes.new ≡ self.now.sizes.block_size }
         ensures told { B.told under.new ≡ B.told under.old }
@@ -181,6 +180,7 @@ impl Stream {
         ensures none { All (IsInVolume self.now.sizes) (used_runs (stream_at bytes.now).direct) → OnErr result (block_in self.now.sizes (stream_at bytes.now).direct place ≡ None) }
         ensures below { IfOk result (λ block. block < self.now.sizes.blocks) }
         ensures fault { IfErr result (λ fault. fault ≡ BlockFault.Damaged self.now.id) }
+        ensures ended { OnErr result (HasEnded self.now.sizes (stream_at bytes.now).direct place) }
     {
         match self.scan(bytes, DIRECT, 12, place) {
             Scan::Found(block) => Ok(block),
@@ -203,8 +203,8 @@ impl Stream {
         requires array { IsWhole self.now.sizes array }
         ensures found { (m : ℕ → Option (List ℕ)) → B.told under.old ≡ Some m → HasDouble self.now.sizes m array place → IfOk result (λ block. block_in self.now.sizes (flat_map (array_runs self.now.sizes (contents m)) (used_runs (array_runs self.now.sizes (contents m) array))) place ≡ Some block) }
         ensures sound { (m : ℕ → Option (List ℕ)) → B.told under.old ≡ Some m → HasDouble self.now.sizes m array place → IfErr result (λ fault. ¬ IsDamage fault) }
-        ensures damaged { (m : ℕ → Option (List ℕ)) → B.told under.old ≡ Some m → IfErr result (IsDamagedBy self.now.sizes m self.now.id (IsWhole self.now.sizes)) }
-        ensures blamed { B.last under.old ≡ Some (self.now.id, bytes.old) → IfErr result (IsBlamed self.now.sizes (B.last under.new) self.now.id (IsWhole self.now.sizes)) }
+        ensures damaged { (m : ℕ → Option (List ℕ)) → B.told under.old ≡ Some m → IfErr result (IfDamaged (λ block. ((block ≡ self.now.id) × IsUnreached self.now.sizes place) ⊎ ((¬ IsUnreached self.now.sizes place) × IsDoubleDamaged self.now.sizes m array place block))) }
+        ensures blamed { IfErr result (IfDamaged (λ block. ((block ≡ self.now.id) × (B.last under.new ≡ B.last under.old) × IsUnreached self.now.sizes place) ⊎ ((bytes : List ℕ) × (B.last under.new ≡ Some (block, bytes)) × (¬ IsUnreached self.now.sizes place) × IsDoubleBlamed self.now.sizes array place block bytes))) }
         ensures below { IfOk result (λ block. block < self.now.sizes.blocks) }
         ensures told { B.told under.new ≡ B.told under.old }
         ensures changed { B.changed under.new ≡ B.changed under.old }
@@ -257,8 +257,8 @@ impl Stream {
         requires inside { place < last_end (ends_of self.now.sizes (stream_at bytes.old)) }
         ensures found { (m : ℕ → Option (List ℕ)) → B.told under.old ≡ Some m → Stands self.now m → bytes.old ≡ contents m self.now.id → IfOk result (λ block. slice_get (places_at self.now.sizes (contents m) self.now.id) place ≡ Some block) }
         ensures sound { (m : ℕ → Option (List ℕ)) → B.told under.old ≡ Some m → Stands self.now m → bytes.old ≡ contents m self.now.id → IfErr result (λ fault. ¬ IsDamage fault) }
-        ensures damaged { (m : ℕ → Option (List ℕ)) → B.told under.old ≡ Some m → IfErr result (IsDamagedBy self.now.sizes m self.now.id (IsLevelRun self.now.sizes (ends_of self.now.sizes (stream_at bytes.old)).indirect place)) }
-        ensures blamed { B.last under.old ≡ Some (self.now.id, bytes.old) → IfErr result (IsBlamed self.now.sizes (B.last under.new) self.now.id (IsLevelRun self.now.sizes (ends_of self.now.sizes (stream_at bytes.old)).indirect place)) }
+        ensures damaged { (m : ℕ → Option (List ℕ)) → B.told under.old ≡ Some m → IfErr result (IsDamagedBy self.now.sizes m self.now.id (stream_at bytes.old) place) }
+        ensures blamed { B.last under.old ≡ Some (self.now.id, bytes.old) → IfErr result (IsBlamed self.now.sizes (B.last under.new) self.now.id (stream_at bytes.old) place) }
         ensures below { IfOk result (λ block. block < self.now.sizes.blocks) }
         ensures told { B.told under.new ≡ B.told under.old }
         ensures changed { B.changed under.new ≡ B.changed under.old }

@@ -2,7 +2,7 @@
 ghost use Rattle.std.specs.Prelude.{◌≡◌, ◌<◌, ◌≤◌, ◌↔◌, ◌+◌, ◌*◌, IsTrue, length};
 ghost use Rattle.bfs_inode.specs.Inode.{runs_in};
 ghost use Rattle.bfs_stream.specs.Sizes.{IsInVolume, first_block};
-ghost use Rattle.bfs_stream.specs.Scans.{IsScan, IsBelow, IsBrokenAt};
+ghost use Rattle.bfs_stream.specs.Scans.{IsScan, IsBelow, HasStopped};
 
 use crate::Stream;
 use bfs_bytes::{Run, run_at};
@@ -51,7 +51,7 @@ impl Stream {
         requires { at + 8 * runs ≤ length bytes.now }
         ensures scan { IsScan self.now.sizes (runs_in runs bytes.now at) place result }
         ensures below { IsBelow self.now.sizes result }
-        ensures broken { IsBrokenAt self.now.sizes bytes.now at runs result }
+        ensures stopped { HasStopped self.now.sizes (runs_in runs bytes.now at) place result }
     {
         let mut left = place;
         for i in 0..runs {

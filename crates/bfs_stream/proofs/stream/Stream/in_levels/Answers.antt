@@ -1,4 +1,4 @@
-use Rattle.std.proofs.Common.{◌≡◌, ◌<◌, ◌≤◌, ◌+◌, ◌-◌, ◌∙◌, ℕ, List, length, ap, sym, subst, arith, Option, Some, None, true, false}
+use Rattle.std.proofs.Common.{◌≡◌, ◌<◌, ◌≤◌, ◌+◌, ◌-◌, ◌∙◌, ℕ, List, length, inl, refl, ap, sym, subst, arith, Option, Some, None, true, false}
 use Rattle.std.specs.Prelude.{slice_get, All}
 use Rattle.std.specs.List.{flat_map}
 use Rattle.std.proofs.lemmas.Result.{IfOk-weaker, IfErr-weaker}
@@ -8,9 +8,10 @@ use Rattle.bfs_stream.specs.Sizes.{Origin, HasSizes, IsInVolume, IsWhole}
 use Rattle.bfs_stream.specs.Places.{fields, places_at, used_runs, array_runs, run_blocks}
 use Rattle.bfs_stream.proofs.Named.{direct_blocks, indirect_blocks, double_blocks}
 use Rattle.bfs_stream.specs.Told.{contents, AreTold, Stands}
-use Rattle.bfs_stream.specs.Scans.{ends_of, last_end, block_in, HasDouble, IsDamage}
+use Rattle.bfs_stream.specs.Scans.{ends_of, last_end, block_in, HasDouble, HasEnded, IsDamage}
 use Rattle.bfs_stream.specs.declared.lookup.Ends.{Ends}
 use Rattle.bfs_stream.proofs.Placed.{AreEnds, ends_are, places_direct, places_indirect, places_double, direct_some, indirect_some, in_indirect, in_double, told_indirect, has_double, holds_indirect, holds_double}
+use Rattle.bfs_stream.proofs.Blames.{one_blamed, inode_blamed, astray_direct, astray_indirect, astray_double, level_damaged, level_blamed, double_damaged, double_blamed}
 use Rattle.bfs_stream.proofs.stream.Stream.in_levels.Goals as goal
 
 -- what the ranges that were read say of the levels
@@ -143,3 +144,71 @@ returns-clause-sound g c m is stands same =
     let o = c.args.self.now in
     let array = c.double_indirect-array.ensures ∙ ap (λ (l : List ℕ). (stream_at l).double_indirect) c.over-2.ensures in
     c.in_double.ensures.sound m is (double_has o m c.args.bytes.now c.args.place c.ends-ends.result c.double_indirect-array.result c.sizes.ensures.sizes stands same c.ends-ends.ensures c.requires.inside c.if-place-ends.false c.if-place-ends-2.false array)
+
+-- who is blamed
+pub returns-then-place-ends-clause-damaged : goal.returns-then-place-ends-clause-damaged
+returns-then-place-ends-clause-damaged g c m is =
+    let o = c.args.self.now in
+    one_blamed c.in_direct.result o.id (HasEnded o.sizes (stream_at c.args.bytes.now).direct c.args.place) _
+    (λ ended. inl (refl, astray_direct o.sizes o.id c.args.bytes.now c.args.place c.ends-ends.result c.ends-ends.ensures c.if-place-ends.true ended)) c.in_direct.ensures.fault c.in_direct.ensures.ended
+
+pub returns-then-place-ends-clause-blamed : goal.returns-then-place-ends-clause-blamed
+returns-then-place-ends-clause-blamed g c last =
+    let o = c.args.self.now in
+    one_blamed c.in_direct.result o.id (HasEnded o.sizes (stream_at c.args.bytes.now).direct c.args.place) _
+    (λ ended. inode_blamed o.sizes o.id c.args.bytes.now c.args.place c.ends-ends.result c.ends-ends.ensures (g.B.Blocks.last c.args.under.now) o.id refl last (astray_direct o.sizes o.id c.args.bytes.now c.args.place c.ends-ends.result c.ends-ends.ensures c.if-place-ends.true ended))
+    c.in_direct.ensures.fault c.in_direct.ensures.ended
+
+pub returns-then-not-holds-clause-damaged : goal.returns-then-not-holds-clause-damaged
+returns-then-not-holds-clause-damaged g c m is =
+    let o = c.args.self.now in
+    let id : c.self.inside.inode ≡ o.id = ap (λ (x : Origin). x.id) c.self.view_is in
+    let array = c.indirect-array.ensures ∙ ap (λ (l : List ℕ). (stream_at l).indirect) c.over.ensures in
+    inl (id, astray_indirect o.sizes o.id c.args.bytes.now c.args.place c.ends-ends.result c.ends-ends.ensures c.indirect-array.result array c.if-place-ends.false c.if-place-ends-2.true (λ inside. let bad : false ≡ true = c.if-not-holds.ensures.1 inside in cc))
+
+pub returns-then-not-holds-clause-blamed : goal.returns-then-not-holds-clause-blamed
+returns-then-not-holds-clause-blamed g c last =
+    let o = c.args.self.now in
+    let id : c.self.inside.inode ≡ o.id = ap (λ (x : Origin). x.id) c.self.view_is in
+    let array = c.indirect-array.ensures ∙ ap (λ (l : List ℕ). (stream_at l).indirect) c.over.ensures in
+    inode_blamed o.sizes o.id c.args.bytes.now c.args.place c.ends-ends.result c.ends-ends.ensures (g.B.Blocks.last c.args.under.now) c.self.inside.inode id last
+    (astray_indirect o.sizes o.id c.args.bytes.now c.args.place c.ends-ends.result c.ends-ends.ensures c.indirect-array.result array c.if-place-ends.false c.if-place-ends-2.true (λ inside. let bad : false ≡ true = c.if-not-holds.ensures.1 inside in cc))
+
+pub returns-then-place-ends-2-clause-damaged : goal.returns-then-place-ends-2-clause-damaged
+returns-then-place-ends-2-clause-damaged g c m is =
+    let o = c.args.self.now in
+    let array = c.indirect-array.ensures ∙ ap (λ (l : List ℕ). (stream_at l).indirect) c.over.ensures in
+    level_damaged o.sizes o.id c.args.bytes.now c.args.place c.ends-ends.result c.ends-ends.ensures c.indirect-array.result array c.if-place-ends.false c.if-place-ends-2.true (c.if-not-holds.ensures.0 refl) m c.in_array.result (c.in_array.ensures.damaged m is)
+
+pub returns-then-place-ends-2-clause-blamed : goal.returns-then-place-ends-2-clause-blamed
+returns-then-place-ends-2-clause-blamed g c last =
+    let o = c.args.self.now in
+    let array = c.indirect-array.ensures ∙ ap (λ (l : List ℕ). (stream_at l).indirect) c.over.ensures in
+    level_blamed o.sizes o.id c.args.bytes.now c.args.place c.ends-ends.result c.ends-ends.ensures c.indirect-array.result array c.if-place-ends.false c.if-place-ends-2.true (c.if-not-holds.ensures.0 refl) (g.B.Blocks.last c.in_array.new.under) c.in_array.result c.in_array.ensures.blamed
+
+pub returns-then-not-is_whole-clause-damaged : goal.returns-then-not-is_whole-clause-damaged
+returns-then-not-is_whole-clause-damaged g c m is =
+    let o = c.args.self.now in
+    let id : c.self.inside.inode ≡ o.id = ap (λ (x : Origin). x.id) c.self.view_is in
+    let array = c.double_indirect-array.ensures ∙ ap (λ (l : List ℕ). (stream_at l).double_indirect) c.over-2.ensures in
+    inl (id, astray_double o.sizes o.id c.args.bytes.now c.args.place c.ends-ends.result c.ends-ends.ensures c.double_indirect-array.result array c.if-place-ends.false c.if-place-ends-2.false c.requires.inside (λ whole. let bad : false ≡ true = c.if-not-is_whole.ensures.1 whole in cc))
+
+pub returns-then-not-is_whole-clause-blamed : goal.returns-then-not-is_whole-clause-blamed
+returns-then-not-is_whole-clause-blamed g c last =
+    let o = c.args.self.now in
+    let id : c.self.inside.inode ≡ o.id = ap (λ (x : Origin). x.id) c.self.view_is in
+    let array = c.double_indirect-array.ensures ∙ ap (λ (l : List ℕ). (stream_at l).double_indirect) c.over-2.ensures in
+    inode_blamed o.sizes o.id c.args.bytes.now c.args.place c.ends-ends.result c.ends-ends.ensures (g.B.Blocks.last c.args.under.now) c.self.inside.inode id last
+    (astray_double o.sizes o.id c.args.bytes.now c.args.place c.ends-ends.result c.ends-ends.ensures c.double_indirect-array.result array c.if-place-ends.false c.if-place-ends-2.false c.requires.inside (λ whole. let bad : false ≡ true = c.if-not-is_whole.ensures.1 whole in cc))
+
+pub returns-clause-damaged : goal.returns-clause-damaged
+returns-clause-damaged g c m is =
+    let o = c.args.self.now in
+    let array = c.double_indirect-array.ensures ∙ ap (λ (l : List ℕ). (stream_at l).double_indirect) c.over-2.ensures in
+    double_damaged o.sizes o.id c.args.bytes.now c.args.place c.ends-ends.result c.ends-ends.ensures c.double_indirect-array.result array c.if-place-ends.false c.if-place-ends-2.false c.requires.inside (c.if-not-is_whole.ensures.0 refl) m c.in_double.result (c.in_double.ensures.damaged m is)
+
+pub returns-clause-blamed : goal.returns-clause-blamed
+returns-clause-blamed g c last =
+    let o = c.args.self.now in
+    let array = c.double_indirect-array.ensures ∙ ap (λ (l : List ℕ). (stream_at l).double_indirect) c.over-2.ensures in
+    double_blamed o.sizes o.id c.args.bytes.now c.args.place c.ends-ends.result c.ends-ends.ensures c.double_indirect-array.result array c.if-place-ends.false c.if-place-ends-2.false c.requires.inside (c.if-not-is_whole.ensures.0 refl) (g.B.Blocks.last c.args.under.now) (g.B.Blocks.last c.in_double.new.under) c.in_double.result last c.in_double.ensures.blamed

@@ -5,7 +5,8 @@ use Rattle.bfs_stream.proofs.Named.{direct_blocks, indirect_blocks, double_block
 use Rattle.bfs_txn.specs.Told.{AreOfBlock}
 use Rattle.bfs_stream.specs.Sizes.{Origin}
 use Rattle.bfs_stream.specs.Told.{contents}
-use Rattle.bfs_stream.specs.Scans.{IsDamagedBy, IsLevelRun, ends_of, last_end}
+use Rattle.bfs_stream.specs.Scans.{IsDamagedBy, ends_of, last_end}
+use Rattle.bfs_stream.specs.Faults.{IsPastEnd}
 use Rattle.bfs_stream.proofs.Arrays.{read_is}
 use Rattle.bfs_stream.proofs.Placed.{last_is, ends_are, length-places, told_inode}
 use Rattle.bfs_stream.proofs.stream.Stream.look_up.Goals as goal
@@ -26,6 +27,25 @@ returns-then-index-blocks-clause-none g c m is stands =
     ∙ sym (length-places o.sizes (contents m) o.id) in
     (last, omega (arith, last))
 
+-- the bytes that were read of the inode are those told
+pub returns-then-index-blocks-clause-damaged : goal.returns-then-index-blocks-clause-damaged
+returns-then-index-blocks-clause-damaged g c m is some =
+    let o = c.args.self.now in
+    let id : c.self.inside.inode ≡ o.id = ap (λ (x : Origin). x.id) c.self.view_is in
+    let of : AreOfBlock (g.B.Blocks.told c.args.under.now) o.id c.get.new.into = subst (λ (k : ℕ). AreOfBlock (g.B.Blocks.told c.args.under.now) k c.get.new.into) id c.in-Ok.ensures.bytes in
+    let read : c.get.new.into ≡ contents m o.id = read_is m (g.B.Blocks.told c.args.under.now) o.id c.get.new.into is some of in
+    let last = c.last-blocks.ensures ∙ ap last_end c.ends.ensures in
+    subst (λ (l : List ℕ). IsPastEnd o.sizes (stream_at l) c.args.index c.last-blocks.result) read (last, c.if-index-blocks.true)
+
+pub returns-then-index-blocks-clause-blamed : goal.returns-then-index-blocks-clause-blamed
+returns-then-index-blocks-clause-blamed g c =
+    let o = c.args.self.now in
+    let bytes = c.get.new.into in
+    let id : c.self.inside.inode ≡ o.id = ap (λ (x : Origin). x.id) c.self.view_is in
+    let pair : ℕ → List ℕ → Option (ℕ × List ℕ) = λ k l. Some (k, l) in
+    let last : g.B.Blocks.last c.get.new.self ≡ Some (o.id, bytes) = c.in-Ok.ensures.last ∙ ap (λ (k : ℕ). pair k bytes) id in
+    (bytes, last, (c.last-blocks.ensures ∙ ap last_end c.ends.ensures, c.if-index-blocks.true))
+
 pub returns-in-Err-in_levels-clause-blamed : goal.returns-in-Err-in_levels-clause-blamed
 returns-in-Err-in_levels-clause-blamed g c =
     let o = c.args.self.now in
@@ -33,7 +53,7 @@ returns-in-Err-in_levels-clause-blamed g c =
     let id : c.self.inside.inode ≡ o.id = ap (λ (x : Origin). x.id) c.self.view_is in
     let pair : ℕ → List ℕ → Option (ℕ × List ℕ) = λ k l. Some (k, l) in
     let last : g.B.Blocks.last c.get.new.self ≡ Some (o.id, bytes) = c.in-Ok.ensures.last ∙ ap (λ (k : ℕ). pair k bytes) id in
-    ((ends_of o.sizes (stream_at bytes)).indirect, c.in-Err-in_levels.ensures.blamed last)
+    (bytes, c.in-Err-in_levels.ensures.blamed last)
 
 pub returns-in-Err-in_levels-clause-damaged : goal.returns-in-Err-in_levels-clause-damaged
 returns-in-Err-in_levels-clause-damaged g c m is some =
@@ -43,5 +63,5 @@ returns-in-Err-in_levels-clause-damaged g c m is some =
     let of : AreOfBlock (g.B.Blocks.told c.args.under.now) o.id c.get.new.into = subst (λ (k : ℕ). AreOfBlock (g.B.Blocks.told c.args.under.now) k c.get.new.into) id c.in-Ok.ensures.bytes in
     let read : bytes ≡ contents m o.id =
     read_is m (g.B.Blocks.told c.args.under.now) o.id c.get.new.into is some of in
-    subst (λ (l : List ℕ). IsDamagedBy o.sizes m o.id (IsLevelRun o.sizes (ends_of o.sizes (stream_at l)).indirect c.args.index) c.in-Err-in_levels.fault) read
+    subst (λ (l : List ℕ). IsDamagedBy o.sizes m o.id (stream_at l) c.args.index c.in-Err-in_levels.fault) read
     (c.in-Err-in_levels.ensures.damaged m (c.in-Ok.ensures.told ∙ is))

@@ -1,4 +1,4 @@
-use Rattle.std.proofs.Common.{◌≡◌, ◌<◌, ◌≤◌, ◌+◌, ◌*◌, ◌/◌, ◌%◌, ◌∙◌, inr, ℕ, List, Option, Some, ap, sym, subst, arith, true, false}
+use Rattle.std.proofs.Common.{◌≡◌, ◌<◌, ◌≤◌, ◌+◌, ◌*◌, ◌/◌, ◌%◌, ◌∙◌, ℕ, List, Option, Some, ap, sym, subst, arith, true, false}
 use Rattle.std.specs.Prelude.{slice_get}
 use Rattle.std.proofs.Math.Nat.{div-lt_iff_lt-mul}
 use Rattle.bfs_bytes.specs.declared.Run.{Run}
@@ -8,8 +8,7 @@ use Rattle.bfs_stream.specs.Sizes.{Sizes, runs_per_block, array_length, first_bl
 use Rattle.bfs_stream.specs.Places.{array_runs, run_blocks}
 use Rattle.bfs_stream.specs.Told.{contents, AreTold}
 use Rattle.bfs_stream.proofs.Arrays.{array_at, has_counted, read_is}
-use Rattle.std.proofs.Math.Nat.{mod-lt}
-use Rattle.bfs_stream.proofs.Damages.{read_other}
+use Rattle.bfs_stream.proofs.Damages.{same_bytes}
 use Rattle.bfs_stream.proofs.stream.Stream.whole_run.Goals as goal
 
 -- what was read at a place of an array is the run there
@@ -35,19 +34,34 @@ returns-else-is_whole-clause-none g c m is told t =
     c.runs_per_block-runs.ensures.value c.runs_per_block-runs.ensures.some c.first_block.ensures.value c.in-Ok.ensures.bytes c.run_at-run.ensures in
     (c.run_at-run.result, read, λ whole. let bad : false ≡ true = c.if-is_whole.ensures.1 whole in cc)
 
+-- the block that was read, and the run in it, in terms of the sizes
+module _ (s : Sizes) (array run : Run) (place first runs : ℕ) (into : List ℕ) (e : runs ≡ runs_per_block s) (f : first ≡ first_block s array) (read : run ≡ run_in into (8 * (place % runs))) (none : ¬ IsWhole s run) where
+  block_is : first + place / runs ≡ first_block s array + place / runs_per_block s
+  block_is = ap (λ (n : ℕ). first + place / n) e ∙ ap (λ (n : ℕ). n + place / runs_per_block s) f
+
+  bad_run : ¬ IsWhole s (run_in into (8 * (place % runs_per_block s)))
+  bad_run whole = none (subst (IsWhole s) (sym (read ∙ ap (λ (n : ℕ). run_in into (8 * (place % n))) e)) whole)
+
 pub returns-else-is_whole-clause-damaged : goal.returns-else-is_whole-clause-damaged
 returns-else-is_whole-clause-damaged g c m is =
     let s = c.args.self.now.sizes in
     let runs = c.runs_per_block-runs.result in
-    let some : 0 < runs = let e = c.runs_per_block-runs.ensures.some in omega (arith, e) in
-    let few : c.args.place % runs < runs_per_block s = let e = c.runs_per_block-runs.ensures.value in let lt = mod-lt c.args.place some in omega (arith, e, lt) in
-    inr (read_other s (IsWhole s) m (g.B.Blocks.told c.args.under.now) (c.first_block.result + c.args.place / runs) c.get.new.into is c.in-Ok.ensures.bytes
-    (c.args.place % runs, few, λ whole. let bad : false ≡ true = c.if-is_whole.ensures.1 (subst (IsWhole s) (sym c.run_at-run.ensures) whole) in cc))
+    let none : ¬ IsWhole s c.run_at-run.result = λ whole. let bad : false ≡ true = c.if-is_whole.ensures.1 whole in cc in record {
+      is = block_is s c.args.array c.run_at-run.result c.args.place c.first_block.result runs c.get.new.into c.runs_per_block-runs.ensures.value c.first_block.ensures.value c.run_at-run.ensures none;
+      bad = λ bytes here.
+          subst (λ (l : List ℕ). ¬ IsWhole s (run_in l (8 * (c.args.place % runs_per_block s)))) (same_bytes m (g.B.Blocks.told c.args.under.now) (c.first_block.result + c.args.place / runs) c.get.new.into bytes is c.in-Ok.ensures.bytes here)
+          (bad_run s c.args.array c.run_at-run.result c.args.place c.first_block.result runs c.get.new.into c.runs_per_block-runs.ensures.value c.first_block.ensures.value c.run_at-run.ensures none);
+    }
 
 pub returns-else-is_whole-clause-blamed : goal.returns-else-is_whole-clause-blamed
 returns-else-is_whole-clause-blamed g c =
     let s = c.args.self.now.sizes in
     let runs = c.runs_per_block-runs.result in
-    let some : 0 < runs = let e = c.runs_per_block-runs.ensures.some in omega (arith, e) in
-    let few : c.args.place % runs < runs_per_block s = let e = c.runs_per_block-runs.ensures.value in let lt = mod-lt c.args.place some in omega (arith, e, lt) in
-    (c.get.new.into, c.in-Ok.ensures.last, inr (c.args.place % runs, few, λ whole. let bad : false ≡ true = c.if-is_whole.ensures.1 (subst (IsWhole s) (sym c.run_at-run.ensures) whole) in cc))
+    let none : ¬ IsWhole s c.run_at-run.result = λ whole. let bad : false ≡ true = c.if-is_whole.ensures.1 whole in cc in (
+      c.get.new.into,
+      c.in-Ok.ensures.last,
+      record {
+        is = block_is s c.args.array c.run_at-run.result c.args.place c.first_block.result runs c.get.new.into c.runs_per_block-runs.ensures.value c.first_block.ensures.value c.run_at-run.ensures none;
+        bad = bad_run s c.args.array c.run_at-run.result c.args.place c.first_block.result runs c.get.new.into c.runs_per_block-runs.ensures.value c.first_block.ensures.value c.run_at-run.ensures none;
+      },
+    )

@@ -14,7 +14,7 @@ use Rattle.bfs_sound.specs.Volumes.{Volume, sizes}
 use Rattle.bfs_sound.specs.Owners.{In}
 use Rattle.bfs_sound.specs.Inodes.{content}
 use Rattle.bfs_sound.specs.Attributes.{attribute_directory, attribute_inodes, HasDirectory, IsAttributeDirectory}
-use Rattle.bfs_rows.specs.RowTrees.{HasTree}
+use Rattle.bfs_maps.specs.RowTrees.{HasTree}
 use Rattle.bfs_make.specs.Made.{IsNewStream}
 use Rattle.bfs_attr.specs.Bearers.{Bearer, volume_at, origin}
 use Rattle.bfs_attr.specs.Changed.{Holds}

@@ -23,7 +23,7 @@ use Rattle.bfs_tree.specs.Trees.{Attribute}
 use Rattle.bfs_maps.specs.Mapped.{HasHeld, rows_of}
 use Rattle.bfs_maps.specs.Refused.{IsNumberPage, IsTakeFault, IsTakingFault, IsUndone, HasTakeCause}
 use Rattle.bfs_make.specs.Given.{HasGivenBack}
-use Rattle.bfs_rows.specs.RowTrees.{AreRowsNow, HasTreeWith}
+use Rattle.bfs_maps.specs.RowTrees.{AreRowsNow, HasTreeWith}
 use Rattle.bfs_sound.specs.Volumes.{Volume, sizes}
 use Rattle.bfs_sound.specs.Inodes.{content, id_of}
 use Rattle.bfs_values.specs.Rows.{rows_in}

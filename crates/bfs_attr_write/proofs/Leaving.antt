@@ -28,7 +28,7 @@ use Rattle.bfs_stream_pages.specs.Moves.{Moved}
 use Rattle.bfs_values.specs.Reached.{IsWholeTree}
 use Rattle.bfs_values.specs.Rows.{rows_in}
 use Rattle.bfs_maps.specs.Mapped.{HasHeld, rows_of}
-use Rattle.bfs_rows.specs.RowTrees.{IsRowTree}
+use Rattle.bfs_maps.specs.RowTrees.{IsRowTree}
 use Rattle.bfs_sound.specs.Volumes.{Volume, sizes}
 use Rattle.bfs_sound.specs.Owners.{In}
 use Rattle.bfs_sound.specs.Inodes.{is_proper, proper_rows, id_of, HasBit, mode_bits, content}

@@ -1,6 +1,6 @@
 -- A row that is taken out of the rows of an attribute directory.
 use Rattle.std.proofs.Common.{◌≡◌, inl, inr, ◌≤◌, ◌^◌, ◌∙◌, ℕ, ℤ, List, [], ◌∷◌, ◌++◌, Bool, true, false, cond, Some, None, refl, sym, ap, subst, arith, map}
-use Rattle.std.specs.Prelude.{IfSome, IsSome}
+use Rattle.std.specs.Prelude.{IsSome}
 use Rattle.std.specs.FinMap.{find}
 use Rattle.std.specs.List.{filter, AllByRecursion}
 use Rattle.std.specs.Ordering.{eq_by_cmp}
@@ -82,16 +82,18 @@ module _ (name : List ℕ) (proper : is_proper name ≡ true) where
   same_name r e = (bytes_eq-Decides r.0 name).0 (sym (same_test name r.0) ∙ e)
 
   -- a row of the name has a number
-  pub number_named : (blocks : ℕ) → blocks ≤ 2 ^ 62 → (rows : List Row) → AreInodes blocks rows → IfSome (assoc Text rows name) IsNumber
-  number_named blocks few [] all = tt
-  number_named blocks few (r ∷ rs) all = by_test (eq_by_cmp text_cmp name r.0) refl (is_proper r.0) refl all (number_named blocks few rs)
+  pub number_named : (blocks : ℕ) → blocks ≤ 2 ^ 62 → (rows : List Row) → AreInodes blocks rows → (value : ℤ) → assoc Text rows name ≡ Some value → IsNumber value
+  number_named blocks few [] all value e = absurd (let bad : None ≡ Some value = e in cc)
+  number_named blocks few (r ∷ rs) all value e = by_test (eq_by_cmp text_cmp name r.0) refl (is_proper r.0) refl all e (λ more h. number_named blocks few rs more value h)
     where
       by_test : (b : Bool) → eq_by_cmp text_cmp name r.0 ≡ b → (p : Bool) → is_proper r.0 ≡ p → AllByRecursion (IsInodeRow blocks) (cond p (r ∷ filter is_row rs) (filter is_row rs))
-          → (AreInodes blocks rs → IfSome (assoc Text rs name) IsNumber) → IfSome (cond b (Some r.1) (assoc Text rs name)) IsNumber
-      by_test true same true is all rest = let low = all.0.1 in (id_of r, all.0.0, omega (arith, low, few))
-      by_test true same false is all rest = let bad : false ≡ true = sym is ∙ ap is_proper (same_name r same) ∙ proper in cc
-      by_test false same true is all rest = rest all.1
-      by_test false same false is all rest = rest all
+          → cond b (Some r.1) (assoc Text rs name) ≡ Some value → (AreInodes blocks rs → assoc Text rs name ≡ Some value → IsNumber value) → IsNumber value
+      by_test true same true is all e rest =
+          let low = all.0.1 in
+          let at : r.1 ≡ value = cc in subst IsNumber at (id_of r, all.0.0, omega (arith, low, few))
+      by_test true same false is all e rest = let bad : false ≡ true = sym is ∙ ap is_proper (same_name r same) ∙ proper in cc
+      by_test false same true is all e rest = rest all.1 e
+      by_test false same false is all e rest = rest all e
 
   -- no attribute has a name that no row has
   pub none_behind : (entry : Row → Attribute) (rows : List Row) → assoc Text rows name ≡ None → HasNone (map {B = Named} (λ r. (r.0, entry r)) (filter is_row rows)) name

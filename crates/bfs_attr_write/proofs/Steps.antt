@@ -17,7 +17,7 @@ use Rattle.bfs_tree.specs.Trees.{Attribute}
 use Rattle.bfs_values.specs.Rows.{rows_in}
 use Rattle.bfs_maps.specs.Mapped.{rows_of}
 use Rattle.bfs_maps.specs.Refused.{IsPutFault}
-use Rattle.bfs_rows.specs.RowTrees.{AreRowsNow, HasTree}
+use Rattle.bfs_maps.specs.RowTrees.{AreRowsNow, HasTree}
 use Rattle.bfs_sound.specs.Volumes.{Volume}
 use Rattle.bfs_sound.specs.Inodes.{content, id_of}
 use Rattle.bfs_sound.specs.Attributes.{attributes_in, attributes_of, attribute_at, attribute_directory}

@@ -15,7 +15,7 @@ use Rattle.bfs_stream.specs.Sizes.{sizes_of, first_block}
 use Rattle.bfs_txn.specs.Told.{StaysChanged}
 use Rattle.bfs_tree.specs.Trees.{Attribute, Attributes}
 use Rattle.bfs_maps.specs.Mapped.{HasHeld, rows_of}
-use Rattle.bfs_rows.specs.RowTrees.{AreRowsNow}
+use Rattle.bfs_maps.specs.RowTrees.{AreRowsNow}
 use Rattle.bfs_make.specs.Given.{HasGivenBack}
 use Rattle.bfs_make.specs.Made.{HasStored}
 use Rattle.bfs_make.specs.declared.making.NewInode.{NewInode}

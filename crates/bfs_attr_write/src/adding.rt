@@ -19,9 +19,8 @@ ghost use Rattle.bfs_attr_write.specs.Adding.{CanAdd, IsStored, HasRowPut, IsRow
 
 use bfs_bitmap::Bitmap;
 use bfs_make::Site;
-use bfs_maps::TreeAt;
+use bfs_maps::{TreeAt, put_row};
 use bfs_node::KeyKind;
-use bfs_rows::put_row;
 use bfs_stream_pages::MapFault;
 use bfs_txn::Edits;
 

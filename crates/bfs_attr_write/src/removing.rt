@@ -19,9 +19,8 @@ ghost use Rattle.bfs_attr_write.specs.Removal.{CanTake, HasRowTaken, IsNotTakenO
 
 use bfs_bitmap::Bitmap;
 use bfs_make::{Site, blocks_in, give_inode};
-use bfs_maps::TreeAt;
+use bfs_maps::{TreeAt, take_row};
 use bfs_node::{KeyKind, TreeFault};
-use bfs_rows::take_row;
 use bfs_stream::GrowFault;
 use bfs_stream_pages::MapFault;
 use bfs_txn::{BlockFault, Edits};

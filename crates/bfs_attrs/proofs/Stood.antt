@@ -1,6 +1,6 @@
 -- What is told and held where an attribute is taken, and the faults of the steps.
-use Rattle.std.proofs.Common.{◌≡◌, inl, ◌∙◌, ℕ, ℤ, List, [], ◌∷◌, Bool, cond, Option, Some, None, refl, sym, ap, subst, arith}
-use Rattle.std.specs.Prelude.{Result, Ok, Err, IfErr, IfSome, IsSome}
+use Rattle.std.proofs.Common.{◌≡◌, inl, ◌∙◌, ℕ, List, [], ◌∷◌, Bool, cond, Option, Some, None, refl, sym, ap, subst, arith}
+use Rattle.std.specs.Prelude.{Result, Ok, Err, IfErr, IsSome}
 use Rattle.std.specs.FinMap.{find, get}
 use Rattle.bfs_base.specs.Keys.{text_cmp}
 use Rattle.bfs_base.specs.declared.kind.KeyKind.TheVariants.{Text}
@@ -11,13 +11,10 @@ use Rattle.bfs_txn.specs.Faults.{Counts, AreLater}
 use Rattle.bfs_stream.specs.Sizes.{Origin}
 use Rattle.bfs_stream.specs.declared.fault.GrowFault.{GrowFault}
 use Rattle.bfs_stream.proofs.Stops.{cause_wider}
-use Rattle.bfs_stream_pages.specs.Held.{stream_of}
 use Rattle.bfs_stream_pages.specs.GoesLaws.{readable}
 use Rattle.bfs_tree.specs.Trees.{Attribute}
 use Rattle.bfs_maps.specs.Mapped.{HasHeld, HasReadable}
-use Rattle.bfs_maps.specs.NumberTrees.{IsNumber, HoldsNumber}
 use Rattle.bfs_maps.specs.Refused.{IsUndone, HasReadCause, HasTakeCause}
-use Rattle.bfs_rows.specs.RowTrees.{HasTreeWith}
 use Rattle.bfs_sound.specs.Attributes.{Named, attributes_of, attribute_at, attribute_directory, attribute_inodes}
 use Rattle.bfs_sound.specs.Inodes.{id_of, content}
 use Rattle.bfs_sound.specs.Owners.{In}
@@ -56,9 +53,6 @@ take_earlier_kept a b c (Err fault) later h = take_earlier a b c fault later h
 -- a stream that is held can be read
 pub can_read : (o : Origin) (v : Room) (m : ℕ → Option (List ℕ)) → HasHeld o v m → HasReadable o m
 can_read o v m h = (h.0, readable o v h.0 m h.1)
-
-pub number_there : (name : List ℕ) (o : Origin) (v : Room) (m : ℕ → Option (List ℕ)) → HasTreeWith Text name o v m → HoldsNumber Text name (stream_of o m)
-number_there name o v m t = record { tree = t.tree.tree; number = λ value e. subst (λ (x : Option ℤ). IfSome x IsNumber) e t.tree.number }
 
 -- no attribute of a name is found where none has it
 pub none_finds : (name : List ℕ) (es : List Named) → HasNone es name → find text_cmp name es ≡ None

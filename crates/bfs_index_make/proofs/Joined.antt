@@ -26,7 +26,7 @@ use Rattle.bfs_tree.specs.Names.{is_bad_name, has_byte}
 use Rattle.bfs_tree.specs.Trees.{Node, Tree, is_file}
 use Rattle.bfs_maps.specs.Laws.{DiffersAt}
 use Rattle.bfs_maps.specs.Mapped.{HasHeld, rows_of}
-use Rattle.bfs_rows.specs.RowTrees.{IsRowTree, HasTree}
+use Rattle.bfs_maps.specs.RowTrees.{IsRowTree, HasTree}
 use Rattle.bfs_values.specs.Rows.{rows_in}
 use Rattle.bfs_sound.specs.Volumes.{Volume, sizes, bitmap_blocks, IsMarked}
 use Rattle.bfs_sound.specs.Inodes.{content, inode_blocks, is_proper, proper_rows}

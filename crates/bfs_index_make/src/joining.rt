@@ -14,7 +14,7 @@ ghost use Rattle.bfs_tree.specs.Names.{is_bad_name};
 ghost use Rattle.bfs_tree.specs.Trees.{Tree};
 ghost use Rattle.bfs_maps.specs.Mapped.{HasHeld, rows_of};
 ghost use Rattle.bfs_maps.specs.Refused.{IsPutFault, HasPutCause};
-ghost use Rattle.bfs_rows.specs.RowTrees.{HasTree, IsRowTree};
+ghost use Rattle.bfs_maps.specs.RowTrees.{HasTree, IsRowTree};
 ghost use Rattle.bfs_shift.specs.Lists.{Lists};
 ghost use Rattle.bfs_moves.specs.Written.{HasStreamSince};
 ghost use Rattle.bfs_calls.specs.Done.{IsUnanswered, HasAnswerCause};
@@ -22,10 +22,9 @@ ghost use Rattle.bfs_index_make.specs.Made.{IsToJoin, HasToJoin, HasIndexJoined}
 
 use bfs_bitmap::Bitmap;
 use bfs_calls::not_put;
-use bfs_maps::TreeAt;
+use bfs_maps::{TreeAt, put_row};
 use bfs_moves::check_inode;
 use bfs_node::KeyKind;
-use bfs_rows::put_row;
 use bfs_stream_pages::MapFault;
 use bfs_super::Super;
 use bfs_txn::Edits;

@@ -5,7 +5,8 @@ pub mod Sized
 pub mod Between
 pub mod MapLaws
 pub mod Looked
-pub mod Putting
+pub mod Changed
+pub mod Numbered
 pub use Rattle.bfs_values.proofs.Rows
 pub use Rattle.bfs_pages.proofs.Placed
 pub use Rattle.bfs_pages.proofs.Good

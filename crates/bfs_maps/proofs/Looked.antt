@@ -1,13 +1,13 @@
 -- A key that was looked up in the leaf on its way.
-use Rattle.std.proofs.Common.{◌≡◌, ◌<◌, ◌∙◌, ℕ, ℤ, pos, List, length, Option, Some, None, sym, ap, subst}
-use Rattle.std.specs.Prelude.{Ok, Err, IfSome}
+use Rattle.std.proofs.Common.{◌≡◌, ◌<◌, ◌∙◌, ℕ, ℤ, pos, List, length, Option, Some, None, sym, ap, subst, inl, inr}
+use Rattle.std.specs.Prelude.{Ok, Err, IfSome, ◌⊎◌}
 use Rattle.bfs_base.specs.declared.kind.KeyKind.{KeyKind}
 use Rattle.bfs_node.specs.Page.{Row, rows_of, row_in, value_of}
-use Rattle.bfs_node.specs.Search.{Ascends, IsPlace}
-use Rattle.bfs_node.specs.declared.fault.PageKind.TheVariants.{Leaf}
+use Rattle.bfs_node.specs.Search.{Ascends, IsPlace, key_at}
+use Rattle.bfs_node.specs.declared.fault.PageKind.TheVariants.{Header, Interior, Leaf, Fragment as FragmentKind, Duplicates}
 use Rattle.bfs_node.specs.declared.fault.TreeFault.{TreeFault}
 use Rattle.bfs_node.specs.declared.fault.TreeFault.TheVariants as fault
-use Rattle.bfs_pages.specs.Answers.{IsLeafFor, IsOfPages}
+use Rattle.bfs_pages.specs.Answers.{IsLeafFor, IsOfPages, IsBroken}
 use Rattle.bfs_pages.specs.Maps.{assoc}
 use Rattle.bfs_pages.specs.Order.{Key}
 use Rattle.bfs_pages.specs.Trees.{page_in}
@@ -19,7 +19,7 @@ use Rattle.bfs_values.specs.declared.link.Link.{Link}
 use Rattle.bfs_values.specs.declared.link.Link.TheVariants.{Number, Fragment, Chain, Nothing}
 use Rattle.bfs_values.proofs.Rows.{rows_those}
 use Rattle.bfs_maps.specs.NumberTrees.{IsNumber, IsNumberTree, HoldsNumber}
-use Rattle.bfs_maps.specs.Refused.{IsNumberPage, IsNotTaken}
+use Rattle.bfs_maps.specs.Refused.{IsNumberPage, IsUnlikeFor, IsBrokenFor, IsNotTaken}
 use Rattle.bfs_maps.proofs.Plain.{number_link, number_there}
 
 -- what the leaf says of the key, the tree says
@@ -84,3 +84,22 @@ of_pages_untaken kind rows key fault.Absent bad = absurd bad
 of_pages_untaken kind rows key (fault.Damaged page sort) bad = bad
 of_pages_untaken kind rows key (fault.Pages f) fine = tt
 of_pages_untaken kind rows key fault.NoMemory bad = bad
+
+-- what isn't of its kind isn't so either where a number is looked for
+pub unlike_for : {F : Type 0} (kind : KeyKind) (key : Key) (size last : ℕ) (seen : List ℕ) (f : TreeFault F) → IsBroken kind size last seen f → IsBrokenFor kind key size last seen f
+unlike_for kind key size last seen fault.Exists is = tt
+unlike_for kind key size last seen fault.Absent is = tt
+unlike_for kind key size last seen (fault.Damaged page sort) (inr none) = inr none
+unlike_for kind key size last seen (fault.Damaged page Header) (inl is) = inl is
+unlike_for kind key size last seen (fault.Damaged page Interior) (inl is) = inl is
+unlike_for kind key size last seen (fault.Damaged page Leaf) (inl is) = inl (is.0, inl is.1)
+unlike_for kind key size last seen (fault.Damaged page FragmentKind) (inl is) = inl is
+unlike_for kind key size last seen (fault.Damaged page Duplicates) (inl is) = inl is
+unlike_for kind key size last seen (fault.Pages f) is = tt
+unlike_for kind key size last seen fault.NoMemory is = tt
+
+-- a leaf that was read last is rightly blamed where its row with the key has no number
+pub numberless : (kind : KeyKind) (key : Key) (size last leaf : ℕ) (seen page : List ℕ) (i : ℕ) → last ≡ leaf → seen ≡ page → i < length (rows_of page) → key_at (rows_of page) i ≡ key → (IsNumber (value_of (row_in (rows_of page) i)) → ⊥)
+    → ((leaf ≡ last) × IsUnlikeFor kind key size seen Leaf) ⊎ ((size ≡ 0) × (leaf ≡ 0) × (Leaf ≡ Header))
+numberless kind key size last leaf seen page i at same low there other =
+    inl (sym at, subst (λ (b : List ℕ). IsUnlikeFor kind key size b Leaf) (sym same) (inr (i, low, there, other)))

@@ -5,19 +5,24 @@ use Rattle.bfs_base.specs.declared.kind.KeyKind.{KeyKind}
 use Rattle.bfs_bitmap.specs.Runs.{Room}
 use Rattle.bfs_node.specs.declared.fault.PageKind.{PageKind}
 use Rattle.bfs_node.specs.declared.fault.TreeFault.{TreeFault}
+use Rattle.bfs_pages.specs.Order.{Key}
 use Rattle.bfs_stream.specs.Sizes.{Origin}
 use Rattle.bfs_stream.specs.declared.fault.GrowFault.{GrowFault}
 use Rattle.bfs_maps.specs.Refused.{IsChangeFault, IsTakingFault}
 use Rattle.bfs_stream_pages.specs.Held.{Held, stream_of}
+use Rattle.bfs_values.specs.Reached.{IsWholeTree}
 use Rattle.bfs_maps.specs.Mapped.{StreamNow}
-use Rattle.bfs_maps.specs.NumberTrees.{IsNumberTree}
+use Rattle.bfs_maps.specs.NumberTrees.{HoldsNumber}
 
 -- the same stream by other names
 abbrev pub held_named : (o other : Origin) (v room : Room) (long length : ℕ) (m : ℕ → Option (List ℕ)) → other ≡ o → room ≡ v → length ≡ long → Held o v long m → Held other room length m
 held_named o other v room long length m a b c h = subst (λ (x : Origin × Room × ℕ). Held x.0 x.1 x.2 m) (λ i. (sym a i, sym b i, sym c i)) h
 
-abbrev pub tree_named : (kind : KeyKind) (o other : Origin) (m : ℕ → Option (List ℕ)) → other ≡ o → IsNumberTree kind (stream_of o m) → IsNumberTree kind (stream_of other m)
-tree_named kind o other m a t = subst (λ (x : Origin). IsNumberTree kind (stream_of x m)) (sym a) t
+abbrev pub whole_named : (kind : KeyKind) (o other : Origin) (m : ℕ → Option (List ℕ)) → other ≡ o → IsWholeTree kind (stream_of o m) → IsWholeTree kind (stream_of other m)
+whole_named kind o other m a t = subst (λ (x : Origin). IsWholeTree kind (stream_of x m)) (sym a) t
+
+abbrev pub with_named : (kind : KeyKind) (key : Key) (o other : Origin) (m : ℕ → Option (List ℕ)) → other ≡ o → HoldsNumber kind key (stream_of o m) → HoldsNumber kind key (stream_of other m)
+with_named kind key o other m a t = subst (λ (x : Origin). HoldsNumber kind key (stream_of x m)) (sym a) t
 
 -- the names of all that a change of a stream speaks of
 pub record Names : Type 0 where

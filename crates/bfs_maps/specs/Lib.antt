@@ -1,5 +1,6 @@
 pub mod NumberTrees
 pub mod Mapped
+pub mod RowTrees
 pub mod Refused
 pub mod Laws
 pub use Rattle.bfs_stream_pages.specs.MovesLaws

@@ -1,15 +1,16 @@
 -- Why a call on a tree in a stream is refused.
-use Rattle.std.specs.Prelude.{◌≡◌, ◌⊎◌, ◌%◌, ℕ, ℤ, pos, List, Option, None, Some, IfSome}
+use Rattle.std.specs.Prelude.{◌≡◌, ◌<◌, ◌⊎◌, ◌%◌, ℕ, ℤ, pos, List, length, Option, None, Some, IfSome}
 use Rattle.bfs_base.specs.declared.kind.KeyKind.{KeyKind}
 use Rattle.bfs_bitmap.specs.Runs.{Room}
-use Rattle.bfs_node.specs.Page.{Row}
+use Rattle.bfs_node.specs.Page.{Row, rows_of, row_in, value_of}
+use Rattle.bfs_node.specs.Search.{key_at}
 use Rattle.bfs_node.specs.declared.fault.PageKind.{PageKind}
 use Rattle.bfs_node.specs.declared.fault.PageKind.TheVariants.{Header, Interior, Leaf, Fragment, Duplicates}
 use Rattle.bfs_node.specs.declared.fault.TreeFault.{TreeFault}
 use Rattle.bfs_node.specs.declared.fault.TreeFault.TheVariants.{Exists, Absent, Damaged, Pages, NoMemory}
 use Rattle.bfs_txn.specs.Faults.{Counts}
 use Rattle.bfs_txn.specs.declared.fault.BlockFault.TheVariants as block
-use Rattle.bfs_pages.specs.Answers.{IsOfKind}
+use Rattle.bfs_pages.specs.Answers.{IsOfKind, IsUnlike}
 use Rattle.bfs_pages.specs.Maps.{assoc}
 use Rattle.bfs_pages.specs.Order.{Key}
 use Rattle.bfs_stream.specs.Faults.{IsGrowCause}
@@ -39,6 +40,27 @@ IsUnnumbered kind told cause Absent = ⊥
 IsUnnumbered kind told cause (Damaged page sort) = IfSome told (λ bytes. ¬ IsNumberPage kind bytes page sort)
 IsUnnumbered kind told cause (Pages fault) = cause fault
 IsUnnumbered kind told cause NoMemory = ⊥
+
+-- these bytes have a row with this key, whose value is no number
+abbrev pub HasNoNumber : Key → List ℕ → Type 0
+HasNoNumber key page = (i : ℕ) × (i < length (rows_of page)) × (key_at (rows_of page) i ≡ key) × (¬ IsNumber (value_of (row_in (rows_of page) i)))
+
+-- these bytes are no page of this kind, or a leaf that has this key without a number
+abbrev pub IsUnlikeFor : KeyKind → Key → ℕ → List ℕ → PageKind → Type 0
+IsUnlikeFor kind key size page Header = IsUnlike kind size page Header
+IsUnlikeFor kind key size page Interior = IsUnlike kind size page Interior
+IsUnlikeFor kind key size page Leaf = IsUnlike kind size page Leaf ⊎ HasNoNumber key page
+IsUnlikeFor kind key size page Fragment = IsUnlike kind size page Fragment
+IsUnlikeFor kind key size page Duplicates = IsUnlike kind size page Duplicates
+
+-- the page that is blamed is the one that was read last, and the bytes that were read are no page of its kind, or a leaf that has
+-- the key without a number; or the stream has no pages, and it is the header
+abbrev pub IsBrokenFor : {F : Type 0} → KeyKind → Key → ℕ → ℕ → List ℕ → TreeFault F → Type 0
+IsBrokenFor kind key size last seen Exists = Unit {0}
+IsBrokenFor kind key size last seen Absent = Unit {0}
+IsBrokenFor kind key size last seen (Damaged page sort) = ((page ≡ last) × IsUnlikeFor kind key size seen sort) ⊎ ((size ≡ 0) × (page ≡ 0) × (sort ≡ Header))
+IsBrokenFor kind key size last seen (Pages fault) = Unit {0}
+IsBrokenFor kind key size last seen NoMemory = Unit {0}
 
 -- where the key isn't there, the stream stays; else a page isn't of its kind, or a call of the pages failed
 abbrev pub IsTurnedAway : {F : Type 0} → KeyKind → Option (List ℕ) → Option (List ℕ) → (F → Type 0) → TreeFault F → Type 0

@@ -5,7 +5,8 @@
 
 mod block;
 mod laws;
-mod numbers;
+mod over_pages;
+mod putting;
 mod reading;
 mod size;
 mod tree;
@@ -13,7 +14,8 @@ mod writing;
 
 pub use block::block_of_page;
 pub use laws::{names_differ, puts_at_key, takes_at_key};
+pub use putting::{put_number, take_number};
 pub use reading::{number_at, rows_from};
 pub use size::stream_size;
 pub use tree::TreeAt;
-pub use writing::{put_number, take_number};
+pub use writing::{put_row, take_row};

@@ -15,7 +15,7 @@ ghost use Rattle.bfs_maps.specs.NumberTrees.{HoldsNumber, IsNumberAt};
 ghost use Rattle.bfs_maps.specs.Refused.{IsNumberPage, IsReadFault, HasReadCause, IsUndone};
 
 use crate::TreeAt;
-use crate::numbers::number_in;
+use crate::over_pages::number_in;
 use crate::size::stream_size;
 use bfs_node::{KeyKind, TreeFault};
 use bfs_range::{Ranged, range};

@@ -1,4 +1,4 @@
-// Changes of a tree in a stream.
+// Changes of a tree in a stream, at a key whose value is a plain number.
 ghost use Rattle.std.specs.Prelude.{◌≡◌, ◌≤◌, ◌<◌, ◌⊎◌, ◌^◌, ◌%◌, ℕ, pos, true, List, Option, None, Some, OnOk, IfOk, IfErr};
 ghost use Rattle.bfs_base.specs.Keys.{IsKey, IsTreeKind};
 ghost use Rattle.bfs_super.specs.Conditions.{IsValid, natural};
@@ -11,12 +11,14 @@ ghost use Rattle.bfs_pages.specs.Maps.{assoc, put, without};
 ghost use Rattle.bfs_stream.specs.Grown.{IsOfVolume};
 ghost use Rattle.bfs_stream.specs.Sizes.{sizes_of};
 ghost use Rattle.bfs_stream_pages.specs.Held.{Held, stream_of};
-ghost use Rattle.bfs_maps.specs.Mapped.{origin_of, rows_of, HasHeld, IsMap, HasRowsNow};
-ghost use Rattle.bfs_maps.specs.NumberTrees.{IsNumberTree};
+ghost use Rattle.bfs_values.specs.Reached.{IsWholeTree};
+ghost use Rattle.bfs_maps.specs.Mapped.{origin_of, rows_of, HasHeld};
+ghost use Rattle.bfs_maps.specs.NumberTrees.{HoldsNumber};
+ghost use Rattle.bfs_maps.specs.RowTrees.{HasTree, HasTreeWith, AreRowsNow};
 ghost use Rattle.bfs_maps.specs.Refused.{IsNumberPage, IsChangeFault, IsTakingFault, IsPutFault, IsTakeFault, HasPutCause, HasTakeCause};
 
 use crate::TreeAt;
-use crate::numbers::{put_in, take_in};
+use crate::over_pages::{put_in, take_in};
 use crate::size::stream_size;
 use bfs_bitmap::Bitmap;
 use bfs_node::{KeyKind, TreeFault};
@@ -38,9 +40,9 @@ fn put_over<E: Edits, L: Ledger>(
     requires kind { IsTreeKind kind }
     requires key { IsKey kind key.now }
     requires number { number < 2 ^ 62 }
-    ensures put { (m : ℕ → Option (List ℕ)) → E.told pages.old.edits.now ≡ Some m → Held pages.old.backing pages.old.bitmap.now pages.old.length m → IsNumberTree kind (stream_of pages.old.backing m) → OnOk result (HasRowsNow kind pages.old.backing pages.old.bitmap.now pages.new.bitmap.now m (put kind (rows_of kind pages.old.backing m) key.now (pos number)) (E.told pages.new.edits.now) (E.changed pages.old.edits.now) (E.changed pages.new.edits.now)) }
-    ensures absent { (m : ℕ → Option (List ℕ)) → E.told pages.old.edits.now ≡ Some m → Held pages.old.backing pages.old.bitmap.now pages.old.length m → IsNumberTree kind (stream_of pages.old.backing m) → OnOk result (assoc kind (rows_of kind pages.old.backing m) key.now ≡ None) }
-    ensures refused { (m : ℕ → Option (List ℕ)) → E.told pages.old.edits.now ≡ Some m → Held pages.old.backing pages.old.bitmap.now pages.old.length m → IsNumberTree kind (stream_of pages.old.backing m) → IfErr result (IsPutFault kind pages.old.backing pages.old.bitmap.now m (rows_of kind pages.old.backing m) key.now) }
+    ensures put { (m : ℕ → Option (List ℕ)) → E.told pages.old.edits.now ≡ Some m → Held pages.old.backing pages.old.bitmap.now pages.old.length m → IsWholeTree kind (stream_of pages.old.backing m) → OnOk result (AreRowsNow kind pages.old.backing pages.old.bitmap.now pages.new.bitmap.now m (put kind (rows_of kind pages.old.backing m) key.now (pos number)) (E.told pages.new.edits.now) (E.changed pages.old.edits.now) (E.changed pages.new.edits.now)) }
+    ensures absent { (m : ℕ → Option (List ℕ)) → E.told pages.old.edits.now ≡ Some m → Held pages.old.backing pages.old.bitmap.now pages.old.length m → IsWholeTree kind (stream_of pages.old.backing m) → OnOk result (assoc kind (rows_of kind pages.old.backing m) key.now ≡ None) }
+    ensures refused { (m : ℕ → Option (List ℕ)) → E.told pages.old.edits.now ≡ Some m → Held pages.old.backing pages.old.bitmap.now pages.old.length m → IsWholeTree kind (stream_of pages.old.backing m) → IfErr result (IsPutFault kind pages.old.backing pages.old.bitmap.now m (rows_of kind pages.old.backing m) key.now) }
     ensures blamed { (m : ℕ → Option (List ℕ)) → E.told pages.old.edits.now ≡ Some m → Held pages.old.backing pages.old.bitmap.now pages.old.length m → IfErr result (IsChangeFault (IsOfKind kind) pages.old.backing pages.old.bitmap.now m (E.told pages.new.edits.now)) }
     ensures rest { pages.new.bitmap.now ≡ record pages.old.bitmap.now { tally = pages.new.bitmap.now.tally } }
     ensures backing { pages.new.backing ≡ pages.old.backing }
@@ -77,9 +79,9 @@ fn put_with<E: Edits, L: Ledger>(
     requires volume { IsOfVolume (sizes_of tree.sup) bitmap.old }
     requires whole { length % 1024 ≡ 0 }
     requires held { (m : ℕ → Option (List ℕ)) → E.told edits.old ≡ Some m → ∥ Held (origin_of tree) bitmap.old length m ∥₁ }
-    ensures put { (m : ℕ → Option (List ℕ)) → E.told edits.old ≡ Some m → Held (origin_of tree) bitmap.old length m → IsNumberTree tree.kind (stream_of (origin_of tree) m) → OnOk result (HasRowsNow tree.kind (origin_of tree) bitmap.old bitmap.new m (put tree.kind (rows_of tree.kind (origin_of tree) m) key.now (pos number)) (E.told edits.new) (E.changed edits.old) (E.changed edits.new)) }
-    ensures absent { (m : ℕ → Option (List ℕ)) → E.told edits.old ≡ Some m → Held (origin_of tree) bitmap.old length m → IsNumberTree tree.kind (stream_of (origin_of tree) m) → OnOk result (assoc tree.kind (rows_of tree.kind (origin_of tree) m) key.now ≡ None) }
-    ensures refused { (m : ℕ → Option (List ℕ)) → E.told edits.old ≡ Some m → Held (origin_of tree) bitmap.old length m → IsNumberTree tree.kind (stream_of (origin_of tree) m) → IfErr result (IsPutFault tree.kind (origin_of tree) bitmap.old m (rows_of tree.kind (origin_of tree) m) key.now) }
+    ensures put { (m : ℕ → Option (List ℕ)) → E.told edits.old ≡ Some m → Held (origin_of tree) bitmap.old length m → IsWholeTree tree.kind (stream_of (origin_of tree) m) → OnOk result (AreRowsNow tree.kind (origin_of tree) bitmap.old bitmap.new m (put tree.kind (rows_of tree.kind (origin_of tree) m) key.now (pos number)) (E.told edits.new) (E.changed edits.old) (E.changed edits.new)) }
+    ensures absent { (m : ℕ → Option (List ℕ)) → E.told edits.old ≡ Some m → Held (origin_of tree) bitmap.old length m → IsWholeTree tree.kind (stream_of (origin_of tree) m) → OnOk result (assoc tree.kind (rows_of tree.kind (origin_of tree) m) key.now ≡ None) }
+    ensures refused { (m : ℕ → Option (List ℕ)) → E.told edits.old ≡ Some m → Held (origin_of tree) bitmap.old length m → IsWholeTree tree.kind (stream_of (origin_of tree) m) → IfErr result (IsPutFault tree.kind (origin_of tree) bitmap.old m (rows_of tree.kind (origin_of tree) m) key.now) }
     ensures blamed { (m : ℕ → Option (List ℕ)) → E.told edits.old ≡ Some m → Held (origin_of tree) bitmap.old length m → IfErr result (IsChangeFault (IsOfKind tree.kind) (origin_of tree) bitmap.old m (E.told edits.new)) }
     ensures rest { bitmap.new ≡ record bitmap.old { tally = bitmap.new.tally } }
     ensures changed { (k : ℕ) → E.changed edits.new k ≡ true → (E.changed edits.old k ≡ true) ⊎ (IsBitmapBlock bitmap.old k ⊎ (k < natural tree.sup.num_blocks)) }
@@ -96,8 +98,8 @@ fn put_with<E: Edits, L: Ledger>(
     put_over(&mut pages, tree.kind, key, number, &mut steps)
 }
 
-/// Puts a key with a number into a tree, where the key isn't there.
-pub fn put_number<E: Edits>(
+/// Puts a key with a number into a tree, where the key isn't there. Rows that mean anything else stay.
+pub fn put_row<E: Edits>(
     tree: TreeAt,
     bitmap: &mut Bitmap,
     edits: &mut E,
@@ -112,9 +114,9 @@ pub fn put_number<E: Edits>(
     requires size { E.size edits.old ≡ tree.sup.block_size }
     requires volume { IsOfVolume (sizes_of tree.sup) bitmap.old }
     requires stream { (m : ℕ → Option (List ℕ)) → E.told edits.old ≡ Some m → HasHeld (origin_of tree) bitmap.old m }
-    ensures put { (m : ℕ → Option (List ℕ)) → E.told edits.old ≡ Some m → IsMap tree.kind (origin_of tree) bitmap.old m → OnOk result (HasRowsNow tree.kind (origin_of tree) bitmap.old bitmap.new m (put tree.kind (rows_of tree.kind (origin_of tree) m) key.now (pos number)) (E.told edits.new) (E.changed edits.old) (E.changed edits.new)) }
-    ensures absent { (m : ℕ → Option (List ℕ)) → E.told edits.old ≡ Some m → IsMap tree.kind (origin_of tree) bitmap.old m → OnOk result (assoc tree.kind (rows_of tree.kind (origin_of tree) m) key.now ≡ None) }
-    ensures refused { (m : ℕ → Option (List ℕ)) → E.told edits.old ≡ Some m → IsMap tree.kind (origin_of tree) bitmap.old m → IfErr result (IsPutFault tree.kind (origin_of tree) bitmap.old m (rows_of tree.kind (origin_of tree) m) key.now) }
+    ensures put { (m : ℕ → Option (List ℕ)) → E.told edits.old ≡ Some m → HasTree tree.kind (origin_of tree) bitmap.old m → OnOk result (AreRowsNow tree.kind (origin_of tree) bitmap.old bitmap.new m (put tree.kind (rows_of tree.kind (origin_of tree) m) key.now (pos number)) (E.told edits.new) (E.changed edits.old) (E.changed edits.new)) }
+    ensures absent { (m : ℕ → Option (List ℕ)) → E.told edits.old ≡ Some m → HasTree tree.kind (origin_of tree) bitmap.old m → OnOk result (assoc tree.kind (rows_of tree.kind (origin_of tree) m) key.now ≡ None) }
+    ensures refused { (m : ℕ → Option (List ℕ)) → E.told edits.old ≡ Some m → HasTree tree.kind (origin_of tree) bitmap.old m → IfErr result (IsPutFault tree.kind (origin_of tree) bitmap.old m (rows_of tree.kind (origin_of tree) m) key.now) }
     ensures blamed { (m : ℕ → Option (List ℕ)) → E.told edits.old ≡ Some m → IfErr result (IsChangeFault (IsOfKind tree.kind) (origin_of tree) bitmap.old m (E.told edits.new)) }
     ensures rest { bitmap.new ≡ record bitmap.old { tally = bitmap.new.tally } }
     ensures changed { (k : ℕ) → E.changed edits.new k ≡ true → (E.changed edits.old k ≡ true) ⊎ (IsBitmapBlock bitmap.old k ⊎ (k < natural tree.sup.num_blocks)) }
@@ -143,9 +145,9 @@ fn take_over<E: Edits, L: Ledger>(
     requires begun { pages.old.start.value ≡ pages.old.edits.now }
     requires kind { IsTreeKind kind }
     requires key { IsSought kind key.now }
-    ensures taken { (m : ℕ → Option (List ℕ)) → E.told pages.old.edits.now ≡ Some m → Held pages.old.backing pages.old.bitmap.now pages.old.length m → IsNumberTree kind (stream_of pages.old.backing m) → OnOk result (HasRowsNow kind pages.old.backing pages.old.bitmap.now pages.new.bitmap.now m (without kind (rows_of kind pages.old.backing m) key.now) (E.told pages.new.edits.now) (E.changed pages.old.edits.now) (E.changed pages.new.edits.now)) }
-    ensures number { (m : ℕ → Option (List ℕ)) → E.told pages.old.edits.now ≡ Some m → Held pages.old.backing pages.old.bitmap.now pages.old.length m → IsNumberTree kind (stream_of pages.old.backing m) → IfOk result (λ number. assoc kind (rows_of kind pages.old.backing m) key.now ≡ Some (pos number)) }
-    ensures refused { (m : ℕ → Option (List ℕ)) → E.told pages.old.edits.now ≡ Some m → Held pages.old.backing pages.old.bitmap.now pages.old.length m → IsNumberTree kind (stream_of pages.old.backing m) → IfErr result (IsTakeFault kind (rows_of kind pages.old.backing m) key.now) }
+    ensures taken { (m : ℕ → Option (List ℕ)) → E.told pages.old.edits.now ≡ Some m → Held pages.old.backing pages.old.bitmap.now pages.old.length m → HoldsNumber kind key.now (stream_of pages.old.backing m) → OnOk result (AreRowsNow kind pages.old.backing pages.old.bitmap.now pages.new.bitmap.now m (without kind (rows_of kind pages.old.backing m) key.now) (E.told pages.new.edits.now) (E.changed pages.old.edits.now) (E.changed pages.new.edits.now)) }
+    ensures number { (m : ℕ → Option (List ℕ)) → E.told pages.old.edits.now ≡ Some m → Held pages.old.backing pages.old.bitmap.now pages.old.length m → HoldsNumber kind key.now (stream_of pages.old.backing m) → IfOk result (λ number. assoc kind (rows_of kind pages.old.backing m) key.now ≡ Some (pos number)) }
+    ensures refused { (m : ℕ → Option (List ℕ)) → E.told pages.old.edits.now ≡ Some m → Held pages.old.backing pages.old.bitmap.now pages.old.length m → HoldsNumber kind key.now (stream_of pages.old.backing m) → IfErr result (IsTakeFault kind (rows_of kind pages.old.backing m) key.now) }
     ensures blamed { (m : ℕ → Option (List ℕ)) → E.told pages.old.edits.now ≡ Some m → Held pages.old.backing pages.old.bitmap.now pages.old.length m → IfErr result (IsTakingFault (IsNumberPage kind) pages.old.backing m (E.told pages.new.edits.now)) }
     ensures rest { pages.new.bitmap.now ≡ record pages.old.bitmap.now { tally = pages.new.bitmap.now.tally } }
     ensures backing { pages.new.backing ≡ pages.old.backing }
@@ -180,9 +182,9 @@ fn take_with<E: Edits, L: Ledger>(
     requires volume { IsOfVolume (sizes_of tree.sup) bitmap.old }
     requires whole { length % 1024 ≡ 0 }
     requires held { (m : ℕ → Option (List ℕ)) → E.told edits.old ≡ Some m → ∥ Held (origin_of tree) bitmap.old length m ∥₁ }
-    ensures taken { (m : ℕ → Option (List ℕ)) → E.told edits.old ≡ Some m → Held (origin_of tree) bitmap.old length m → IsNumberTree tree.kind (stream_of (origin_of tree) m) → OnOk result (HasRowsNow tree.kind (origin_of tree) bitmap.old bitmap.new m (without tree.kind (rows_of tree.kind (origin_of tree) m) key.now) (E.told edits.new) (E.changed edits.old) (E.changed edits.new)) }
-    ensures number { (m : ℕ → Option (List ℕ)) → E.told edits.old ≡ Some m → Held (origin_of tree) bitmap.old length m → IsNumberTree tree.kind (stream_of (origin_of tree) m) → IfOk result (λ number. assoc tree.kind (rows_of tree.kind (origin_of tree) m) key.now ≡ Some (pos number)) }
-    ensures refused { (m : ℕ → Option (List ℕ)) → E.told edits.old ≡ Some m → Held (origin_of tree) bitmap.old length m → IsNumberTree tree.kind (stream_of (origin_of tree) m) → IfErr result (IsTakeFault tree.kind (rows_of tree.kind (origin_of tree) m) key.now) }
+    ensures taken { (m : ℕ → Option (List ℕ)) → E.told edits.old ≡ Some m → Held (origin_of tree) bitmap.old length m → HoldsNumber tree.kind key.now (stream_of (origin_of tree) m) → OnOk result (AreRowsNow tree.kind (origin_of tree) bitmap.old bitmap.new m (without tree.kind (rows_of tree.kind (origin_of tree) m) key.now) (E.told edits.new) (E.changed edits.old) (E.changed edits.new)) }
+    ensures number { (m : ℕ → Option (List ℕ)) → E.told edits.old ≡ Some m → Held (origin_of tree) bitmap.old length m → HoldsNumber tree.kind key.now (stream_of (origin_of tree) m) → IfOk result (λ number. assoc tree.kind (rows_of tree.kind (origin_of tree) m) key.now ≡ Some (pos number)) }
+    ensures refused { (m : ℕ → Option (List ℕ)) → E.told edits.old ≡ Some m → Held (origin_of tree) bitmap.old length m → HoldsNumber tree.kind key.now (stream_of (origin_of tree) m) → IfErr result (IsTakeFault tree.kind (rows_of tree.kind (origin_of tree) m) key.now) }
     ensures blamed { (m : ℕ → Option (List ℕ)) → E.told edits.old ≡ Some m → Held (origin_of tree) bitmap.old length m → IfErr result (IsTakingFault (IsNumberPage tree.kind) (origin_of tree) m (E.told edits.new)) }
     ensures rest { bitmap.new ≡ record bitmap.old { tally = bitmap.new.tally } }
     ensures changed { (k : ℕ) → E.changed edits.new k ≡ true → (E.changed edits.old k ≡ true) ⊎ (IsBitmapBlock bitmap.old k ⊎ (k < natural tree.sup.num_blocks)) }
@@ -199,8 +201,8 @@ fn take_with<E: Edits, L: Ledger>(
     take_over(&mut pages, tree.kind, key, &mut steps)
 }
 
-/// Takes a key out of a tree, and tells its number.
-pub fn take_number<E: Edits>(
+/// Takes a key with a plain number out of a tree, and tells that. Rows that mean anything else stay.
+pub fn take_row<E: Edits>(
     tree: TreeAt,
     bitmap: &mut Bitmap,
     edits: &mut E,
@@ -213,9 +215,9 @@ pub fn take_number<E: Edits>(
     requires size { E.size edits.old ≡ tree.sup.block_size }
     requires volume { IsOfVolume (sizes_of tree.sup) bitmap.old }
     requires stream { (m : ℕ → Option (List ℕ)) → E.told edits.old ≡ Some m → HasHeld (origin_of tree) bitmap.old m }
-    ensures taken { (m : ℕ → Option (List ℕ)) → E.told edits.old ≡ Some m → IsMap tree.kind (origin_of tree) bitmap.old m → OnOk result (HasRowsNow tree.kind (origin_of tree) bitmap.old bitmap.new m (without tree.kind (rows_of tree.kind (origin_of tree) m) key.now) (E.told edits.new) (E.changed edits.old) (E.changed edits.new)) }
-    ensures number { (m : ℕ → Option (List ℕ)) → E.told edits.old ≡ Some m → IsMap tree.kind (origin_of tree) bitmap.old m → IfOk result (λ number. assoc tree.kind (rows_of tree.kind (origin_of tree) m) key.now ≡ Some (pos number)) }
-    ensures refused { (m : ℕ → Option (List ℕ)) → E.told edits.old ≡ Some m → IsMap tree.kind (origin_of tree) bitmap.old m → IfErr result (IsTakeFault tree.kind (rows_of tree.kind (origin_of tree) m) key.now) }
+    ensures taken { (m : ℕ → Option (List ℕ)) → E.told edits.old ≡ Some m → HasTreeWith tree.kind key.now (origin_of tree) bitmap.old m → OnOk result (AreRowsNow tree.kind (origin_of tree) bitmap.old bitmap.new m (without tree.kind (rows_of tree.kind (origin_of tree) m) key.now) (E.told edits.new) (E.changed edits.old) (E.changed edits.new)) }
+    ensures number { (m : ℕ → Option (List ℕ)) → E.told edits.old ≡ Some m → HasTreeWith tree.kind key.now (origin_of tree) bitmap.old m → IfOk result (λ number. assoc tree.kind (rows_of tree.kind (origin_of tree) m) key.now ≡ Some (pos number)) }
+    ensures refused { (m : ℕ → Option (List ℕ)) → E.told edits.old ≡ Some m → HasTreeWith tree.kind key.now (origin_of tree) bitmap.old m → IfErr result (IsTakeFault tree.kind (rows_of tree.kind (origin_of tree) m) key.now) }
     ensures blamed { (m : ℕ → Option (List ℕ)) → E.told edits.old ≡ Some m → IfErr result (IsTakingFault (IsNumberPage tree.kind) (origin_of tree) m (E.told edits.new)) }
     ensures rest { bitmap.new ≡ record bitmap.old { tally = bitmap.new.tally } }
     ensures changed { (k : ℕ) → E.changed edits.new k ≡ true → (E.changed edits.old k ≡ true) ⊎ (IsBitmapBlock bitmap.old k ⊎ (k < natural tree.sup.num_blocks)) }

@@ -1,6 +1,5 @@
 -- What is known of an index that is there, and of the index directory that names it.
 use Rattle.std.proofs.Common.{◌≡◌, ◌≢◌, ◌<◌, ◌∙◌, ℕ, ℤ, pos, List, [], ◌++◌, refl, sym, arith, Bool, true, false, Option, Some, None}
-use Rattle.std.specs.Prelude.{IfSome}
 use Rattle.bfs_base.specs.Lists.{times}
 use Rattle.bfs_base.specs.declared.kind.KeyKind.TheVariants.{Text}
 use Rattle.bfs_super.specs.Conditions.{IsValid}
@@ -14,8 +13,7 @@ use Rattle.bfs_stream.specs.Told.{AreTold}
 use Rattle.bfs_stream.proofs.Doubles.{times-append}
 use Rattle.bfs_tree.specs.Trees.{Tree}
 use Rattle.bfs_maps.specs.Mapped.{HasHeld, rows_of}
-use Rattle.bfs_maps.specs.NumberTrees.{IsNumber}
-use Rattle.bfs_rows.specs.RowTrees.{HasTreeWith}
+use Rattle.bfs_maps.specs.RowTrees.{HasTreeWith}
 use Rattle.bfs_sound.specs.Volumes.{Volume}
 use Rattle.bfs_sound.specs.Inodes.{inode_blocks, is_proper}
 use Rattle.bfs_sound.specs.Owners.{reach}
@@ -30,10 +28,6 @@ use Rattle.bfs_look.specs.Ready.{IsReady}
 use Rattle.bfs_query.proofs.Indexed.{improper_none, index_number}
 use Rattle.bfs_remove_index.specs.Removed.{IsOwnIndex}
 use Rattle.bfs_remove_index.proofs.Taken.{directory_few}
-
-if_some : (o : Option ℤ) (P : ℤ → Type 0) → ((x : ℤ) → o ≡ Some x → P x) → IfSome o P
-if_some None P each = tt
-if_some (Some x) P each = each x refl
 
 module _ (s : Super) (v : Room) (m : ℕ → Option (List ℕ)) (tree : Tree) (lists : Lists) (valid : IsValid s) (ready : IsReady (geometry_of s) v m tree lists) (name : List ℕ) (own : IsOwnIndex tree name) where
   abbrev g : Geometry
@@ -73,9 +67,7 @@ module _ (s : Super) (v : Room) (m : ℕ → Option (List ℕ)) (tree : Tree) (l
   directory_held = owner_held g v m g.indices (names_own g v m tree lists [] ready.work.stocked ready.work.volume (some_bytes s valid) ready.work.fits there directory_told) directory_told
 
   pub directory_tree : HasTreeWith Text name o v m
-  directory_tree =
-      let holds = names_hold s v m tree lists [] valid ready.work there name proper (index_number s v m tree lists valid ready name) in
-      record { held = directory_held; tree = record { tree = holds.tree; number = if_some (assoc Text (rows_of Text o m) name) IsNumber holds.number } }
+  directory_tree = record { held = directory_held; tree = names_hold s v m tree lists [] valid ready.work there name proper (index_number s v m tree lists valid ready name) }
 
   -- the row of the index directory is the lists'
   pub row_found : (id : ℕ) → assoc Text (rows_of Text o m) name ≡ Some (pos id) → assoc Text lists.names name ≡ Some (pos id)

@@ -24,7 +24,7 @@ use Rattle.bfs_stream_pages.specs.MovesLaws.{whole_moves}
 use Rattle.bfs_tree.specs.Trees.{Node, Tree, is_file}
 use Rattle.bfs_maps.specs.Laws.{DiffersAt}
 use Rattle.bfs_maps.specs.Mapped.{HasHeld, rows_of}
-use Rattle.bfs_rows.specs.RowTrees.{IsRowTree}
+use Rattle.bfs_maps.specs.RowTrees.{IsRowTree}
 use Rattle.bfs_sound.specs.Volumes.{Volume, sizes, bitmap_blocks, IsMarked}
 use Rattle.bfs_sound.specs.Inodes.{frame_blocks, stream_blocks, inode_blocks, inodes_of, index_directory, id_of, proper_rows}
 use Rattle.bfs_sound.specs.Owners.{node_blocks, index_blocks, file_data, reach}

@@ -15,7 +15,7 @@ use Rattle.bfs_attr_write.proofs.Departs.{tree_there, not_taken, undone_kept}
 use Rattle.std.specs.Prelude.{Err}
 use Rattle.bfs_attrs.specs.Last.{HasLastTaken}
 use Rattle.bfs_attrs.proofs.LastTaken.{first_held, first_low, still_held, bearer_told, last_clear, last_gone}
-use Rattle.bfs_attrs.proofs.Stood.{read_taken, take_earlier, can_read, number_there}
+use Rattle.bfs_attrs.proofs.Stood.{read_taken, take_earlier, can_read}
 use Rattle.bfs_attrs.proofs.last.take_last.Goals as goal
 
 pub number_at-requires-clause-stream : goal.number_at-requires-clause-stream
@@ -32,7 +32,7 @@ returns-in-Ok-None-clause-faults g c m told =
     let can = (c.requires.alone m told).can in
     let t = tree_there s c.requires.valid c.args.inode c.args.bitmap.now m d name can in
     let none : assoc Text (rows_of Text (origin (geometry_of s) d) m) name ≡ None =
-    subst (λ (o : Option ℕ). IsNumberAt Text (rows_of Text (origin (geometry_of s) d) m) name o) c.in-Ok-None.field-0-is (c.in-Ok-None.ensures.found m told (number_there name (origin (geometry_of s) d) c.args.bitmap.now m t)) in
+    subst (λ (o : Option ℕ). IsNumberAt Text (rows_of Text (origin (geometry_of s) d) m) name o) c.in-Ok-None.field-0-is (c.in-Ok-None.ensures.found m told t.tree) in
     not_taken s c.requires.valid c.args.inode c.args.bitmap.now m d name can Absent none
 
 pub returns-in-Err-clause-faults : goal.returns-in-Err-clause-faults
@@ -41,7 +41,7 @@ returns-in-Err-clause-faults g c m told =
     let d = c.args.directory in
     let name = c.args.name.now in
     let t = tree_there s c.requires.valid c.args.inode c.args.bitmap.now m d name (c.requires.alone m told).can in
-    undone_kept {T = ℕ} (volume_at (geometry_of s) m) c.args.inode name (Err c.in-Err.fault) (c.in-Err.ensures.found m told (number_there name (origin (geometry_of s) d) c.args.bitmap.now m t))
+    undone_kept {T = ℕ} (volume_at (geometry_of s) m) c.args.inode name (Err c.in-Err.fault) (c.in-Err.ensures.found m told t.tree)
 
 pub returns-in-Err-clause-cause : goal.returns-in-Err-clause-cause
 returns-in-Err-clause-cause g c = read_taken (g.E.Blocks.counts c.args.edits.now) (g.E.Blocks.counts c.number_at.new.under) c.in-Err.fault c.in-Err.ensures.cause
@@ -56,7 +56,7 @@ returns-in-Err-give_named-clause-faults g c m told =
     let alone = c.requires.alone m told in
     let t = tree_there s c.requires.valid c.args.inode v m d name alone.can in
     let there : assoc Text (rows_of Text (origin (geometry_of s) d) m) name ≡ Some (pos c.in-Ok-Some.id) =
-    subst (λ (o : Option ℕ). IsNumberAt Text (rows_of Text (origin (geometry_of s) d) m) name o) c.in-Ok-Some.field-0-is (c.in-Ok-Some.ensures.found m told (number_there name (origin (geometry_of s) d) v m t)) in
+    subst (λ (o : Option ℕ). IsNumberAt Text (rows_of Text (origin (geometry_of s) d) m) name o) c.in-Ok-Some.field-0-is (c.in-Ok-Some.ensures.found m told t.tree) in
     undone_kept {T = ℕ} (volume_at (geometry_of s) m) c.args.inode name (Err c.in-Err-give_named.fault)
     (c.in-Err-give_named.ensures.sound m (c.in-Ok-Some.ensures.told ∙ told) (first_held b v m d name alone c.in-Ok-Some.id there) (first_low b v m d name alone c.in-Ok-Some.id there))
 
@@ -75,7 +75,7 @@ returns-in-Err-give_inode-clause-faults g c m told =
     let alone = c.requires.alone m told in
     let t = tree_there s c.requires.valid c.args.inode v m d name alone.can in
     let there : assoc Text (rows_of Text (origin (geometry_of s) d) m) name ≡ Some (pos id) =
-    subst (λ (o : Option ℕ). IsNumberAt Text (rows_of Text (origin (geometry_of s) d) m) name o) c.in-Ok-Some.field-0-is (c.in-Ok-Some.ensures.found m told (number_there name (origin (geometry_of s) d) v m t)) in
+    subst (λ (o : Option ℕ). IsNumberAt Text (rows_of Text (origin (geometry_of s) d) m) name o) c.in-Ok-Some.field-0-is (c.in-Ok-Some.ensures.found m told t.tree) in
     let gone = c.in-Ok.ensures.given m (c.in-Ok-Some.ensures.told ∙ told) (first_held b v m d name alone id there) in
     let held = still_held b v m d name alone id there c.give_named.new.bitmap (g.E.Blocks.told c.give_named.new.edits) (g.E.Blocks.changed c.number_at.new.under) (g.E.Blocks.changed c.give_named.new.edits) gone c.give_named.ensures.rest in
     c.in-Err-give_inode.ensures.sound gone.map gone.is held.1.owns
@@ -108,7 +108,7 @@ returns-in-Ok-clear_address-clause-taken g c m told =
     let alone = c.requires.alone m told in
     let t = tree_there s c.requires.valid c.args.inode v m d name alone.can in
     let there : assoc Text (rows_of Text (origin (geometry_of s) d) m) name ≡ Some (pos id) =
-    subst (λ (o : Option ℕ). IsNumberAt Text (rows_of Text (origin (geometry_of s) d) m) name o) c.in-Ok-Some.field-0-is (c.in-Ok-Some.ensures.found m told (number_there name (origin (geometry_of s) d) v m t)) in
+    subst (λ (o : Option ℕ). IsNumberAt Text (rows_of Text (origin (geometry_of s) d) m) name o) c.in-Ok-Some.field-0-is (c.in-Ok-Some.ensures.found m told t.tree) in
     let gone1 = c.in-Ok.ensures.given m (c.in-Ok-Some.ensures.told ∙ told) (first_held b v m d name alone id there) in
     let held = still_held b v m d name alone id there mid told1 old half gone1 c.give_named.ensures.rest in
     let gone2 = c.in-Ok-give_inode.ensures.given gone1.map gone1.is held.1.owns in
@@ -169,7 +169,7 @@ returns-in-Ok-clear_address-clause-clear g c m told =
     let alone = c.requires.alone m told in
     let t = tree_there s c.requires.valid c.args.inode v m d name alone.can in
     let there : assoc Text (rows_of Text (origin (geometry_of s) d) m) name ≡ Some (pos id) =
-    subst (λ (o : Option ℕ). IsNumberAt Text (rows_of Text (origin (geometry_of s) d) m) name o) c.in-Ok-Some.field-0-is (c.in-Ok-Some.ensures.found m told (number_there name (origin (geometry_of s) d) v m t)) in
+    subst (λ (o : Option ℕ). IsNumberAt Text (rows_of Text (origin (geometry_of s) d) m) name o) c.in-Ok-Some.field-0-is (c.in-Ok-Some.ensures.found m told t.tree) in
     let gone1 = c.in-Ok.ensures.given m (c.in-Ok-Some.ensures.told ∙ told) (first_held b v m d name alone id there) in
     let held = still_held b v m d name alone id there mid told1 old half gone1 c.give_named.ensures.rest in
     let gone2 = c.in-Ok-give_inode.ensures.given gone1.map gone1.is held.1.owns in

@@ -7,7 +7,7 @@ use Rattle.bfs_stream.specs.Sizes.{sizes_of}
 use Rattle.bfs_stream.specs.Told.{contents}
 use Rattle.bfs_maps.specs.Mapped.{HasHeld, rows_of}
 use Rattle.bfs_maps.specs.Refused.{IsPutFault}
-use Rattle.bfs_rows.specs.RowTrees.{HasTree, IsRowTree}
+use Rattle.bfs_maps.specs.RowTrees.{HasTree, IsRowTree}
 use Rattle.bfs_sound.specs.Inodes.{inode_blocks}
 use Rattle.bfs_shift.specs.Shifts.{volume_in}
 use Rattle.bfs_moves.specs.Written.{HasBlockWords, HasStreamSince}

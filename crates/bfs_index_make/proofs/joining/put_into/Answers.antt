@@ -4,7 +4,7 @@ use Rattle.bfs_pages.specs.Maps.{put}
 use Rattle.bfs_stream.specs.Sizes.{Origin, sizes_of}
 use Rattle.bfs_maps.specs.Mapped.{StreamNow, rows_of}
 use Rattle.bfs_maps.proofs.Sized.{held_here}
-use Rattle.bfs_rows.specs.RowTrees.{IsRowTree}
+use Rattle.bfs_maps.specs.RowTrees.{IsRowTree}
 use Rattle.bfs_moves.proofs.Named.{undone_put}
 use Rattle.bfs_stream_pages.specs.MovesLaws.{moved_none}
 use Rattle.bfs_index_make.proofs.joining.put_into.Goals as goal

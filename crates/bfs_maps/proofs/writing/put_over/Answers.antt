@@ -2,7 +2,7 @@ use Rattle.std.proofs.Common.{◌∙◌, ap, pos}
 use Rattle.bfs_pages.specs.Maps.{put}
 use Rattle.bfs_stream_pages.specs.Held.{known, stream_of}
 use Rattle.bfs_maps.specs.Mapped.{rows_of}
-use Rattle.bfs_maps.specs.NumberTrees.{IsTreeOf}
+use Rattle.bfs_maps.specs.RowTrees.{IsRowTree}
 use Rattle.bfs_maps.proofs.Went.{told_start, goes_on_from, went, stream_now, match_ok, if_err, on_err, put_fault, put_cause, cause_from, below_from, put_change, page_blamed, undamaged_from}
 use Rattle.bfs_pages.specs.Answers.{IsOfKind}
 use Rattle.bfs_maps.proofs.writing.put_over.Goals as goal
@@ -16,7 +16,7 @@ returns-clause-put g c m told held tree =
     let goes = c.put_in.ensures.kept.goes_on in
     let on = goes_on_from s.backing s.bitmap.now q.bitmap.now s.length q.length m s.failed (g.E.Blocks.told s.start.value) (g.E.Blocks.told s.edits.now) (known q.failed (g.E.Blocks.told q.start.value) (g.E.Blocks.told q.edits.now)) q.failed (g.E.Blocks.changed s.edits.now) (g.E.Blocks.changed q.edits.now) (g.E.Blocks.counts s.edits.now) (g.E.Blocks.counts q.edits.now) c.requires.unfailed same told goes.2 in
     match_ok _ _ _ c.put_in.result (c.put_in.ensures.put (stream_of s.backing m) is tree) (λ done x.
-    stream_now s.backing s.bitmap.now q.bitmap.now q.length m x.0 (IsTreeOf c.args.kind (put c.args.kind (rows_of c.args.kind s.backing m) c.args.key.now (pos c.args.number))) (g.E.Blocks.told q.edits.now) (g.E.Blocks.changed s.edits.now) (g.E.Blocks.changed q.edits.now)
+    stream_now s.backing s.bitmap.now q.bitmap.now q.length m x.0 (IsRowTree c.args.kind (put c.args.kind (rows_of c.args.kind s.backing m) c.args.key.now (pos c.args.number))) (g.E.Blocks.told q.edits.now) (g.E.Blocks.changed s.edits.now) (g.E.Blocks.changed q.edits.now)
     (went s.backing q.backing s.bitmap.now q.bitmap.now s.length q.length m x.0 q.failed (g.E.Blocks.told q.start.value) (g.E.Blocks.told q.edits.now) (g.E.Blocks.changed s.edits.now) (g.E.Blocks.changed q.edits.now) (g.E.Blocks.counts s.edits.now) (g.E.Blocks.counts q.edits.now) goes.0 x.1 held on) x.2)
 
 pub returns-clause-absent : goal.returns-clause-absent

@@ -4,9 +4,9 @@ use Rattle.bfs_bitmap.specs.Runs.{Room}
 use Rattle.bfs_pages.specs.Maps.{assoc, put}
 use Rattle.bfs_stream.specs.Sizes.{Origin}
 use Rattle.bfs_maps.specs.Mapped.{origin_of, rows_of}
-use Rattle.bfs_maps.specs.NumberTrees.{IsTreeOf}
+use Rattle.bfs_maps.specs.RowTrees.{IsRowTree}
 use Rattle.bfs_maps.specs.Refused.{IsPutFault}
-use Rattle.bfs_maps.proofs.Over.{held_named, tree_named, now_named, on_ok, change_named}
+use Rattle.bfs_maps.proofs.Over.{held_named, whole_named, now_named, on_ok, change_named}
 use Rattle.bfs_pages.specs.Answers.{IsOfKind}
 use Rattle.bfs_maps.proofs.writing.put_with.Goals as goal
 
@@ -17,9 +17,9 @@ returns-clause-put g c m told held tree =
     let v = c.args.bitmap.now in
     let here = ap g.E.Blocks.told c.over-pages.ensures.edits_now ∙ told in
     let held_p = held_named o p.backing v p.bitmap.now c.args.length p.length m c.over-pages.ensures.backing c.over-pages.ensures.bitmap_now c.over-pages.ensures.length held in
-    let tree_p = tree_named c.args.tree.kind o p.backing m c.over-pages.ensures.backing tree in
+    let tree_p = whole_named c.args.tree.kind o p.backing m c.over-pages.ensures.backing tree in
     on_ok _ _ c.put_over.result (c.put_over.ensures.put m here held_p tree_p)
-    (now_named (λ (x : Origin). IsTreeOf c.args.tree.kind (put c.args.tree.kind (rows_of c.args.tree.kind x m) c.args.key.now (pos c.args.number))) m o p.backing v p.bitmap.now _ c.put_over.new.pages.bitmap.now _ (g.E.Blocks.told c.put_over.new.pages.edits.now) (g.E.Blocks.changed c.args.edits.now) (g.E.Blocks.changed p.edits.now) _ (g.E.Blocks.changed c.put_over.new.pages.edits.now)
+    (now_named (λ (x : Origin). IsRowTree c.args.tree.kind (put c.args.tree.kind (rows_of c.args.tree.kind x m) c.args.key.now (pos c.args.number))) m o p.backing v p.bitmap.now _ c.put_over.new.pages.bitmap.now _ (g.E.Blocks.told c.put_over.new.pages.edits.now) (g.E.Blocks.changed c.args.edits.now) (g.E.Blocks.changed p.edits.now) _ (g.E.Blocks.changed c.put_over.new.pages.edits.now)
     c.over-pages.ensures.backing c.over-pages.ensures.bitmap_now (search rules) (search rules) (ap g.E.Blocks.changed c.over-pages.ensures.edits_now) (search rules))
 
 pub returns-clause-absent : goal.returns-clause-absent
@@ -29,7 +29,7 @@ returns-clause-absent g c m told held tree =
     let v = c.args.bitmap.now in
     let here = ap g.E.Blocks.told c.over-pages.ensures.edits_now ∙ told in
     let held_p = held_named o p.backing v p.bitmap.now c.args.length p.length m c.over-pages.ensures.backing c.over-pages.ensures.bitmap_now c.over-pages.ensures.length held in
-    let tree_p = tree_named c.args.tree.kind o p.backing m c.over-pages.ensures.backing tree in
+    let tree_p = whole_named c.args.tree.kind o p.backing m c.over-pages.ensures.backing tree in
     subst (λ (x : Origin). OnOk c.put_over.result (assoc c.args.tree.kind (rows_of c.args.tree.kind x m) c.args.key.now ≡ None)) c.over-pages.ensures.backing (c.put_over.ensures.absent m here held_p tree_p)
 
 pub returns-clause-refused : goal.returns-clause-refused
@@ -39,7 +39,7 @@ returns-clause-refused g c m told held tree =
     let v = c.args.bitmap.now in
     let here = ap g.E.Blocks.told c.over-pages.ensures.edits_now ∙ told in
     let held_p = held_named o p.backing v p.bitmap.now c.args.length p.length m c.over-pages.ensures.backing c.over-pages.ensures.bitmap_now c.over-pages.ensures.length held in
-    let tree_p = tree_named c.args.tree.kind o p.backing m c.over-pages.ensures.backing tree in
+    let tree_p = whole_named c.args.tree.kind o p.backing m c.over-pages.ensures.backing tree in
     subst (λ (x : Origin × Room). IfErr c.put_over.result (IsPutFault c.args.tree.kind x.0 x.1 m (rows_of c.args.tree.kind x.0 m) c.args.key.now)) (λ i. (c.over-pages.ensures.backing i, c.over-pages.ensures.bitmap_now i)) (c.put_over.ensures.refused m here held_p tree_p)
 
 pub returns-clause-blamed : goal.returns-clause-blamed

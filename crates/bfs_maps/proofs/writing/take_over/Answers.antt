@@ -2,7 +2,7 @@ use Rattle.std.proofs.Common.{◌∙◌, ap}
 use Rattle.bfs_pages.specs.Maps.{without}
 use Rattle.bfs_stream_pages.specs.Held.{known, stream_of}
 use Rattle.bfs_maps.specs.Mapped.{rows_of}
-use Rattle.bfs_maps.specs.NumberTrees.{IsTreeOf}
+use Rattle.bfs_maps.specs.RowTrees.{IsRowTree}
 use Rattle.bfs_maps.proofs.Went.{never_failed, undamaged_from, fixed_blamed, told_start, goes_on_from, went, stream_now, match_ok, if_err, on_err, take_fault, take_cause, cause_from, below_from, take_change}
 use Rattle.bfs_maps.specs.Refused.{IsNumberPage}
 use Rattle.bfs_maps.proofs.writing.take_over.Goals as goal
@@ -16,7 +16,7 @@ returns-clause-taken g c m told held tree =
     let goes = c.take_in.ensures.kept.goes_on in
     let on = goes_on_from s.backing s.bitmap.now q.bitmap.now s.length q.length m s.failed (g.E.Blocks.told s.start.value) (g.E.Blocks.told s.edits.now) (known q.failed (g.E.Blocks.told q.start.value) (g.E.Blocks.told q.edits.now)) q.failed (g.E.Blocks.changed s.edits.now) (g.E.Blocks.changed q.edits.now) (g.E.Blocks.counts s.edits.now) (g.E.Blocks.counts q.edits.now) c.requires.unfailed same told goes.2 in
     match_ok _ _ _ c.take_in.result (c.take_in.ensures.taken (stream_of s.backing m) is tree) (λ done x.
-    stream_now s.backing s.bitmap.now q.bitmap.now q.length m x.0 (IsTreeOf c.args.kind (without c.args.kind (rows_of c.args.kind s.backing m) c.args.key.now)) (g.E.Blocks.told q.edits.now) (g.E.Blocks.changed s.edits.now) (g.E.Blocks.changed q.edits.now)
+    stream_now s.backing s.bitmap.now q.bitmap.now q.length m x.0 (IsRowTree c.args.kind (without c.args.kind (rows_of c.args.kind s.backing m) c.args.key.now)) (g.E.Blocks.told q.edits.now) (g.E.Blocks.changed s.edits.now) (g.E.Blocks.changed q.edits.now)
     (went s.backing q.backing s.bitmap.now q.bitmap.now s.length q.length m x.0 q.failed (g.E.Blocks.told q.start.value) (g.E.Blocks.told q.edits.now) (g.E.Blocks.changed s.edits.now) (g.E.Blocks.changed q.edits.now) (g.E.Blocks.counts s.edits.now) (g.E.Blocks.counts q.edits.now) goes.0 x.1 held on) x.2)
 
 pub returns-clause-number : goal.returns-clause-number

@@ -3,9 +3,9 @@ use Rattle.std.specs.Prelude.{IfOk, IfErr}
 use Rattle.bfs_pages.specs.Maps.{assoc, without}
 use Rattle.bfs_stream.specs.Sizes.{Origin}
 use Rattle.bfs_maps.specs.Mapped.{origin_of, rows_of}
-use Rattle.bfs_maps.specs.NumberTrees.{IsTreeOf}
+use Rattle.bfs_maps.specs.RowTrees.{IsRowTree}
 use Rattle.bfs_maps.specs.Refused.{IsTakeFault}
-use Rattle.bfs_maps.proofs.Over.{held_named, tree_named, now_named, on_ok, taking_named}
+use Rattle.bfs_maps.proofs.Over.{held_named, with_named, now_named, on_ok, taking_named}
 use Rattle.bfs_maps.specs.Refused.{IsNumberPage}
 use Rattle.bfs_maps.proofs.writing.take_with.Goals as goal
 
@@ -16,9 +16,9 @@ returns-clause-taken g c m told held tree =
     let v = c.args.bitmap.now in
     let here = ap g.E.Blocks.told c.over-pages.ensures.edits_now ∙ told in
     let held_p = held_named o p.backing v p.bitmap.now c.args.length p.length m c.over-pages.ensures.backing c.over-pages.ensures.bitmap_now c.over-pages.ensures.length held in
-    let tree_p = tree_named c.args.tree.kind o p.backing m c.over-pages.ensures.backing tree in
+    let tree_p = with_named c.args.tree.kind c.args.key.now o p.backing m c.over-pages.ensures.backing tree in
     on_ok _ _ c.take_over.result (c.take_over.ensures.taken m here held_p tree_p)
-    (now_named (λ (x : Origin). IsTreeOf c.args.tree.kind (without c.args.tree.kind (rows_of c.args.tree.kind x m) c.args.key.now)) m o p.backing v p.bitmap.now _ c.take_over.new.pages.bitmap.now _ (g.E.Blocks.told c.take_over.new.pages.edits.now) (g.E.Blocks.changed c.args.edits.now) (g.E.Blocks.changed p.edits.now) _ (g.E.Blocks.changed c.take_over.new.pages.edits.now)
+    (now_named (λ (x : Origin). IsRowTree c.args.tree.kind (without c.args.tree.kind (rows_of c.args.tree.kind x m) c.args.key.now)) m o p.backing v p.bitmap.now _ c.take_over.new.pages.bitmap.now _ (g.E.Blocks.told c.take_over.new.pages.edits.now) (g.E.Blocks.changed c.args.edits.now) (g.E.Blocks.changed p.edits.now) _ (g.E.Blocks.changed c.take_over.new.pages.edits.now)
     c.over-pages.ensures.backing c.over-pages.ensures.bitmap_now (search rules) (search rules) (ap g.E.Blocks.changed c.over-pages.ensures.edits_now) (search rules))
 
 pub returns-clause-number : goal.returns-clause-number
@@ -28,7 +28,7 @@ returns-clause-number g c m told held tree =
     let v = c.args.bitmap.now in
     let here = ap g.E.Blocks.told c.over-pages.ensures.edits_now ∙ told in
     let held_p = held_named o p.backing v p.bitmap.now c.args.length p.length m c.over-pages.ensures.backing c.over-pages.ensures.bitmap_now c.over-pages.ensures.length held in
-    let tree_p = tree_named c.args.tree.kind o p.backing m c.over-pages.ensures.backing tree in
+    let tree_p = with_named c.args.tree.kind c.args.key.now o p.backing m c.over-pages.ensures.backing tree in
     subst (λ (x : Origin). IfOk c.take_over.result (λ number. assoc c.args.tree.kind (rows_of c.args.tree.kind x m) c.args.key.now ≡ Some (pos number))) c.over-pages.ensures.backing (c.take_over.ensures.number m here held_p tree_p)
 
 pub returns-clause-refused : goal.returns-clause-refused
@@ -38,7 +38,7 @@ returns-clause-refused g c m told held tree =
     let v = c.args.bitmap.now in
     let here = ap g.E.Blocks.told c.over-pages.ensures.edits_now ∙ told in
     let held_p = held_named o p.backing v p.bitmap.now c.args.length p.length m c.over-pages.ensures.backing c.over-pages.ensures.bitmap_now c.over-pages.ensures.length held in
-    let tree_p = tree_named c.args.tree.kind o p.backing m c.over-pages.ensures.backing tree in
+    let tree_p = with_named c.args.tree.kind c.args.key.now o p.backing m c.over-pages.ensures.backing tree in
     subst (λ (x : Origin). IfErr c.take_over.result (IsTakeFault c.args.tree.kind (rows_of c.args.tree.kind x m) c.args.key.now)) c.over-pages.ensures.backing (c.take_over.ensures.refused m here held_p tree_p)
 
 pub returns-clause-blamed : goal.returns-clause-blamed

@@ -4,7 +4,7 @@ use Rattle.bfs_pages.specs.Maps.{without}
 use Rattle.bfs_stream.specs.Sizes.{Origin, sizes_of}
 use Rattle.bfs_maps.specs.Mapped.{StreamNow, rows_of}
 use Rattle.bfs_maps.proofs.Sized.{held_here}
-use Rattle.bfs_rows.specs.RowTrees.{IsRowTree}
+use Rattle.bfs_maps.specs.RowTrees.{IsRowTree}
 use Rattle.bfs_leave.proofs.Unnamed.{undone_take, read_takes}
 use Rattle.bfs_remove_index.proofs.names.take_from.Goals as goal
 

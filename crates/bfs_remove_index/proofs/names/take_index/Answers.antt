@@ -8,7 +8,7 @@ use Rattle.bfs_stream.specs.Sizes.{sizes_of}
 use Rattle.bfs_stream.specs.Told.{contents}
 use Rattle.bfs_maps.specs.Mapped.{HasHeld, rows_of}
 use Rattle.bfs_maps.specs.Refused.{IsUndone, IsTakeFault}
-use Rattle.bfs_rows.specs.RowTrees.{HasTreeWith, IsRowTree}
+use Rattle.bfs_maps.specs.RowTrees.{HasTreeWith, IsRowTree}
 use Rattle.bfs_moves.specs.Written.{HasBlockWords, HasStreamSince}
 use Rattle.bfs_moves.proofs.Named.{still_there}
 use Rattle.bfs_calls.specs.Done.{HasAnswerCause}

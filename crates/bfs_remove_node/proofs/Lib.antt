@@ -1,4 +1,5 @@
 pub mod Refusing
+pub mod Looking
 pub mod Faulty
 pub mod Sought
 pub mod Gone

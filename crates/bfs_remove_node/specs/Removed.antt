@@ -10,6 +10,7 @@ use Rattle.bfs_tree.specs.declared.call.Call.TheVariants.{Remove}
 use Rattle.bfs_tree.specs.declared.call.Kind.TheVariants.{Dir}
 use Rattle.bfs_shift.specs.Lists.{Lists, Agrees}
 use Rattle.bfs_leave.specs.Leaving.{IsLeft}
+use Rattle.bfs_remove_node.specs.declared.child.Child.{Child}
 
 -- The child of a name may be removed as far as the tree goes: its directory is there, it is there, and it is no directory with children.
 pub record MayBeRemoved (tree : Tree) (dir : ℕ) (name : List ℕ) : Type 0 where
@@ -28,6 +29,11 @@ RefusalAllows = (s : State) (dir : ℕ) (name : List ℕ) → own_refusal (Remov
 -- some node is the child of this name, and has this id
 abbrev pub IsChildAt : Tree → ℕ → List ℕ → ℕ → Type 0
 IsChildAt tree dir name id = (node : Node) × (child tree dir name ≡ Some (id, node))
+
+-- what was found is this node, by its id and its kind
+pub record IsOf (e : ℕ × Node) (c : Child) : Type 0 where
+  pub id : c.id ≡ e.0
+  pub kind : c.kind ≡ e.1.kind
 
 -- The child of a name was removed: the volume stands for the tree that every state with the tree before has then, with the same root, whose
 -- lists agree with it, and no block is loose.

@@ -16,7 +16,7 @@ mod streams;
 pub use allowance::{built_in_count, remove_allowance};
 pub use bfs_unlist as unlist;
 pub use bfs_unmake as unmake;
-pub use child::{Child, child_in, refusal_by};
+pub use child::{Child, child_at, child_in, refusal_by};
 pub use conflict::held_by;
 pub use full::is_full;
 pub use laws::may_be_removed;

@@ -18,8 +18,9 @@ use Rattle.bfs_remove_node.specs.Refused.{found_in}
 use Rattle.bfs_remove_node.specs.declared.child.Child.{Child}
 use Rattle.bfs_remove_node.proofs.Refusing.{looked_some}
 use Rattle.bfs_remove_node.proofs.Sought.{plain_of}
-use Rattle.bfs_rename.specs.Counted.{AreOf, IsOf, IsLeaving, IsProperNode}
-use Rattle.bfs_rename.proofs.Looking.{no_child}
+use Rattle.bfs_remove_node.specs.Removed.{IsOf}
+use Rattle.bfs_rename.specs.Counted.{AreOf, IsLeaving, IsProperNode}
+use Rattle.bfs_remove_node.proofs.Looking.{no_child}
 
 same_is : (a b : ℕ) → a ≡ b → (a == b) ≡ true
 same_is a b e = grind (arith, e)
@@ -28,17 +29,6 @@ not_same : (a b : ℕ) → a ≢ b → (a == b) ≡ false
 not_same a b other = grind (arith, other)
 
 module _ (tree : Tree) (dir : ℕ) (name : List ℕ) (reply : Reply) (reads : Reads (calls.Lookup dir name) (plain_of tree) reply) where
-  pub found_none : (d : Node) → IsNode tree dir d → d.kind ≡ Dir → (e : ℕ × Node) → child tree dir name ≡ Some e → found_in reply ≡ None → ⊥
-  found_none d is kind e there nothing =
-      let bad : None ≡ Some e = sym (no_child (plain_of tree) dir name reply reads nothing d is (ap is_dir kind)) ∙ there in
-      cc
-
-  pub found_some : (c : Child) → found_in reply ≡ Some c → (e : ℕ × Node) → child tree dir name ≡ Some e → IsOf e c
-  found_some c found e there =
-      let f = looked_some (plain_of tree) dir name reply reads c found in
-      let same : (c.id, f.node) ≡ e = (let both : Some (c.id, f.node) ≡ Some e = sym f.child_is ∙ there in cc) in
-      record { id = ap (λ (x : ℕ × Node). x.0) same; kind = f.kind_is ∙ ap (λ (x : ℕ × Node). x.1.kind) same }
-
   pub other_none : (id : ℕ) (d : Node) → IsNode tree dir d → d.kind ≡ Dir → found_in reply ≡ None → AreOf (replaced id (child tree dir name)) None
   other_none id d is kind nothing =
       subst (λ (o : Option (ℕ × Node)). AreOf (replaced id o) None) (sym (no_child (plain_of tree) dir name reply reads nothing d is (ap is_dir kind))) refl

@@ -1,5 +1,4 @@
 pub mod Passing
-pub mod Looking
 pub mod Renaming
 pub mod Shrinking
 pub mod Childs

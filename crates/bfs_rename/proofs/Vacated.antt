@@ -22,7 +22,8 @@ use Rattle.bfs_leave.proofs.Steps.{goes_on_gives, gives_back_twice}
 use Rattle.bfs_moves.proofs.Ends.{goes_on_same}
 use Rattle.bfs_make.proofs.Telling.{one_map}
 use Rattle.bfs_remove_node.specs.declared.child.Child.{Child}
-use Rattle.bfs_rename.specs.Counted.{AreOf, IsOf}
+use Rattle.bfs_remove_node.specs.Removed.{IsOf}
+use Rattle.bfs_rename.specs.Counted.{AreOf}
 use Rattle.bfs_rename.specs.Done.{HasVacated, IsRenamedIn, IsVacating, tree_vacated}
 use Rattle.bfs_rename.specs.Moved.{HasMove, HasMoved, IsMove, moved_tree}
 use Rattle.bfs_rename.specs.Renamed.{MayBeRenamed, MayBeReplaced}

@@ -6,13 +6,9 @@ use Rattle.bfs_tree.specs.Trees.{Node, Tree, IsNode}
 use Rattle.bfs_sound.specs.Volumes.{Volume}
 use Rattle.bfs_calls.specs.Allowances.{left_alone, owners_left}
 use Rattle.bfs_remove_node.specs.Counted.{listed_among}
+use Rattle.bfs_remove_node.specs.Removed.{IsOf}
 use Rattle.bfs_remove_node.specs.declared.child.Child.{Child}
 use Rattle.bfs_rename.specs.declared.leaving.Leaving.{Leaving}
-
--- what was found is this node, by its id and its kind
-pub record IsOf (e : ℕ × Node) (c : Child) : Type 0 where
-  pub id : c.id ≡ e.0
-  pub kind : c.kind ≡ e.1.kind
 
 -- what was found is this node, or there is none
 abbrev pub AreOf : Option (ℕ × Node) → Option Child → Type 0

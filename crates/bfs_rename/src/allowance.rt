@@ -15,13 +15,13 @@ ghost use Rattle.bfs_calls.specs.Done.{HasAnswerCause};
 ghost use Rattle.bfs_rename.specs.Refused.{IsPlace};
 ghost use Rattle.bfs_rename.specs.Renamed.{MayBeRenamed};
 
-use crate::child::{child_at, other_at};
+use crate::child::other_at;
 use crate::leaving::{Leaving, leaving_of};
 use crate::moves::{Moving, moving_of};
 use bfs_bitmap::Bitmap;
 use bfs_calls::{bitmap_blocks, built_in_indices};
 use bfs_make::Site;
-use bfs_remove_node::built_in_count;
+use bfs_remove_node::{built_in_count, child_at};
 use bfs_stream_pages::MapFault;
 use bfs_super::Super;
 use bfs_tree::Kind;

@@ -19,11 +19,11 @@ ghost use Rattle.bfs_rename.specs.Done.{HasVacated, HasVacating, IsRenamedIn, Is
 ghost use Rattle.bfs_rename.specs.Refused.{IsPlace};
 ghost use Rattle.bfs_rename.specs.Renamed.{MayBeRenamed};
 
-use crate::child::{child_at, other_at};
+use crate::child::other_at;
 use crate::moving::arrive;
 use crate::replacing::leave_tree;
 use bfs_bitmap::Bitmap;
-use bfs_remove_node::Child;
+use bfs_remove_node::{Child, child_at};
 use bfs_stream_pages::MapFault;
 use bfs_super::Super;
 use bfs_txn::Edits;

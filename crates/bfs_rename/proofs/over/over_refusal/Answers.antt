@@ -8,7 +8,7 @@ use Rattle.bfs_tree.specs.declared.state.Hold.{Hold}
 use Rattle.bfs_tree.proofs.Members.{child-there}
 use Rattle.bfs_look.specs.Ready.{IsReady, HasReady}
 use Rattle.bfs_remove_node.proofs.Refusing.{looked_some}
-use Rattle.bfs_rename.proofs.Looking.{no_child}
+use Rattle.bfs_remove_node.proofs.Looking.{no_child}
 use Rattle.bfs_rename.proofs.Renaming.{over_none, over_itself, over_other}
 use Rattle.bfs_rename.proofs.over.over_refusal.Goals as goal
 

@@ -4,7 +4,7 @@ use Rattle.bfs_tree.specs.Trees.{IsNode, is_dir}
 use Rattle.bfs_look.specs.Ready.{IsReady, HasReady}
 use Rattle.bfs_remove_node.proofs.Refusing.{looked_some}
 use Rattle.bfs_remove_node.proofs.Sought.{not_beyond}
-use Rattle.bfs_rename.proofs.Looking.{looked_none}
+use Rattle.bfs_remove_node.proofs.Looking.{looked_none}
 use Rattle.bfs_rename.proofs.Renaming.{here, rest}
 use Rattle.bfs_rename.proofs.refusal.rename_refusal.Goals as goal
 

@@ -1,7 +1,6 @@
 use Rattle.std.proofs.Common.{◌≤◌, ◌∙◌, ℕ, refl, sym, subst}
-use Rattle.bfs_remove_node.proofs.Sought.{plain_of, sought_some, child_within}
-use Rattle.bfs_rename.proofs.Childs.{found_none, found_some}
-use Rattle.bfs_rename.proofs.child.child_at.Goals as goal
+use Rattle.bfs_remove_node.proofs.Sought.{plain_of, sought_some, child_within, found_none, found_some}
+use Rattle.bfs_remove_node.proofs.child.child_at.Goals as goal
 
 pub returns-in-Err-clause-found : goal.returns-in-Err-clause-found
 returns-in-Err-clause-found g c m tree lists d e told ready is kind there = c.in-Err.ensures.reads m tree lists (plain_of tree) told ready refl

@@ -13,8 +13,7 @@ use crate::NameRow;
 use crate::leaves::take_leaves;
 use crate::plain::are_plain;
 use bfs_node::{Header, KeyKind};
-use bfs_pages::place;
-use bfs_tree_check::{check_tree, look_at_header, new_marks};
+use bfs_tree_check::{look_at_header, survey_below};
 use bfs_txn::{Pages, Steps};
 use bfs_value_walk::check_values;
 use bfs_value_walk::tree_walk::check_met;
@@ -64,27 +63,11 @@ fn walk_below<P: Pages, L: Ledger>(
 {
     let size = pages.length();
     walked_is_whole();
-    let mut marks = match new_marks(alloc, size / 1024) {
-        Ok(marks) => marks,
-        Err(_) => return Err(WalkFault::NoMemory),
-    };
-    let root = place(header.root_pointer);
-    let free = place(header.free_pointer);
-    let levels = header.levels - 1;
-    let survey = match check_tree(
-        alloc,
-        pages,
-        KeyKind::Text,
-        root,
-        levels,
-        free,
-        &mut marks,
-        steps,
-    ) {
-        Ok(survey) => survey,
+    let below = match survey_below(alloc, pages, KeyKind::Text, header, steps) {
+        Ok(below) => below,
         Err(fault) => return Err(fault),
     };
-    let rows = match take_leaves(alloc, pages, &survey.leaves, steps) {
+    let rows = match take_leaves(alloc, pages, &below.survey.leaves, steps) {
         Ok(rows) => rows,
         Err(fault) => return Err(fault),
     };
@@ -95,7 +78,7 @@ fn walk_below<P: Pages, L: Ledger>(
             Err(fault) => return Err(fault),
         }
     }
-    match check_met(&marks, size) {
+    match check_met(&below.marks, size) {
         Ok(()) => Ok(rows),
         Err(wrong) => Err(WalkFault::Wrong(wrong)),
     }

@@ -3,6 +3,7 @@
 #![tactic(auto)]
 
 mod ascent;
+mod below;
 mod check;
 mod down;
 mod free;
@@ -18,6 +19,7 @@ mod shape;
 mod survey;
 
 pub use ascent::check_order;
+pub use below::{Below, survey_below};
 pub use check::check_tree;
 pub use down::{go_down, met_twice};
 pub use free::{check_free, check_free_list, wanted_for};

@@ -10,8 +10,7 @@ ghost use Rattle.bfs_tree_walk.specs.Plain.{IsNames};
 
 use crate::{OtherRow, check_met, check_values};
 use bfs_node::{Header, KeyKind};
-use bfs_pages::place;
-use bfs_tree_check::{check_tree, look_at_header, new_marks};
+use bfs_tree_check::{look_at_header, survey_below};
 use bfs_txn::{Pages, Steps};
 use bfs_walk::{WalkFault, walked_is_whole};
 use std::alloc::Global;
@@ -37,27 +36,11 @@ fn walk_below<P: Pages, L: Ledger>(
 {
     let size = pages.length();
     walked_is_whole();
-    let mut marks = match new_marks(alloc, size / 1024) {
-        Ok(marks) => marks,
-        Err(_) => return Err(WalkFault::NoMemory),
-    };
-    let root = place(header.root_pointer);
-    let free = place(header.free_pointer);
-    let levels = header.levels - 1;
-    let survey = match check_tree(
-        alloc,
-        pages,
-        KeyKind::Text,
-        root,
-        levels,
-        free,
-        &mut marks,
-        steps,
-    ) {
-        Ok(survey) => survey,
+    let below = match survey_below(alloc, pages, KeyKind::Text, header, steps) {
+        Ok(below) => below,
         Err(fault) => return Err(fault),
     };
-    let found = match check_values(pages, KeyKind::Text, &survey.leaves, steps) {
+    let found = match check_values(pages, KeyKind::Text, &below.survey.leaves, steps) {
         Ok(found) => found,
         Err(fault) => return Err(fault),
     };
@@ -65,7 +48,7 @@ fn walk_below<P: Pages, L: Ledger>(
         None => {}
         Some(other) => return Ok(Some(other)),
     }
-    match check_met(&marks, size) {
+    match check_met(&below.marks, size) {
         Ok(()) => Ok(None),
         Err(wrong) => Err(WalkFault::Wrong(wrong)),
     }

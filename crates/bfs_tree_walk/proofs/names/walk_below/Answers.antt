@@ -1,10 +1,7 @@
-use Rattle.std.proofs.Common.{rules, ◌≡◌, ◌-◌, ◌/◌, ◌%◌, ◌∙◌, ◌∷◌, [], ℕ, List, Bool, length, sym, ap, subst, arith, w64, to_z, of_z}
-use Rattle.std.proofs.lemmas.List.{with_items_is}
-use Rattle.bfs_base.specs.Lists.{times}
+use Rattle.std.proofs.Common.{◌≡◌, ◌%◌, ◌∙◌, [], ℕ, List, Bool, length, sym, ap, subst}
 use Rattle.bfs_base.specs.declared.kind.KeyKind.TheVariants.{Text}
-use Rattle.bfs_node.specs.declared.header.Header.{Header}
 use Rattle.bfs_pages.specs.Answers.{IsHeaderFor}
-use Rattle.bfs_pages.specs.Trees.{place_of, held}
+use Rattle.bfs_pages.specs.Trees.{held}
 use Rattle.bfs_pages.proofs.OfKind.{if_some}
 use Rattle.bfs_values.specs.Rows.{rows_in}
 use Rattle.bfs_finding.specs.Walks.{frees_in}
@@ -15,85 +12,38 @@ use Rattle.bfs_tree_walk.specs.Unmet.{IsUnmet}
 use Rattle.bfs_tree_walk.proofs.Wholly.{walked, unmet_wrong}
 use Rattle.bfs_tree_walk.proofs.names.walk_below.Goals as goal
 
-pub returns-in-Err-check_tree-clause-wrong : goal.returns-in-Err-check_tree-clause-wrong
-returns-in-Err-check_tree-clause-wrong g c = λ b told is.
-    let size = g.P.Pages.size c.args.pages.now in
-    let root_z : to_z w64 (of_z w64 c.args.header.root_pointer) ≡ c.args.header.root_pointer = search rules in
-    let free_z : to_z w64 (of_z w64 c.args.header.free_pointer) ≡ c.args.header.free_pointer = search rules in
-    let root = c.place-root.ensures ∙ ap place_of (root_z ∙ ap (λ (h : Header). h.root_pointer) is) in
-    let levels = ap (λ (h : Header). h.levels - 1) is in
-    let free = c.place-free.ensures ∙ ap place_of (free_z ∙ ap (λ (h : Header). h.free_pointer) is) in
-    let marks : (x : ℕ) → marked size c.deref_mut.result.now x ≡ times x (0 ∷ []) = subst (λ (m : List Bool). (x : ℕ) → marked size m x ≡ times x (0 ∷ [])) (sym c.deref_mut.ensures.value) (c.in-Ok.ensures.header size (g.met.P.Pages.whole c.args.pages.now) (ap (λ n. n / 1024) (sym c.length-size.ensures))) in
-    c.in-Err-check_tree.ensures.wrong b told root levels free marks
-
 pub returns-in-Err-check_values-clause-wrong : goal.returns-in-Err-check_values-clause-wrong
 returns-in-Err-check_values-clause-wrong g c = λ b told is.
-    let size = g.P.Pages.size c.args.pages.now in
-    let root_z : to_z w64 (of_z w64 c.args.header.root_pointer) ≡ c.args.header.root_pointer = search rules in
-    let free_z : to_z w64 (of_z w64 c.args.header.free_pointer) ≡ c.args.header.free_pointer = search rules in
-    let root = c.place-root.ensures ∙ ap place_of (root_z ∙ ap (λ (h : Header). h.root_pointer) is) in
-    let levels = ap (λ (h : Header). h.levels - 1) is in
-    let free = c.place-free.ensures ∙ ap place_of (free_z ∙ ap (λ (h : Header). h.free_pointer) is) in
-    let marks : (x : ℕ) → marked size c.deref_mut.result.now x ≡ times x (0 ∷ []) = subst (λ (m : List Bool). (x : ℕ) → marked size m x ≡ times x (0 ∷ [])) (sym c.deref_mut.ensures.value) (c.in-Ok.ensures.header size (g.met.P.Pages.whole c.args.pages.now) (ap (λ n. n / 1024) (sym c.length-size.ensures))) in
-    let s = c.in-Ok-check_tree.ensures.shaped b told root levels free marks in
-    let told' = c.in-Ok-check_tree.ensures.told ∙ told in
-    let leaves = s.leaves_are ∙ sym c.deref.ensures.value in
-    c.in-Err-check_values.ensures.wrong b told' leaves
+    let s = c.in-Ok.ensures.shaped b told is in
+    c.in-Err-check_values.ensures.wrong b (c.in-Ok.ensures.told ∙ told) (s.leaves_are ∙ sym c.deref.ensures.value)
 
 pub returns-in-Some-clause-whole : goal.returns-in-Some-clause-whole
 returns-in-Some-clause-whole g c = λ b told is.
-    let size = g.P.Pages.size c.args.pages.now in
-    let root_z : to_z w64 (of_z w64 c.args.header.root_pointer) ≡ c.args.header.root_pointer = search rules in
-    let free_z : to_z w64 (of_z w64 c.args.header.free_pointer) ≡ c.args.header.free_pointer = search rules in
-    let root = c.place-root.ensures ∙ ap place_of (root_z ∙ ap (λ (h : Header). h.root_pointer) is) in
-    let levels = ap (λ (h : Header). h.levels - 1) is in
-    let free = c.place-free.ensures ∙ ap place_of (free_z ∙ ap (λ (h : Header). h.free_pointer) is) in
-    let marks : (x : ℕ) → marked size c.deref_mut.result.now x ≡ times x (0 ∷ []) = subst (λ (m : List Bool). (x : ℕ) → marked size m x ≡ times x (0 ∷ [])) (sym c.deref_mut.ensures.value) (c.in-Ok.ensures.header size (g.met.P.Pages.whole c.args.pages.now) (ap (λ n. n / 1024) (sym c.length-size.ensures))) in
-    let s = c.in-Ok-check_tree.ensures.shaped b told root levels free marks in
-    let told' = c.in-Ok-check_tree.ensures.told ∙ told in
-    let leaves = s.leaves_are ∙ sym c.deref.ensures.value in
-    subst (HasPlain Text b) c.in-Some.is (c.in-Ok-check_values.ensures.plain b told' leaves)
+    let s = c.in-Ok.ensures.shaped b told is in
+    subst (HasPlain Text b) c.in-Some.is (c.in-Ok-check_values.ensures.plain b (c.in-Ok.ensures.told ∙ told) (s.leaves_are ∙ sym c.deref.ensures.value))
 
 pub returns-in-Ok-check_met-clause-whole : goal.returns-in-Ok-check_met-clause-whole
 returns-in-Ok-check_met-clause-whole g c = λ b told is.
     let size = g.P.Pages.size c.args.pages.now in
-    let root_z : to_z w64 (of_z w64 c.args.header.root_pointer) ≡ c.args.header.root_pointer = search rules in
-    let free_z : to_z w64 (of_z w64 c.args.header.free_pointer) ≡ c.args.header.free_pointer = search rules in
-    let root = c.place-root.ensures ∙ ap place_of (root_z ∙ ap (λ (h : Header). h.root_pointer) is) in
-    let levels = ap (λ (h : Header). h.levels - 1) is in
-    let free = c.place-free.ensures ∙ ap place_of (free_z ∙ ap (λ (h : Header). h.free_pointer) is) in
-    let marks : (x : ℕ) → marked size c.deref_mut.result.now x ≡ times x (0 ∷ []) = subst (λ (m : List Bool). (x : ℕ) → marked size m x ≡ times x (0 ∷ [])) (sym c.deref_mut.ensures.value) (c.in-Ok.ensures.header size (g.met.P.Pages.whole c.args.pages.now) (ap (λ n. n / 1024) (sym c.length-size.ensures))) in
-    let s = c.in-Ok-check_tree.ensures.shaped b told root levels free marks in
-    let told' = c.in-Ok-check_tree.ensures.told ∙ told in
-    let leaves = s.leaves_are ∙ sym c.deref.ensures.value in
+    let below = c.in-Ok.below in
+    let s = c.in-Ok.ensures.shaped b told is in
     let long = if_some (λ (z : List ℕ). length z ≡ size) _ b (g.met.P.Pages.sized c.args.pages.now) told in
-    let plain : ArePlain (rows_in Text b) = subst (HasPlain Text b) c.in-None.is (c.in-Ok-check_values.ensures.plain b told' leaves) in
-    let read : c.deref-2.result.now ≡ c.check_tree.new.marks = c.deref-2.ensures.value ∙ with_items_is c.in-Ok.marks c.check_tree.new.marks (let a = c.check_tree.auto.marks in let b = c.deref_mut.ensures.len in let d = c.deref_mut.ensures.value in let e = c.in-Ok.marks.ok in omega (arith, a, b)) in
-    let met : (x : ℕ) → marked size c.check_tree.new.marks x ≡ held (length b) x = λ x.
-    ap (λ (m : List Bool). marked size m x) (sym read) ∙ ap (λ n. marked n c.deref-2.result.now x) (sym c.length-size.ensures) ∙ c.in-Ok-check_met.ensures.met x ∙ ap (λ n. held n x) (c.length-size.ensures ∙ sym long) in
+    let plain : ArePlain (rows_in Text b) = subst (HasPlain Text b) c.in-None.is (c.in-Ok-check_values.ensures.plain b (c.in-Ok.ensures.told ∙ told) (s.leaves_are ∙ sym c.deref.ensures.value)) in
+    let met : (x : ℕ) → marked size below.marks.items x ≡ held (length b) x = λ x.
+    ap (λ (m : List Bool). marked size m x) (sym c.deref-2.ensures.value) ∙ ap (λ n. marked n c.deref-2.result.now x) (sym c.length-size.ensures) ∙ c.in-Ok-check_met.ensures.met x ∙ ap (λ n. held n x) (c.length-size.ensures ∙ sym long) in
     let header : IsHeaderFor Text (length b) c.args.header = subst (λ n. IsHeaderFor Text n c.args.header) (sym long) c.requires.header in
-    let ascends = c.in-Ok-check_tree.ensures.ascends b told root levels free marks in
+    let ascends = c.in-Ok.ensures.ascends b told is in
     let whole : length b % 1024 ≡ 0 = ap (λ n. n % 1024) long ∙ g.met.P.Pages.whole c.args.pages.now in
-    let survey = c.in-Ok-check_tree.survey in
-    (c.walked_is_whole.ensures Text b [] (frees_in Text b) (walked Text b survey.level.items survey.leaves.items (marked size c.check_tree.new.marks) s plain c.args.header header is ascends met whole), plain)
+    (c.walked_is_whole.ensures Text b [] (frees_in Text b) (walked Text b below.survey.level.items below.survey.leaves.items (marked size below.marks.items) s plain c.args.header header is ascends met whole), plain)
 
 pub returns-clause-wrong : goal.returns-clause-wrong
 returns-clause-wrong g c = λ b told is.
     let size = g.P.Pages.size c.args.pages.now in
-    let root_z : to_z w64 (of_z w64 c.args.header.root_pointer) ≡ c.args.header.root_pointer = search rules in
-    let free_z : to_z w64 (of_z w64 c.args.header.free_pointer) ≡ c.args.header.free_pointer = search rules in
-    let root = c.place-root.ensures ∙ ap place_of (root_z ∙ ap (λ (h : Header). h.root_pointer) is) in
-    let levels = ap (λ (h : Header). h.levels - 1) is in
-    let free = c.place-free.ensures ∙ ap place_of (free_z ∙ ap (λ (h : Header). h.free_pointer) is) in
-    let marks : (x : ℕ) → marked size c.deref_mut.result.now x ≡ times x (0 ∷ []) = subst (λ (m : List Bool). (x : ℕ) → marked size m x ≡ times x (0 ∷ [])) (sym c.deref_mut.ensures.value) (c.in-Ok.ensures.header size (g.met.P.Pages.whole c.args.pages.now) (ap (λ n. n / 1024) (sym c.length-size.ensures))) in
-    let s = c.in-Ok-check_tree.ensures.shaped b told root levels free marks in
-    let told' = c.in-Ok-check_tree.ensures.told ∙ told in
-    let leaves = s.leaves_are ∙ sym c.deref.ensures.value in
+    let below = c.in-Ok.below in
+    let s = c.in-Ok.ensures.shaped b told is in
     let long = if_some (λ (z : List ℕ). length z ≡ size) _ b (g.met.P.Pages.sized c.args.pages.now) told in
-    let plain : ArePlain (rows_in Text b) = subst (HasPlain Text b) c.in-None.is (c.in-Ok-check_values.ensures.plain b told' leaves) in
-    let read : c.deref-2.result.now ≡ c.check_tree.new.marks = c.deref-2.ensures.value ∙ with_items_is c.in-Ok.marks c.check_tree.new.marks (let a = c.check_tree.auto.marks in let b = c.deref_mut.ensures.len in let d = c.deref_mut.ensures.value in let e = c.in-Ok.marks.ok in omega (arith, a, b)) in
-    let survey = c.in-Ok-check_tree.survey in
-    let marks' = c.deref-2.result.now in
-    let unmet = subst (λ n. IsUnmet n (marked n marks') c.in-Err-check_met.wrong) (c.length-size.ensures ∙ sym long) c.in-Err-check_met.ensures.unmet in
-    let shaped = subst (λ (m : List Bool). IsShaped Text b survey.level.items survey.leaves.items (marked (length b) m)) (sym read) (subst (λ n. IsShaped Text b survey.level.items survey.leaves.items (marked n c.check_tree.new.marks)) (sym long) s) in
-    unmet_wrong Text b survey.level.items survey.leaves.items (marked (length b) marks') shaped plain c.in-Err-check_met.wrong unmet
+    let plain : ArePlain (rows_in Text b) = subst (HasPlain Text b) c.in-None.is (c.in-Ok-check_values.ensures.plain b (c.in-Ok.ensures.told ∙ told) (s.leaves_are ∙ sym c.deref.ensures.value)) in
+    let marks = c.deref-2.result.now in
+    let unmet = subst (λ n. IsUnmet n (marked n marks) c.in-Err-check_met.wrong) (c.length-size.ensures ∙ sym long) c.in-Err-check_met.ensures.unmet in
+    let shaped = subst (λ (m : List Bool). IsShaped Text b below.survey.level.items below.survey.leaves.items (marked (length b) m)) (sym c.deref-2.ensures.value) (subst (λ n. IsShaped Text b below.survey.level.items below.survey.leaves.items (marked n below.marks.items)) (sym long) s) in
+    unmet_wrong Text b below.survey.level.items below.survey.leaves.items (marked (length b) marks) shaped plain c.in-Err-check_met.wrong unmet

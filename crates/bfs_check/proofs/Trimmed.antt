@@ -13,6 +13,7 @@ use Rattle.bfs_super.specs.Conditions.{natural, IsValid}
 use Rattle.bfs_super.specs.Geometry.{geometry_of}
 use Rattle.bfs_super.specs.Layout.{super_at}
 use Rattle.bfs_log.specs.Replay.{Valid, super_of, blocks_of, block_sectors}
+use Rattle.bfs_log.proofs.Valids.{valid_by}
 use Rattle.bfs_stream.specs.Told.{contents}
 use Rattle.bfs_tree.specs.Trees.{Tree}
 use Rattle.bfs_sound.specs.Laws.{ImageIsCarried}
@@ -61,11 +62,8 @@ module _ (image : List ℕ) (valid : Valid image) where
   trimmed_super = ap super_at (sector_kept 1 (let two = two_sectors in omega (arith, two)))
 
   pub trimmed_valid : Valid (trimmed image)
-  trimmed_valid = record {
-    sectors = let two = two_sectors in let long = trimmed_length in omega (arith, two, long);
-    super = subst IsValid (sym trimmed_super) valid.super;
-    blocks = subst (λ (t : Super). natural t.num_blocks * t.block_size ≤ length (trimmed image)) (sym trimmed_super) (let long = trimmed_length in omega (arith, long));
-  }
+  trimmed_valid =
+      let two = two_sectors in let long = trimmed_length in valid_by (trimmed image) s trimmed_super valid.super (omega (arith, two, long)) (omega (arith, long))
 
   inside_end : (k : ℕ) → k < n → 512 * (r * k + r) ≤ end
   inside_end k lt = let f = fits_sectors s valid.super k lt in omega (arith, f, end_is)

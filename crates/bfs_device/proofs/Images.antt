@@ -9,6 +9,7 @@ use Rattle.bfs_super.specs.Conditions.{natural, IsValid}
 use Rattle.bfs_super.specs.Geometry.{geometry_of}
 use Rattle.bfs_super.specs.Layout.{sector_of}
 use Rattle.bfs_log.specs.Replay.{Home, Logs, Valid, Replayed, super_of, block_sectors, blocks_of, log_from, log_to, homes_of, with_homes, emptied, over}
+use Rattle.bfs_log.proofs.Valids.{valid_by}
 use Rattle.bfs_log.proofs.Replays.{replayed_empty, replayed_blocks}
 use Rattle.bfs_log.proofs.Emptied.{superblock_is, result_valid}
 use Rattle.bfs_device.specs.Layouts.{IsData, layout_of}
@@ -46,11 +47,7 @@ module _ (s u : Super) (used : ℕ) (image : List ℕ) (same : IsOfVolume s used
       omega (arith, bytes_fit, (sizes u valid).0, (sizes u valid).1, some)
 
   pub valid_image : Valid image
-  valid_image = record {
-    sectors = two_sectors;
-    super = subst IsValid (sym is) valid;
-    blocks = subst (λ (x : Super). natural x.num_blocks * x.block_size ≤ length image) (sym is) bytes_fit;
-  }
+  valid_image = valid_by image u is valid two_sectors bytes_fit
 
   read_block : (b : ℕ) → blocks_of image b ≡ block (layout_of s).sectors b image
   read_block b = ap (λ (r : ℕ). block r b image) sectors_same

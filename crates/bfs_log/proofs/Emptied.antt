@@ -15,6 +15,7 @@ use Rattle.bfs_super.specs.Layout.{super_at, sizes_of, groups_of, places_of, sec
 use Rattle.bfs_super.proofs.SectorAgain.{sector_again}
 use Rattle.bfs_super.proofs.Whole.{length-sizes_of}
 use Rattle.bfs_log.specs.Replay.{Valid, Replayed, emptied, super_of, log_from, log_to}
+use Rattle.bfs_log.proofs.Valids.{valid_by}
 use Rattle.bfs_log.proofs.Replays.{replayed_super, replayed_size, replayed_same, replayed_empty}
 use Rattle.std.proofs.lemmas.Bool.{cases_eq}
 use Rattle.bfs_log.proofs.Printed.{signed_read}
@@ -233,11 +234,8 @@ module _ (image result : List ℕ) (bytes : IsBytes (sector 1 image)) (log : Rep
       ∙ ap (λ (b : List ℕ). emptied (super_at b)) (sector_again (sector 1 image) bytes long)
 
   replayed_valid_to : (s : Super) → super_of result ≡ s → IsValid s → natural s.num_blocks * s.block_size ≤ length image → Valid result
-  replayed_valid_to s same valid fits = record {
-    sectors = omega (arith, log.valid.sectors, replayed_size image result log);
-    super = subst IsValid (sym same) valid;
-    blocks = subst (λ (t : Super). natural t.num_blocks * t.block_size ≤ length result) (sym same) (omega (arith, fits, replayed_size image result log));
-  }
+  replayed_valid_to s same valid fits =
+      let size = replayed_size image result log in valid_by result s same valid (omega (arith, log.valid.sectors, size)) (omega (arith, fits, size))
 
   pub result_valid : Valid result
   result_valid = ⊎_elim

@@ -4,5 +4,6 @@ pub mod Printed
 pub mod Written
 pub mod Logged
 pub mod Replays
+pub mod Valids
 pub mod Emptied
 pub mod Walks

@@ -10,6 +10,7 @@ use Rattle.bfs_super.specs.Layout.{super_at, sector_of}
 use Rattle.bfs_super.specs.declared.sup.Super.{Super}
 use Rattle.bfs_super.specs.declared.geometry.Geometry.{Geometry}
 use Rattle.bfs_log.specs.Replay.{super_of, blocks_of, block_sectors, Valid}
+use Rattle.bfs_log.proofs.Valids.{valid_by}
 use Rattle.bfs_tree.specs.Trees.{empty_tree}
 use Rattle.bfs_sound.specs.Volumes.{Volume}
 use Rattle.bfs_sound.specs.Whole.{IsSound, volume_of, IsWhole}
@@ -138,11 +139,7 @@ module _ (g : Geometry) (label : List ℕ) (stamp : ℤ) (image : List ℕ) (pla
       is_valid g label planned (omega (arith, b)) (omega (arith, a, b)) (omega (arith, a))
 
   valid : Valid image
-  valid = record {
-    sectors = (let a = some_blocks g planned in let b = (block_bounds g.block_size planned.size).0 in let c : 1 * g.block_size ≤ g.blocks * g.block_size = mul-le-mul_right g.block_size a in omega (arith, a, b, c, long));
-    super = subst IsValid (sym super_is) valid_made;
-    blocks = subst (λ (s : Super). natural s.num_blocks * s.block_size ≤ length image) (sym super_is) long;
-  }
+  valid = valid_by image (made g label) super_is valid_made (let a = some_blocks g planned in let b = (block_bounds g.block_size planned.size).0 in let c : 1 * g.block_size ≤ g.blocks * g.block_size = mul-le-mul_right g.block_size a in omega (arith, a, b, c, long)) long
 
   block_is : (b : ℕ) → blocks_of image b ≡ blocks_by g.block_size image b
   block_is b =

@@ -12,6 +12,7 @@ use Rattle.bfs_super.specs.Conditions.{natural, IsValid}
 use Rattle.bfs_super.specs.Geometry.{geometry_of}
 use Rattle.bfs_super.specs.Layout.{super_at, sector_of}
 use Rattle.bfs_log.specs.Replay.{Home, Valid, Replayed, AgreeBut, Logs, super_of, block_sectors, blocks_of, emptied, homes_of, log_from, log_to, with_homes}
+use Rattle.bfs_log.proofs.Valids.{valid_by}
 use Rattle.bfs_log.specs.Replay.{Malformed as IsMalformed}
 use Rattle.bfs_log.specs.declared.entry.EntryFault.{EntryFault}
 use Rattle.bfs_log.proofs.Logged.{logs_homes}
@@ -70,11 +71,7 @@ module _ (image : List ℕ) (s : Super) (is : super_of image ≡ s) (valid : Val
     new_valid =
         let size = replayed_size image result replayed in
         let room : natural s.num_blocks * s.block_size ≤ length image = subst (λ (t : Super). natural t.num_blocks * t.block_size ≤ length image) is valid.blocks in
-        record {
-          sectors = omega (arith, valid.sectors, size);
-          super = subst IsValid (sym new_super) (emptied_valid s (subst IsValid is valid.super));
-          blocks = subst (λ (t : Super). natural t.num_blocks * t.block_size ≤ length result) (sym new_super) (subst (λ (n : ℕ). natural s.num_blocks * s.block_size ≤ n) (sym size) room);
-        }
+        valid_by result (emptied s) new_super (emptied_valid s (subst IsValid is valid.super)) (omega (arith, valid.sectors, size)) (omega (arith, room, size))
 
     replayed_again : Replayed result result
     replayed_again = replayed_empty result new_valid (subst (λ (t : Super). log_from t ≡ log_to t) (sym new_super) refl)

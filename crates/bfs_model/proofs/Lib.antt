@@ -1,5 +1,1 @@
-pub mod Maps
-pub mod Children
-pub mod Free
-pub mod Lasts
 pub mod Follows

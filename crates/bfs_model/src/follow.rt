@@ -7,12 +7,11 @@ ghost use Rattle.bfs_tree.specs.Refusals.{own_refusal};
 ghost use Rattle.bfs_tree.specs.Steps.{Reads, is_by_disk, next};
 ghost use Rattle.bfs_tree.specs.declared.reply.Reply.TheVariants.{Made};
 ghost use Rattle.bfs_tree.specs.declared.call.Call.TheVariants as calls;
-ghost use Rattle.bfs_model.specs.Kept.{IsAStep, is_read, nodes_of, state_of};
+ghost use Rattle.bfs_plain.specs.Plain.{nodes_of};
+ghost use Rattle.bfs_model.specs.Kept.{IsAStep, is_read, state_of};
 
 use crate::model::Model;
-use crate::named::{drop_index, remove_attribute};
-use crate::nodes::{NodeChange, change_node};
-use crate::reads::node_at;
+use bfs_plain::{NodeChange, change_node, drop_index, node_at, remove_attribute};
 use bfs_tree::{Call, Entry, Hold, Reply, refusal_is_unique, state_is_determined};
 use std::alloc::AllocError;
 

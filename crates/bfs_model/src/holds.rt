@@ -1,84 +1,21 @@
 // The service calls: holds on pieces of files, and what is durable.
-ghost use Rattle.std.specs.Prelude.{◌≡◌, ◌↔◌, ℕ, ℤ, ◌<◌, ◌&&◌, IfOk, OnOk, OnErr, IsSome, Some, IsTrue, IsSomeAnd, length, slice_index_or, if◌then◌else◌};
+ghost use Rattle.std.specs.Prelude.{◌≡◌, ◌↔◌, ℕ, ℤ, ◌<◌, ◌&&◌, IfOk, OnOk, OnErr, Some, IsTrue, IsSomeAnd, length, if◌then◌else◌};
 ghost use Rattle.std.specs.FinMap.{get};
 ghost use Rattle.std.specs.List.{remove};
 ghost use Rattle.bfs_tree.specs.declared.state.Hold.{Hold};
-ghost use Rattle.bfs_tree.specs.States.{is_hold_of, last_hold, without_last, learn};
+ghost use Rattle.bfs_tree.specs.States.{last_hold};
 ghost use Rattle.bfs_tree.specs.Answers.{Ends};
-ghost use Rattle.bfs_tree.specs.Refusals.{is_past};
 ghost use Rattle.bfs_tree.specs.Changes.{holding, holding_to_write, released};
 ghost use Rattle.bfs_tree.specs.Steps.{Reads, ByTree};
-ghost use Rattle.bfs_known.specs.Known.{known_of};
 ghost use Rattle.bfs_model.specs.Kept.{state_of};
 ghost use Rattle.bfs_tree.specs.declared.call.Call.TheVariants as calls;
 ghost use Rattle.bfs_tree.specs.declared.reply.Reply.TheVariants.{Synced};
 
 use crate::model::Model;
-use crate::nodes::{NodeChange, change_node};
-use bfs_known::{Places, agrees, byte_at, forget, learn};
+use bfs_known::{Places, agrees, byte_at, forget};
+use bfs_plain::{NodeChange, change_node, last_hold_at, last_hold_of, learn_whole};
 use bfs_tree::{Hold, Reply};
 use std::alloc::AllocError;
-use std::collections::BTreeMap;
-
-/// The piece goes past the end of the file.
-pub(crate) fn is_past(size: u64, at: u64, length: u64) -> bool
-    ensures { result ≡ is_past size at length }
-{
-    at > size || length > size - at
-}
-
-fn is_hold_of(hold: &Hold, session: u32, id: u64) -> bool
-    ensures { result ≡ is_hold_of session id hold.now }
-{
-    hold.session == session && hold.id == id
-}
-
-/// What a session wrote is known where its hold for writing ends whole.
-fn learn_whole(
-    known: &mut BTreeMap<(u64, u64), u8>,
-    id: u64,
-    hold: Hold,
-    bytes: &[u8],
-    whole: bool,
-) -> Result<(), AllocError>
-    ensures ok { OnOk result (known_of known.new.entries ≡ (if whole && hold.write then learn (known_of known.old.entries) id hold.at bytes.now else known_of known.old.entries)) }
-    ensures err { OnErr result (known.new.entries ≡ known.old.entries) }
-{
-    if whole && hold.write {
-        *known = learn(known, id, hold.at, bytes)?;
-    }
-    Ok(())
-}
-
-/// Where the session's last hold on a node stands in the list.
-fn last_hold_at(holds: &Vec<Hold>, session: u32, id: u64) -> usize
-    requires { IsSome (last_hold holds.now.items session id) }
-    ensures within { result < length holds.now.items }
-    ensures found { (d : Hold) → last_hold holds.now.items session id ≡ Some (slice_index_or holds.now.items result d) }
-    ensures without { without_last holds.now.items session id ≡ remove holds.now.items result }
-{
-    let mut at = holds.len();
-    while at > 0 {
-        at -= 1;
-        if is_hold_of(&holds[at], session, id) {
-            return at;
-        }
-    }
-    unreachable!()
-}
-
-/// The session's last hold on a node.
-fn last_hold_of(holds: &Vec<Hold>, session: u32, id: u64) -> Option<Hold>
-    ensures { result ≡ last_hold holds.now.items session id }
-{
-    let mut last = None;
-    for hold in holds {
-        if is_hold_of(hold, session, id) {
-            last = Some(*hold);
-        }
-    }
-    last
-}
 
 impl Model {
     /// A whole Release may say that these bytes were written or read under the hold.

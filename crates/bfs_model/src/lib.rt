@@ -8,12 +8,9 @@ mod follow;
 mod holds;
 mod model;
 mod moves;
-mod named;
-mod nodes;
 mod reads;
 mod refusals;
-mod sorts;
 mod start;
 mod writes;
 
-pub use model::{Attribute, Model, Node};
+pub use model::Model;

@@ -1,66 +1,18 @@
 // The calls that take nodes away, move them and size them.
-ghost use Rattle.std.specs.Prelude.{◌≡◌, ◌≤◌, IfOk, OnOk, OnErr, MatchOption, length, None, Some};
-ghost use Rattle.std.specs.Option.{option_map_or, option_map};
-ghost use Rattle.std.specs.List.{list_any};
-ghost use Rattle.std.specs.FinMap.{get, len, entries};
+ghost use Rattle.std.specs.Prelude.{◌≡◌, IfOk, OnOk, OnErr, None, Some, ◌==◌};
+ghost use Rattle.std.specs.FinMap.{entries};
 ghost use Rattle.bfs_tree.specs.Trees.{child_in};
-ghost use Rattle.std.specs.Prelude.{◌==◌};
-ghost use Rattle.bfs_tree.specs.States.{conflict};
-ghost use Rattle.bfs_tree.specs.Refusals.{line_up};
 ghost use Rattle.bfs_tree.specs.Changes.{dropped, removed, renamed, resized, moved, moved_over, without_node};
 ghost use Rattle.bfs_tree.specs.Steps.{Writes};
-ghost use Rattle.bfs_model.specs.Kept.{nodes_of, state_of};
+ghost use Rattle.bfs_plain.specs.Plain.{nodes_of};
+ghost use Rattle.bfs_model.specs.Kept.{state_of};
 ghost use Rattle.bfs_tree.specs.declared.call.Call.TheVariants.{Remove, Rename, SetSize};
 
-use crate::model::{Model, Node};
-use crate::nodes::{NodeChange, change_node, take_node};
-use crate::reads::{child_at, node_at};
+use crate::model::Model;
 use bfs_known::{Places, forget};
-use bfs_tree::{Bytes, Hold, Reply};
+use bfs_plain::{NodeChange, change_node, child_at, take_node};
+use bfs_tree::{Bytes, Reply};
 use std::alloc::AllocError;
-use std::collections::BTreeMap;
-
-/// The first hold on a node that is in conflict: with a call that writes each is, and else those for writing.
-pub(crate) fn conflict_at(holds: &Vec<Hold>, id: u64, writes: bool) -> Option<Hold>
-    ensures { MatchOption result (conflict holds.now.items id writes ≡ None) (λ h. conflict holds.now.items id writes ≡ Some h) }
-{
-    for hold in holds {
-        if hold.id == id && (writes || hold.write) {
-            return Some(*hold);
-        }
-    }
-    None
-}
-
-/// The parent of a node, or its own id where it isn't there.
-fn parent_at(nodes: &BTreeMap<u64, Node>, id: u64) -> u64
-    ensures { result ≡ option_map_or (λ n. n.parent) (get (nodes_of nodes.now.entries) id) id }
-{
-    match node_at(nodes, id) {
-        None => id,
-        Some(node) => node.parent,
-    }
-}
-
-fn node_count(nodes: &BTreeMap<u64, Node>) -> usize
-    ensures { result ≡ len (nodes_of nodes.now.entries) }
-{
-    nodes.len()
-}
-
-/// The directory is that node or below it.
-pub(crate) fn is_below(nodes: &BTreeMap<u64, Node>, id: u64, dir: u64) -> bool
-    ensures { result ≡ list_any (λ x. x == id) (line_up (nodes_of nodes.now.entries) (len (nodes_of nodes.now.entries)) dir) }
-{
-    let mut at = dir;
-    for step in 0..node_count(nodes) {
-        if at == id {
-            return true;
-        }
-        at = parent_at(nodes, at);
-    }
-    at == id
-}
 
 impl Model {
     /// Takes a node out of its directory.

@@ -6,14 +6,14 @@ ghost use Rattle.bfs_tree.specs.States.{conflict};
 ghost use Rattle.bfs_tree.specs.Refusals.{first, at_replaced, replaced, is_one_dir, is_full, held, own_refusal};
 ghost use Rattle.bfs_tree.specs.declared.reply.Reply.TheVariants.{Exists, NotEmpty};
 ghost use Rattle.bfs_tree.specs.declared.call.Call.TheVariants as calls;
-ghost use Rattle.bfs_model.specs.Kept.{nodes_of, state_of};
+ghost use Rattle.bfs_plain.specs.Plain.{nodes_of};
+ghost use Rattle.bfs_model.specs.Kept.{state_of};
 
-use crate::holds::is_past;
-use crate::model::{Model, attribute_at, index_at};
-use crate::moves::{conflict_at, is_below};
-use crate::named::index_count;
-use crate::nodes::has_children;
-use crate::reads::{child_at, node_at};
+use crate::model::Model;
+use bfs_plain::{
+    attribute_at, child_at, conflict_at, has_children, index_at, index_count, is_below, is_past,
+    node_at,
+};
 use bfs_tree::{
     Call, Key, KeyKind, Kind, MakeKind, Reply, is_bad_attribute_name, is_bad_name, is_bad_target,
     is_built_in, is_float, is_kind,

@@ -1,32 +1,16 @@
 // The tree of a new volume.
-ghost use Rattle.std.specs.Prelude.{◌≡◌, IfOk, [], OnOk};
+ghost use Rattle.std.specs.Prelude.{◌≡◌, IfOk, []};
 ghost use Rattle.std.specs.FinMap.{empty};
-ghost use Rattle.bfs_tree.specs.Trees.{IsPlain, empty_tree, built_in};
+ghost use Rattle.bfs_tree.specs.Trees.{IsPlain, empty_tree};
 ghost use Rattle.bfs_known.specs.Known.{known_of};
-ghost use Rattle.bfs_model.specs.Kept.{indices_of, nodes_of, state_of};
+ghost use Rattle.bfs_plain.specs.Plain.{indices_of, nodes_of};
+ghost use Rattle.bfs_model.specs.Kept.{state_of};
 
-use crate::model::{Model, Node};
-use crate::named::put_index;
-use crate::nodes::put_node;
-use crate::writes::made_node;
-use bfs_tree::{BY_NAME, BY_SIZE, BY_TIME, KeyKind, MakeKind, empty_is_plain};
+use crate::model::Model;
+use bfs_plain::{Node, built_in_indices, made_node, put_node};
+use bfs_tree::{KeyKind, MakeKind, empty_is_plain};
 use std::alloc::{AllocError, Global};
 use std::collections::BTreeMap;
-
-/// The three indices that every tree has.
-fn built_in_indices(alloc: Global) -> Result<BTreeMap<Vec<u8>, KeyKind>, AllocError>
-    ensures { IfOk result (λ m. indices_of m.entries ≡ built_in) }
-{
-    let mut indices = BTreeMap::new(alloc);
-    put_index(
-        &mut indices,
-        Vec::from_slice(alloc, BY_NAME)?,
-        KeyKind::Text,
-    )?;
-    put_index(&mut indices, Vec::from_slice(alloc, BY_SIZE)?, KeyKind::I64)?;
-    put_index(&mut indices, Vec::from_slice(alloc, BY_TIME)?, KeyKind::I64)?;
-    Ok(indices)
-}
 
 impl Model {
     /// A tree of these nodes and indices, with these bytes of its files known. Nobody holds anything.

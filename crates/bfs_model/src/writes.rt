@@ -1,45 +1,19 @@
 // The calls that change nodes.
-ghost use Rattle.std.specs.Prelude.{◌≡◌, IfOk, OnOk, OnErr, length};
-ghost use Rattle.bfs_tree.specs.Names.{target_of};
-ghost use Rattle.bfs_tree.specs.Trees.{new_node};
+ghost use Rattle.std.specs.Prelude.{◌≡◌, IfOk, OnOk, OnErr};
 ghost use Rattle.std.specs.FinMap.{insert};
-ghost use Rattle.bfs_tree.specs.Changes.{kind_made, made, with_node, with_nodes};
+ghost use Rattle.bfs_tree.specs.Changes.{made, with_node, with_nodes};
 ghost use Rattle.bfs_tree.specs.Steps.{Writes};
-ghost use Rattle.bfs_model.specs.Kept.{indices_of, node_of, nodes_of, state_of, with_attribute};
+ghost use Rattle.bfs_plain.specs.Plain.{indices_of, nodes_of, with_attribute};
+ghost use Rattle.bfs_model.specs.Kept.{state_of};
 ghost use Rattle.bfs_tree.specs.declared.call.Call.TheVariants.{Make, SetMode, AttrWrite, AttrRemove, IndexMake, IndexRemove};
 
-use crate::model::{Attribute, Model, Node};
-use crate::named::{drop_index, put_index, remove_attribute, write_attribute};
-use crate::nodes::{NodeChange, change_node, free_id, put_node};
+use crate::model::Model;
+use bfs_plain::{
+    Attribute, NodeChange, change_node, drop_index, free_id, made_node, put_index, put_node,
+    remove_attribute, write_attribute,
+};
 use bfs_tree::{Bytes, KeyKind, MakeKind, Reply};
-use std::alloc::{AllocError, Global};
-use std::collections::BTreeMap;
-
-pub(crate) fn made_node(
-    alloc: Global,
-    dir: u64,
-    name: &[u8],
-    kind: &MakeKind,
-    mode: u32,
-    stamp: i64,
-) -> Result<Node, AllocError>
-    ensures { IfOk result (λ n. node_of n ≡ new_node (kind_made kind.now) name.now dir mode (length (target_of kind.now)) (target_of kind.now) stamp) }
-{
-    Ok(Node {
-        kind: kind.kind(),
-        name: Bytes::from_slice(alloc, name)?,
-        parent: dir,
-        mode,
-        uid: 0,
-        gid: 0,
-        created: stamp,
-        modified: stamp,
-        changed: stamp,
-        size: kind.target_len() as u64,
-        target: kind.target(alloc)?,
-        attributes: BTreeMap::new(alloc),
-    })
-}
+use std::alloc::AllocError;
 
 impl Model {
     /// Makes a node in a directory, with the first id that is free.

@@ -1,5 +1,6 @@
 // Worked calls, with the replies that they must have.
-use bfs_model::{Model, Node};
+use bfs_model::Model;
+use bfs_plain::Node;
 use bfs_tree::{Bytes, Call, Entry, FoundRow, Key, KeyKind, Kind, MakeKind, Reply};
 use std::alloc::{AllocError, Global};
 use std::collections::BTreeMap;

@@ -1,6 +1,6 @@
 use Rattle.std.proofs.Common.{rules, ◌≡◌, sym, subst}
 use Rattle.bfs_tree.specs.Trees.{Tree, IsPlain, empty_tree}
-use Rattle.bfs_model.specs.Kept.{nodes_of, indices_of}
+use Rattle.bfs_plain.specs.Plain.{nodes_of, indices_of}
 use Rattle.bfs_model.proofs.model.Model.new.Goals as goal
 
 pub returns-clause-plain : goal.returns-clause-plain

@@ -1,5 +1,0 @@
-use Rattle.bfs_model.proofs.Maps.{attribute-seen}
-use Rattle.bfs_model.proofs.model.attribute_at.Goals as goal
-
-pub returns : goal.returns
-returns c = attribute-seen c.args.name.now c.args.attributes.now.entries c.get.result c.get.ensures.value

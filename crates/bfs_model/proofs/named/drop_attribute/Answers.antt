@@ -1,9 +1,0 @@
-use Rattle.std.proofs.Common.{arith}
-use Rattle.bfs_model.proofs.Maps.{attributes-taken, attributes-none}
-use Rattle.bfs_model.proofs.named.drop_attribute.Goals as goal
-
-pub returns-then-len-gt0 : goal.returns-then-len-gt0
-returns-then-len-gt0 c = attributes-taken c.args.name.now c.args.attributes.now.entries c.remove.new.self.entries c.len.ensures.ordered c.remove.ensures.entries
-
-pub returns-else-len-gt0 : goal.returns-else-len-gt0
-returns-else-len-gt0 c = attributes-none c.args.name.now c.args.attributes.now.entries (omega (arith, c.len.ensures.len))

@@ -1,6 +1,0 @@
-use Rattle.std.proofs.Common.{◌∙◌}
-use Rattle.bfs_model.proofs.Maps.{len-indices}
-use Rattle.bfs_model.proofs.named.index_count.Goals as goal
-
-pub returns : goal.returns
-returns c = c.len.ensures.len ∙ len-indices c.args.indices.now.entries c.len.ensures.ordered

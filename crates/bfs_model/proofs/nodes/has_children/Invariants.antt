@@ -1,7 +1,0 @@
-use Rattle.std.proofs.Common.{◌≡◌, map as each}
-use Rattle.bfs_tree.specs.Refusals.{has_children}
-use Rattle.bfs_model.specs.Kept.{node_entry}
-use Rattle.bfs_model.proofs.nodes.has_children.Given as goal
-
-abbrev pub invariant-loop-id : goal.invariant-loop-id
-invariant-loop-id l = has_children l.root l.dir (each node_entry l.nodes.entries) ≡ has_children l.root l.dir (each node_entry l.id-iterator)

@@ -1,7 +1,0 @@
-use Rattle.std.proofs.Common.{◌≡◌, ◌++◌, map as each}
-use Rattle.bfs_tree.specs.Answers.{rows_of_attributes}
-use Rattle.bfs_model.specs.Kept.{attribute_entry}
-use Rattle.bfs_model.proofs.reads.attribute_rows.Given as goal
-
-abbrev pub invariant-loop-name : goal.invariant-loop-name
-invariant-loop-name l = l.rows.items ++ rows_of_attributes (each attribute_entry l.name-iterator) ≡ rows_of_attributes (each attribute_entry l.attributes.entries)

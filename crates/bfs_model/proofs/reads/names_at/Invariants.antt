@@ -1,8 +1,0 @@
-use Rattle.std.proofs.Common.{◌≡◌, ◌++◌, map as each}
-use Rattle.bfs_tree.specs.Trees.{children_in}
-use Rattle.bfs_model.specs.Kept.{node_entry}
-use Rattle.bfs_model.proofs.reads.names_at.Given as goal
-
-abbrev pub invariant-loop-id : goal.invariant-loop-id
-invariant-loop-id l =
-    l.names.items ++ each (λ e. e.1.name) (children_in l.root l.dir (each node_entry l.id-iterator)) ≡ each (λ e. e.1.name) (children_in l.root l.dir (each node_entry l.nodes.entries))

@@ -1,0 +1,4 @@
+pub mod Maps
+pub mod Children
+pub mod Free
+pub mod Lasts

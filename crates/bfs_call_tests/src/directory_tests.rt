@@ -3,13 +3,14 @@
 ghost use Rattle.std.specs.Prelude.{◌≡◌, ◌≤◌, ◌<◌, ◌^◌, length, IfOk};
 ghost use Rattle.bfs_stream.specs.Grown.{IsOfVolume};
 
-use crate::volumes::{BLOCK, Silent, run, superblock};
+use crate::volumes::BLOCK;
 use bfs_bitmap::Bitmap;
 use bfs_bytes::{put_i64, put_run};
 use bfs_dir::{Dir, DirRow};
 use bfs_node::{Header, PAGE, TreeFault, blank, insert_row};
 use bfs_stream_pages::MapFault;
 use bfs_txn::{Blocks, Changed, MemBlocks, Overlay};
+use bfs_volume_fixtures::{Silent, run, superblock};
 use std::alloc::{AllocError, Global};
 use std::test::Fail;
 
@@ -269,7 +270,7 @@ fn runs(
 
 /// The same on a new volume.
 fn runs_on(alloc: Global, calls: u32, seed: u64) -> Result<bool, Fail> {
-    let sup = superblock(20480, 3, 4)?;
+    let sup = superblock(1024, 10, 20480, 3, 4)?;
     if sup.block_size != 1024 {
         return Ok(false);
     }

@@ -1,7 +1,9 @@
-// Tests of parts of calls above the first ones: the places of a piece of a file, a directory, and a node's name. They stand over the
-// proved libraries, since a crate with tests of its own is proved twice. There is no code here but the tests.
+// Tests of the first calls that change a volume, and of parts of calls above them: the places of a piece of a file, a directory, and a
+// node's name. They stand over the proved libraries, since a crate with tests of its own is proved twice. There is no code here but the tests.
 #![tactic(auto)]
 
+#[cfg(test)]
+mod call_tests;
 #[cfg(test)]
 mod directory_tests;
 #[cfg(test)]

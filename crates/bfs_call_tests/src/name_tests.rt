@@ -6,7 +6,7 @@ ghost use Rattle.bfs_super.specs.Conditions.{IsValid, natural};
 ghost use Rattle.bfs_stream.specs.Sizes.{sizes_of};
 ghost use Rattle.bfs_stream.specs.Grown.{IsOfVolume};
 
-use crate::volumes::{BLOCK, RAWT, Silent, superblock, volume};
+use crate::volumes::{BLOCK, RAWT, volume};
 use bfs_attr::{AttrItem, attribute_of};
 use bfs_bitmap::Bitmap;
 use bfs_bytes::run_at;
@@ -18,6 +18,7 @@ use bfs_smalldata::{find, list_end};
 use bfs_stream::GrowFault;
 use bfs_stream_pages::MapFault;
 use bfs_txn::{Blocks, Changed, Overlay};
+use bfs_volume_fixtures::{Silent, superblock};
 use std::alloc::Global;
 use std::test::Fail;
 
@@ -167,7 +168,7 @@ fn named(alloc: Global, len: usize, left: usize) -> Result<bool, Fail>
     requires some { 1 ≤ len }
     requires short { len ≤ 255 }
 {
-    let sup = superblock(20480, 3, 8)?;
+    let sup = superblock(1024, 10, 20480, 3, 8)?;
     if sup.block_size != 1024 {
         return Ok(false);
     }

@@ -8,7 +8,7 @@ ghost use Rattle.bfs_smalldata.specs.Items.{items_of};
 ghost use Rattle.bfs_stream.specs.Sizes.{sizes_of};
 ghost use Rattle.bfs_stream.specs.Grown.{IsOfVolume};
 
-use crate::volumes::{BLOCK, Silent, superblock, volume};
+use crate::volumes::{BLOCK, volume};
 use bfs_bitmap::Bitmap;
 use bfs_bytes::run_at;
 use bfs_give_name::give_name;
@@ -19,6 +19,7 @@ use bfs_stream::GrowFault;
 use bfs_stream_pages::MapFault;
 use bfs_super::Super;
 use bfs_txn::{Blocks, Changed, Overlay};
+use bfs_volume_fixtures::{Silent, superblock};
 use std::alloc::Global;
 use std::test::Fail;
 
@@ -107,7 +108,7 @@ fn given(alloc: Global, first: u8, last: u8, len: usize, directory: bool) -> Res
     requires some { 1 ≤ len }
     requires short { len ≤ 255 }
 {
-    let sup = superblock(20480, 3, 8)?;
+    let sup = superblock(1024, 10, 20480, 3, 8)?;
     if sup.block_size != 1024 {
         return Ok(Told::Other);
     }

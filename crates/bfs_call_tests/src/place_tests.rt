@@ -2,11 +2,11 @@
 ghost use Rattle.std.specs.Prelude.{◌≡◌, ◌≤◌, ◌<◌, ◌*◌, IfOk};
 ghost use Rattle.bfs_super.specs.Conditions.{IsValid, natural};
 
-use crate::volumes::{run, superblock};
 use bfs_bytes::{put_i64, put_run};
 use bfs_hold::find_places;
 use bfs_super::Super;
 use bfs_txn::{BlockFault, MemBlocks};
+use bfs_volume_fixtures::{run, superblock};
 use std::alloc::{AllocError, Global};
 use std::test::Fail;
 
@@ -93,7 +93,7 @@ fn damaged() -> Result<[u64; 4], BlockFault> {
 #[test]
 fn a_piece_has_the_blocks_of_its_bytes_in_order(rt: HostRuntime) -> Result<(), Fail> {
     let alloc = rt.alloc();
-    let sup = superblock(4096, 1, 2)?;
+    let sup = superblock(1024, 10, 4096, 1, 2)?;
     assert_eq!(rt; sup.block_size, 1024);
     assert_eq!(rt; sup.num_blocks, 4096);
     let mut under = memory(alloc, 1024, 1000)?;
@@ -106,7 +106,7 @@ fn a_piece_has_the_blocks_of_its_bytes_in_order(rt: HostRuntime) -> Result<(), F
 #[test]
 fn a_block_of_the_log_is_damage_of_the_file(rt: HostRuntime) -> Result<(), Fail> {
     let alloc = rt.alloc();
-    let sup = superblock(4096, 1, 2)?;
+    let sup = superblock(1024, 10, 4096, 1, 2)?;
     assert_eq!(rt; sup.block_size, 1024);
     assert_eq!(rt; sup.num_blocks, 4096);
     let mut under = memory(alloc, 1024, 513)?;

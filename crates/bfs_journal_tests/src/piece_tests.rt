@@ -4,7 +4,6 @@ ghost use Rattle.std.specs.List.{All};
 ghost use Rattle.bfs_device.specs.Layouts.{IsData, layout_of};
 
 use crate::devices::{disk_of, opened_on};
-use crate::format_tests::has;
 use bfs_device::{Device, DeviceFault};
 use bfs_disk::{Disk, MemDisk};
 use bfs_pieces::{read_piece, write_piece};
@@ -75,9 +74,10 @@ fn a_piece_across_three_blocks_is_written_and_read_back(rt: HostRuntime) -> Resu
         put_and_get(alloc, disk_of(alloc, 0, 32_768)?, &from, 0, &mut all),
         Some([Ok(()), Ok(())])
     );
-    assert_eq!(rt; has(&all, 0, &[5; 1000]), true);
-    assert_eq!(rt; has(&all, 1000, &from), true);
-    assert_eq!(rt; has(&all, 2100, &[0; 972]), true);
+    let (before, behind) = ([5; 1000], [0; 972]);
+    assert!(rt; all[..1000] == before[..]);
+    assert!(rt; all[1000..2100] == from[..]);
+    assert!(rt; all[2100..] == behind[..]);
     Ok(())
 }
 

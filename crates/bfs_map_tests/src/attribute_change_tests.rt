@@ -5,7 +5,7 @@ ghost use Rattle.std.specs.Prelude.{◌≡◌, ◌≤◌, ◌<◌, ◌+◌, leng
 ghost use Rattle.bfs_sound.specs.Volumes.{sizes};
 ghost use Rattle.bfs_stream.specs.Grown.{IsOfVolume};
 
-use crate::volumes::{Silent, is_attribute, put_item, superblock};
+use crate::attribute_tests::is_attribute;
 use bfs_attrs::AttrsMut;
 use bfs_bitmap::Bitmap;
 use bfs_bytes::run_at;
@@ -13,6 +13,7 @@ use bfs_node::TreeFault;
 use bfs_stream::GrowFault;
 use bfs_stream_pages::MapFault;
 use bfs_txn::{Blocks, Changed, MemBlocks, Overlay};
+use bfs_volume_fixtures::{Silent, put_item, superblock};
 use std::alloc::{AllocError, Global};
 use std::test::Fail;
 

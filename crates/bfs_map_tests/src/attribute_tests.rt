@@ -3,14 +3,14 @@
 // data stand in any order, one of them is named `.`, and the attribute directory has the rows `.` and `..`.
 ghost use Rattle.std.specs.Prelude.{◌≡◌, ◌≤◌, ◌<◌, ◌+◌, length, IfOk};
 
-use crate::volumes::{Silent, is_attribute, put_item, run, superblock};
-use bfs_attr::Attrs;
+use bfs_attr::{AttrItem, Attrs};
 use bfs_bitmap::Bitmap;
 use bfs_bytes::{put_i64, put_run, put_u32};
 use bfs_node::{Header, PAGE, blank, insert_row};
 use bfs_stream_pages::MapFault;
 use bfs_tree::AttributeRow;
 use bfs_txn::{Blocks, Changed, MemBlocks, Overlay};
+use bfs_volume_fixtures::{Silent, put_item, run, superblock};
 use std::alloc::{AllocError, Global};
 use std::test::Fail;
 
@@ -23,6 +23,14 @@ const CSTR: u32 = 0x43535452;
 const LONG: u32 = 0x4c4f4e47;
 
 const RAWT: u32 = 0x52415754;
+
+/// Is the answer an attribute of this type with these bytes?
+pub(crate) fn is_attribute(found: &Option<AttrItem>, kind: u32, bytes: &[u8]) -> bool {
+    match found {
+        Some(item) => item.kind == kind && item.bytes.as_slice() == bytes,
+        None => false,
+    }
+}
 
 /// The header and the leaf of an attribute directory with the rows `.` and `..`.
 fn put_tree(pages: &mut [u8])

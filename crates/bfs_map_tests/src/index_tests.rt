@@ -6,13 +6,13 @@ ghost use Rattle.bfs_base.specs.declared.kind.KeyKind.TheVariants.{Text, I64};
 ghost use Rattle.bfs_node.specs.Search.{IsSought};
 ghost use Rattle.bfs_stream.specs.Grown.{IsOfVolume};
 
-use crate::volumes::{Silent, run, superblock};
 use bfs_bitmap::Bitmap;
 use bfs_bytes::{put_i64, put_run};
 use bfs_index::{Index, Pair};
 use bfs_node::{Header, KeyKind, PAGE, blank};
 use bfs_stream_pages::MapFault;
 use bfs_txn::{Blocks, Changed, MemBlocks, Overlay};
+use bfs_volume_fixtures::{Silent, run, superblock};
 use std::alloc::{AllocError, Global};
 use std::test::Fail;
 

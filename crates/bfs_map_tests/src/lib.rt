@@ -1,4 +1,4 @@
-// Tests of what stands on streams: streams as pages, attributes, indices, and the first calls of a volume. They stand over the proved
+// Tests of what stands on streams: streams as pages, attributes, indices, and the calls that read a new volume. They stand over the proved
 // libraries, since a crate with tests of its own is proved twice. There is no code here but the tests.
 #![tactic(auto)]
 
@@ -7,20 +7,10 @@ mod attribute_change_tests;
 #[cfg(test)]
 mod attribute_tests;
 #[cfg(test)]
-mod call_tests;
-#[cfg(test)]
-mod chain_tests;
-#[cfg(test)]
 mod index_tests;
 #[cfg(test)]
-mod leaf;
-#[cfg(test)]
 mod look_tests;
-#[cfg(test)]
-mod number_tests;
 #[cfg(test)]
 mod page_tests;
 #[cfg(test)]
 mod reader_tests;
-#[cfg(test)]
-mod volumes;

@@ -3,13 +3,13 @@
 ghost use Rattle.std.specs.Prelude.{◌≡◌, length};
 ghost use Rattle.bfs_super.specs.Conditions.{IsValid};
 
-use crate::volumes::{Silent, blocks_of, new_image, superblock_of};
 use bfs_bitmap::Bitmap;
 use bfs_look::{list, lookup, node_at, read_link, stat};
 use bfs_stream_pages::MapFault;
 use bfs_super::Super;
 use bfs_tree::{Kind, Reply};
 use bfs_txn::{Blocks, Changed, Overlay};
+use bfs_volume_fixtures::{Silent, blocks_of, new_image, superblock_of};
 use std::alloc::Global;
 use std::test::Fail;
 

@@ -6,12 +6,12 @@ ghost use Rattle.bfs_stream.specs.Sizes.{sizes_of};
 ghost use Rattle.bfs_stream.specs.Grown.{IsOfVolume};
 ghost use Rattle.bfs_stream_pages.specs.Held.{Held};
 
-use crate::volumes::{self, Silent};
 use bfs_bitmap::Bitmap;
 use bfs_stream::GrowFault;
 use bfs_stream_pages::StreamPages;
 use bfs_super::{Super, SuperFault};
 use bfs_txn::{BlockFault, Blocks, Changed, Edits, MemBlocks, Overlay, Pages, Steps};
+use bfs_volume_fixtures::Silent;
 use std::alloc::{AllocError, Global};
 use std::marker::Brand;
 use std::sync::ledger::{Blank, Ledger};
@@ -23,7 +23,7 @@ pub(crate) fn superblock(size: u32, shift: u32) -> Result<Super, SuperFault>
     requires low { shift ≤ 13 }
     ensures valid { IfOk result IsValid }
 {
-    volumes::superblock(size, shift, 16 * size + 4096, 3, 4)
+    bfs_volume_fixtures::superblock(size, shift, 16 * size + 4096, 3, 4)
 }
 
 /// The first six blocks of the volume, with so many bytes of the bitmap set.

@@ -10,76 +10,27 @@ use bfs_finding::{Finding, InodePart};
 use bfs_passes::{PassFault, Summary, check_passes};
 use bfs_super::{Super, SuperFault};
 use bfs_tree::{BY_NAME, BY_SIZE, BY_TIME, Key};
-use bfs_txn::{BlockFault, Blocks, MemBlocks};
+use bfs_txn::MemBlocks;
+use bfs_volume_fixtures::{Shape, Silent, run};
 use std::alloc::{AllocError, Global};
 use std::test::Fail;
-
-/// Blocks in memory, which tell nothing of what they hold.
-#[derive(Drop)]
-struct Untold {
-    blocks: MemBlocks,
-}
-
-impl Blocks for Untold {
-    ghost use Rattle.std.specs.Prelude.{None, [], false};
-    ghost use Rattle.bfs_txn.specs.Told.{read_last};
-
-    ghost told = { λ s. None };
-
-    ghost size = { λ s. s.blocks.block_size };
-
-    ghost counts = { λ s. record { faults = 0; stops = 0; stop = None } };
-
-    ghost changed = { λ s k. false };
-
-    ghost pairs = { λ s. 0 };
-
-    ghost last = { λ s. read_last s.blocks };
-
-    ghost Note = { Unit {0} };
-
-    ghost frame = { λ s. record { note = tt; names = []; kept = []; below = None } };
-
-    ghost sized = { λ s. tt };
-
-    fn get(&mut self, block: u64, into: &mut [u8]) -> Result<(), BlockFault> {
-        match self.blocks.get(block, into) {
-            Ok(()) => Ok(()),
-            Err(_) => Err(BlockFault::NoMemory),
-        }
-    }
-}
-
-fn run(start: u16, len: u16) -> Run {
-    Run {
-        group: 0,
-        start,
-        len,
-    }
-}
 
 /// The superblock of the volume, with this count of used blocks and this begin of the log, which ends at 0.
 fn superblock(used: i64, start: i64) -> Result<Super, SuperFault>
     ensures valid { IfOk result IsValid }
 {
-    let mut sector = [0u8; 512];
-    put_u32(&mut sector, 32, 0x42465331);
-    put_u32(&mut sector, 36, 0x42494745);
-    put_u32(&mut sector, 40, 1024);
-    put_u32(&mut sector, 44, 10);
-    put_u32(&mut sector, 48, 24);
-    put_i64(&mut sector, 56, used);
-    put_u32(&mut sector, 64, 1024);
-    put_u32(&mut sector, 68, 0xdd121031);
-    put_u32(&mut sector, 72, 1);
-    put_u32(&mut sector, 76, 13);
-    put_u32(&mut sector, 80, 1);
-    put_run(&mut sector, 88, run(2, 2));
-    put_i64(&mut sector, 96, start);
-    put_u32(&mut sector, 112, 0x15b6830e);
-    put_run(&mut sector, 116, run(4, 1));
-    put_run(&mut sector, 124, run(5, 1));
-    Super::parse(&sector)
+    let shape = Shape {
+        size: 1024,
+        shift: 10,
+        blocks: 24,
+        groups: 1,
+        used,
+        start,
+        log: run(2, 2),
+        root: run(4, 1),
+        indices: run(5, 1),
+    };
+    shape.superblock()
 }
 
 /// Writes an inode with this mode, whose parent is the root, and whose stream has this run and so many bytes.
@@ -335,7 +286,7 @@ fn told_by(fault: PassFault) -> Seen {
 }
 
 /// Passes the volume.
-fn pass(alloc: Global, sup: &Super, under: &mut Untold) -> Seen
+fn pass(alloc: Global, sup: &Super, under: &mut Silent) -> Seen
     requires valid { IsValid sup.now }
     requires block_size { sup.now.block_size ≡ 1024 }
     requires size { under.old.blocks.block_size ≡ 1024 }
@@ -367,7 +318,7 @@ fn pass_with(
     if !meant {
         return Ok(Seen::Other);
     }
-    let mut under = Untold {
+    let mut under = Silent {
         blocks: volume(alloc, 24576, file, at, number)?,
     };
     Ok(pass(alloc, &sup, &mut under))

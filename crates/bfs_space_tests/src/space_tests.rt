@@ -12,9 +12,6 @@ ghost use Rattle.bfs_space.specs.Holds.{keeps_holds};
 ghost use Rattle.bfs_space.specs.Looks.{is_served};
 
 use bfs_bitmap::Bitmap;
-use bfs_bytes::{Run, put_run, put_u32};
-use bfs_disk::{Disk, MemDisk};
-use bfs_mkfs::{format, layout_with_log};
 use bfs_node::TreeFault;
 use bfs_space::{
     Allowance, Answers, CallFault, Calls, Looked, Outcome, Space, answer_call, note_holds,
@@ -22,40 +19,27 @@ use bfs_space::{
 use bfs_stream_pages::MapFault;
 use bfs_super::{Super, SuperFault};
 use bfs_tree::{Bytes, Call, Entry, FoundRow, Hold, Key, KeyKind, MakeKind, Reply};
-use bfs_txn::{BlockFault, Blocks, Changed, Edits, MemBlocks};
+use bfs_txn::{Blocks, Changed, Edits, MemBlocks};
+use bfs_volume_fixtures::{Shape, Silent, new_volume, run};
 use std::alloc::{AllocError, Global};
 use std::test::Fail;
-
-/// A run in the first group.
-fn run(start: u16, len: u16) -> Run {
-    Run {
-        group: 0,
-        start,
-        len,
-    }
-}
 
 /// The volume's superblock.
 fn superblock() -> Result<Super, SuperFault>
     ensures valid { IfOk result IsValid }
 {
-    let mut sector = [0u8; 512];
-    put_u32(&mut sector, 32, 0x42465331);
-    put_u32(&mut sector, 36, 0x42494745);
-    put_u32(&mut sector, 40, 1024);
-    put_u32(&mut sector, 44, 10);
-    put_u32(&mut sector, 48, 4096);
-    put_u32(&mut sector, 56, 529);
-    put_u32(&mut sector, 64, 1024);
-    put_u32(&mut sector, 68, 0xdd121031);
-    put_u32(&mut sector, 72, 1);
-    put_u32(&mut sector, 76, 13);
-    put_u32(&mut sector, 80, 1);
-    put_run(&mut sector, 88, run(2, 512));
-    put_u32(&mut sector, 112, 0x15b6830e);
-    put_run(&mut sector, 116, run(514, 1));
-    put_run(&mut sector, 124, run(517, 1));
-    Super::parse(&sector)
+    let shape = Shape {
+        size: 1024,
+        shift: 10,
+        blocks: 4096,
+        groups: 1,
+        used: 529,
+        start: 0,
+        log: run(2, 512),
+        root: run(514, 1),
+        indices: run(517, 1),
+    };
+    shape.superblock()
 }
 
 /// Notes an entry of session 1 for which it is promised room first.
@@ -129,39 +113,6 @@ fn what_is_promised_is_noted_with_rising_stamps_and_sealed_once(
     assert_eq!(rt; count, 4);
     assert_eq!(rt; stamps, [65536000, 65536001, 65536002, 65601536]);
     Ok(())
-}
-
-/// Blocks in memory, which tell nothing of what they hold.
-#[derive(Drop)]
-struct Silent {
-    blocks: MemBlocks,
-}
-
-impl Blocks for Silent {
-    ghost use Rattle.std.specs.Prelude.{None, [], false};
-    ghost use Rattle.bfs_txn.specs.Told.{read_last};
-
-    ghost told = { λ s. None };
-
-    ghost size = { λ s. s.blocks.block_size };
-
-    ghost counts = { λ s. record { faults = 0; stops = 0; stop = None } };
-
-    ghost changed = { λ s k. false };
-
-    ghost pairs = { λ s. 0 };
-
-    ghost last = { λ s. read_last s.blocks };
-
-    ghost Note = { Unit {0} };
-
-    ghost frame = { λ s. record { note = tt; names = []; kept = []; below = None } };
-
-    ghost sized = { λ s. tt };
-
-    fn get(&mut self, block: u64, into: &mut [u8]) -> Result<(), BlockFault> {
-        self.blocks.get(block, into)
-    }
 }
 
 /// Changes one block, and has no answer, as if it wanted memory.
@@ -259,24 +210,6 @@ fn what_a_failed_call_changed_is_given_up(rt: HostRuntime) -> Result<(), Fail> {
     assert_eq!(rt; changed, 0);
     assert_eq!(rt; used, 529);
     Ok(())
-}
-
-/// Formats a disk that is large enough with so many blocks of 1,024 bytes and a log of so many, and tells whether it worked.
-fn formats(alloc: Global, disk: &mut MemDisk, blocks: u64, log: u16) -> bool
-    requires few { blocks ≤ 4194304 }
-    requires low { 2 ≤ log }
-    requires high { log ≤ 2048 }
-{
-    let Ok(geometry) = layout_with_log(blocks, 1024, log) else {
-        return false;
-    };
-    let Ok(sectors) = disk.sectors() else {
-        return false;
-    };
-    if sectors < geometry.blocks * u64::from(geometry.block_size / 512) {
-        return false;
-    }
-    format(alloc, disk, &geometry, b"untitled", 65_536_000).is_ok()
 }
 
 /// A new volume, mounted over its blocks.
@@ -441,21 +374,6 @@ fn drains(mount: &mut Mount) -> u64 {
     mount.under.blocks.apply(&group);
     mount.space.released(group.last);
     group.used
-}
-
-/// The bytes of a new volume of so many blocks of 1,024 bytes, with a log of so many; none where they can't be had.
-fn new_volume(alloc: Global, blocks: u64, log: u16) -> Result<Option<Vec<u8>>, AllocError>
-    requires some { 1 ≤ blocks }
-    requires few { blocks ≤ 4096 }
-    requires low { 2 ≤ log }
-    requires high { log ≤ 2048 }
-{
-    let bytes = vec![in alloc; 0u8; 1024 * blocks as usize]?;
-    let mut disk = MemDisk::new(alloc, bytes);
-    if !formats(alloc, &mut disk, blocks, log) {
-        return Ok(None);
-    }
-    Ok(Some(disk.bytes()))
 }
 
 /// A new volume of so many blocks of 1,024 bytes, with a log of so many, mounted.

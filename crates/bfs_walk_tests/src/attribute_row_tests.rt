@@ -3,9 +3,7 @@
 ghost use Rattle.std.specs.Prelude.{◌≡◌, ◌<◌, IfOk, length};
 ghost use Rattle.bfs_super.specs.Conditions.{IsValid, natural};
 
-use crate::volumes::{
-    Untold, is_meant, over, put_header, put_inode, put_leaf, put_values, run, superblock,
-};
+use crate::volumes::{is_meant, over, put_header, put_inode, put_leaf, put_values};
 use bfs_attr_walk::{directory_of, visit_stored};
 use bfs_bytes::{Run, put_run};
 use bfs_claims::Claims;
@@ -13,6 +11,7 @@ use bfs_finding::Finding;
 use bfs_inode_walk::VisitFault;
 use bfs_super::Super;
 use bfs_txn::{Blocks, MemBlocks};
+use bfs_volume_fixtures::{Silent, run, small_superblock};
 use std::alloc::{AllocError, Global};
 use std::test::Fail;
 
@@ -49,7 +48,7 @@ fn told_by(sup: Super, group: i32, start: u16, len: u16) -> Seen
 fn an_address_is_zero_or_names_a_block_or_is_wrong_in_one_number(
     rt: HostRuntime,
 ) -> Result<(), Fail> {
-    let sup = superblock(16, 1, [run(2, 2), run(4, 1), run(5, 1)])?;
+    let sup = small_superblock(16, 1, [run(2, 2), run(4, 1), run(5, 1)])?;
     let table: [(i32, u16, u16, Seen); 6] = [
         (0, 0, 0, Seen::Nothing),
         (0, 7, 1, Seen::At(7)),
@@ -113,7 +112,7 @@ fn fault_says(fault: VisitFault) -> Stored {
 }
 
 /// Goes over the directory, where this block is claimed at first.
-fn visit(alloc: Global, sup: &Super, under: &mut Untold, taken: u64) -> Result<Stored, AllocError>
+fn visit(alloc: Global, sup: &Super, under: &mut Silent, taken: u64) -> Result<Stored, AllocError>
     requires valid { IsValid sup.now }
     requires block_size { sup.now.block_size ≡ 1024 }
     requires size { under.old.blocks.block_size ≡ 1024 }
@@ -130,12 +129,12 @@ fn visit(alloc: Global, sup: &Super, under: &mut Untold, taken: u64) -> Result<S
 
 /// Goes over it where the row `b` has this value, the bytes of the inode at block 11 are in this block, and this one is claimed at first.
 fn visit_with(alloc: Global, other: i64, first: u16, taken: u64) -> Result<Stored, Fail> {
-    let sup = superblock(16, 1, [run(2, 2), run(4, 1), run(5, 1)])?;
+    let sup = small_superblock(16, 1, [run(2, 2), run(4, 1), run(5, 1)])?;
     let meant = is_meant(sup);
     if !meant || taken >= 16 {
         return Ok(Stored::Other);
     }
-    let mut under = Untold {
+    let mut under = Silent {
         blocks: volume(alloc, 16384, other, first)?,
     };
     Ok(visit(alloc, &sup, &mut under, taken)?)

@@ -4,9 +4,7 @@
 ghost use Rattle.std.specs.Prelude.{◌≡◌, ◌<◌, IfOk, length};
 ghost use Rattle.bfs_super.specs.Conditions.{IsValid, natural};
 
-use crate::volumes::{
-    Untold, is_meant, over, put_header, put_inode, put_leaf, put_values, run, superblock,
-};
+use crate::volumes::{is_meant, over, put_header, put_inode, put_leaf, put_values};
 use bfs_attrs_walk::{check_names, find_attribute};
 use bfs_bytes::{put_run, put_u32};
 use bfs_finding::Finding;
@@ -15,6 +13,7 @@ use bfs_node_check::NodeFault;
 use bfs_super::Super;
 use bfs_tree::Bytes;
 use bfs_txn::{Blocks, MemBlocks};
+use bfs_volume_fixtures::{Silent, run, small_superblock};
 use std::alloc::{AllocError, Global};
 use std::test::Fail;
 
@@ -117,7 +116,7 @@ enum Owner {
 }
 
 /// Looks for a block among the attributes of a node.
-fn look(alloc: Global, sup: &Super, under: &mut Untold, id: u64, block: u64) -> Owner
+fn look(alloc: Global, sup: &Super, under: &mut Silent, id: u64, block: u64) -> Owner
     requires valid { IsValid sup.now }
     requires block_size { sup.now.block_size ≡ 1024 }
     requires size { under.old.blocks.block_size ≡ 1024 }
@@ -133,12 +132,12 @@ fn look(alloc: Global, sup: &Super, under: &mut Untold, id: u64, block: u64) -> 
 
 /// Looks for a block among the attributes of the node at this block.
 fn look_for(alloc: Global, id: u64, block: u64) -> Result<Owner, Fail> {
-    let sup = superblock(16, 1, [run(2, 2), run(4, 1), run(5, 1)])?;
+    let sup = small_superblock(16, 1, [run(2, 2), run(4, 1), run(5, 1)])?;
     let meant = is_meant(sup);
     if !meant || id >= 16 {
         return Ok(Owner::Fault);
     }
-    let mut under = Untold {
+    let mut under = Silent {
         blocks: volume(alloc, 16384)?,
     };
     Ok(look(alloc, &sup, &mut under, id, block))

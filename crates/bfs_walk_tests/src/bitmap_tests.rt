@@ -2,12 +2,12 @@
 ghost use Rattle.std.specs.Prelude.{◌≡◌, ◌<◌, IfOk, length};
 ghost use Rattle.bfs_super.specs.Conditions.{IsValid, natural};
 
-use crate::volumes::superblock;
 use bfs_bitmap_check::{BitFault, check_bitmap};
 use bfs_bytes::Run;
 use bfs_claims::Claims;
 use bfs_super::Super;
 use bfs_txn::MemBlocks;
+use bfs_volume_fixtures::small_superblock;
 use std::alloc::{AllocError, Global};
 use std::test::Fail;
 
@@ -70,7 +70,7 @@ fn found(
 #[test]
 fn the_first_bit_that_differs_is_told_with_its_way(rt: HostRuntime) -> Result<(), Fail> {
     let alloc = rt.alloc();
-    let sup = superblock(20480, 3, [run(0, 4, 512), run(0, 600, 1), run(0, 601, 1)])?;
+    let sup = small_superblock(20480, 3, [run(0, 4, 512), run(0, 600, 1), run(0, 601, 1)])?;
     assert_eq!(rt; sup.block_size, 1024);
     assert_eq!(rt; sup.num_blocks, 20480);
     let claims = claims(alloc)?;

@@ -3,7 +3,6 @@
 ghost use Rattle.std.specs.Prelude.{◌≡◌, ◌<◌, ◌+◌, IfOk, length, true};
 ghost use Rattle.bfs_super.specs.Conditions.{IsValid, natural};
 
-use crate::volumes::{Untold, run, superblock};
 use bfs_bytes::{Run, put_bytes, put_i64, put_run, put_u16, put_u32};
 use bfs_claims::Claims;
 use bfs_finding::{Finding, InodePart, PagePart};
@@ -12,6 +11,7 @@ use bfs_inode_walk::VisitFault;
 use bfs_node::KeyKind;
 use bfs_super::Super;
 use bfs_txn::{Blocks, MemBlocks};
+use bfs_volume_fixtures::{Silent, run, small_superblock};
 use std::alloc::{AllocError, Global};
 use std::test::Fail;
 
@@ -173,7 +173,7 @@ fn told_by(fault: VisitFault) -> Seen {
 }
 
 /// Goes over the indices, where block 0 is claimed.
-fn walk(alloc: Global, sup: &Super, under: &mut Untold) -> Result<Seen, AllocError>
+fn walk(alloc: Global, sup: &Super, under: &mut Silent) -> Result<Seen, AllocError>
     requires valid { IsValid sup.now }
     requires block_size { sup.now.block_size ≡ 1024 }
     requires size { under.old.blocks.block_size ≡ 1024 }
@@ -188,7 +188,7 @@ fn walk(alloc: Global, sup: &Super, under: &mut Untold) -> Result<Seen, AllocErr
 }
 
 /// Goes over the indices, and finds which of them has a block.
-fn owner_of(alloc: Global, sup: &Super, under: &mut Untold, block: u64) -> Result<Seen, AllocError>
+fn owner_of(alloc: Global, sup: &Super, under: &mut Silent, block: u64) -> Result<Seen, AllocError>
     requires valid { IsValid sup.now }
     requires block_size { sup.now.block_size ≡ 1024 }
     requires size { under.old.blocks.block_size ≡ 1024 }
@@ -219,12 +219,12 @@ fn is_meant(sup: Super) -> bool
 
 /// Goes over them in the volume with this run of the index directory, where another number stands in the eight bytes from a place on.
 fn walk_with(alloc: Global, indices: Run, at: usize, number: i64) -> Result<Seen, Fail> {
-    let sup = superblock(20, 1, [run(2, 2), run(4, 1), indices])?;
+    let sup = small_superblock(20, 1, [run(2, 2), run(4, 1), indices])?;
     let meant = is_meant(sup);
     if !meant {
         return Ok(Seen::Other);
     }
-    let mut under = Untold {
+    let mut under = Silent {
         blocks: volume(alloc, 20480, at, number)?,
     };
     Ok(walk(alloc, &sup, &mut under)?)
@@ -232,12 +232,12 @@ fn walk_with(alloc: Global, indices: Run, at: usize, number: i64) -> Result<Seen
 
 /// Finds which of them has a block in the whole volume, with this run of the index directory.
 fn owner_with(alloc: Global, indices: Run, block: u64) -> Result<Seen, Fail> {
-    let sup = superblock(20, 1, [run(2, 2), run(4, 1), indices])?;
+    let sup = small_superblock(20, 1, [run(2, 2), run(4, 1), indices])?;
     let meant = is_meant(sup);
     if !meant {
         return Ok(Seen::Other);
     }
-    let mut under = Untold {
+    let mut under = Silent {
         blocks: volume(alloc, 20480, 0, 0)?,
     };
     Ok(owner_of(alloc, &sup, &mut under, block)?)

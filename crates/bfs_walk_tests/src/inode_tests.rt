@@ -2,7 +2,7 @@
 ghost use Rattle.std.specs.Prelude.{◌≡◌, ◌<◌, ◌≤◌, ◌+◌, IfOk, length};
 ghost use Rattle.bfs_super.specs.Conditions.{IsValid, natural};
 
-use crate::volumes::{over, run, superblock};
+use crate::volumes::over;
 use bfs_bytes::{put_i64, put_run, put_u32};
 use bfs_claims::Claims;
 use bfs_finding::{Finding, InodePart};
@@ -10,6 +10,7 @@ use bfs_inode_walk::{VisitFault, visit_inode};
 use bfs_node_check::Role;
 use bfs_super::Super;
 use bfs_txn::{BlockFault, Blocks, MemBlocks};
+use bfs_volume_fixtures::{run, small_superblock};
 use std::alloc::{AllocError, Global};
 use std::test::Fail;
 
@@ -153,7 +154,7 @@ fn visit_with(
     taken: u64,
     bad: u64,
 ) -> Result<Seen, Fail> {
-    let sup = superblock(16, 1, [run(2, 2), run(4, 1), run(5, 1)])?;
+    let sup = small_superblock(16, 1, [run(2, 2), run(4, 1), run(5, 1)])?;
     if sup.block_size != 1024 || sup.num_blocks != 16 || at > 1020 {
         return Ok(Seen::Other);
     }

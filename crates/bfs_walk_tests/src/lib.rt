@@ -1,6 +1,5 @@
-// Tests of the walks of a check: over the superblock and the bitmap, over streams, over trees and their values, and over the nodes,
-// attributes and indices of a volume. They stand over the proved libraries, since a crate with tests of its own is proved twice. There
-// is no code here but the tests.
+// Tests of the walks of a check: over the superblock and the bitmap, over streams, and over the nodes, attributes and indices of a volume.
+// They stand over the proved libraries, since a crate with tests of its own is proved twice. There is no code here but the tests.
 #![tactic(auto)]
 
 #[cfg(test)]
@@ -16,22 +15,10 @@ mod inode_tests;
 #[cfg(test)]
 mod listing_tests;
 #[cfg(test)]
-mod look_tests;
-#[cfg(test)]
-mod name_tests;
-#[cfg(test)]
 mod node_tests;
-#[cfg(test)]
-mod pages;
-#[cfg(test)]
-mod plain_tests;
 #[cfg(test)]
 mod stream_tests;
 #[cfg(test)]
 mod super_tests;
-#[cfg(test)]
-mod tree_tests;
-#[cfg(test)]
-mod value_tests;
 #[cfg(test)]
 mod volumes;

@@ -3,7 +3,7 @@
 ghost use Rattle.std.specs.Prelude.{◌≡◌, ◌<◌, IfOk, length};
 ghost use Rattle.bfs_super.specs.Conditions.{IsValid, natural, block_of_run};
 
-use crate::volumes::{Untold, is_meant, over, run, superblock};
+use crate::volumes::{is_meant, over};
 use bfs_bytes::{Run, put_i64, put_run, put_u32};
 use bfs_claims::Claims;
 use bfs_finding::{Finding, InodePart};
@@ -11,6 +11,7 @@ use bfs_inode_walk::VisitFault;
 use bfs_nodes_walk::walk_nodes;
 use bfs_super::Super;
 use bfs_txn::{Blocks, MemBlocks};
+use bfs_volume_fixtures::{Silent, run, small_superblock};
 use std::alloc::{AllocError, Global};
 use std::test::Fail;
 
@@ -149,7 +150,7 @@ fn told_by(fault: VisitFault) -> Seen {
 }
 
 /// Goes over the nodes, where block 0 is claimed.
-fn walk(alloc: Global, sup: &Super, under: &mut Untold, root: u64) -> Result<Seen, AllocError>
+fn walk(alloc: Global, sup: &Super, under: &mut Silent, root: u64) -> Result<Seen, AllocError>
     requires valid { IsValid sup.now }
     requires block_size { sup.now.block_size ≡ 1024 }
     requires size { under.old.blocks.block_size ≡ 1024 }
@@ -167,7 +168,7 @@ fn walk(alloc: Global, sup: &Super, under: &mut Untold, root: u64) -> Result<See
 
 /// Goes over the nodes of such a volume.
 fn walk_with(alloc: Global, case: Case) -> Result<Seen, Fail> {
-    let sup = superblock(16, 1, [run(2, 2), run(4, 1), run(5, 1)])?;
+    let sup = small_superblock(16, 1, [run(2, 2), run(4, 1), run(5, 1)])?;
     let meant = is_meant(sup);
     if !meant {
         return Ok(Seen::Other);
@@ -176,7 +177,7 @@ fn walk_with(alloc: Global, case: Case) -> Result<Seen, Fail> {
     if root >= 16 {
         return Ok(Seen::Other);
     }
-    let mut under = Untold {
+    let mut under = Silent {
         blocks: volume(alloc, 16384, case)?,
     };
     Ok(walk(alloc, &sup, &mut under, root)?)

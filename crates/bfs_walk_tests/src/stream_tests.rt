@@ -2,11 +2,11 @@
 ghost use Rattle.std.specs.Prelude.{◌≡◌, ◌<◌, ◌≤◌, ◌+◌, ◌*◌, IfOk, length};
 ghost use Rattle.bfs_super.specs.Conditions.{IsValid, natural};
 
-use crate::volumes::superblock;
 use bfs_bytes::{Run, put_i64, put_run};
 use bfs_stream_check::{ReadFault, read_stream};
 use bfs_super::Super;
 use bfs_txn::MemBlocks;
+use bfs_volume_fixtures::small_superblock;
 use std::alloc::{AllocError, Global};
 use std::test::Fail;
 
@@ -136,7 +136,7 @@ fn runs_of(alloc: Global, sup: &Super, bytes: Vec<u8>) -> Option<(usize, usize, 
 #[test]
 fn a_whole_stream_is_read_with_its_arrays(rt: HostRuntime) -> Result<(), Fail> {
     let alloc = rt.alloc();
-    let sup = superblock(20480, 3, [run(0, 4, 512), run(0, 600, 1), run(0, 601, 1)])?;
+    let sup = small_superblock(20480, 3, [run(0, 4, 512), run(0, 600, 1), run(0, 601, 1)])?;
     assert_eq!(rt; sup.block_size, 1024);
     assert_eq!(rt; sup.num_blocks, 20480);
     let bytes = stream(alloc, 14336)?;
@@ -156,7 +156,7 @@ fn a_whole_stream_is_read_with_its_arrays(rt: HostRuntime) -> Result<(), Fail> {
 #[test]
 fn each_run_that_breaks_the_format_is_found(rt: HostRuntime) -> Result<(), Fail> {
     let alloc = rt.alloc();
-    let sup = superblock(20480, 3, [run(0, 4, 512), run(0, 600, 1), run(0, 601, 1)])?;
+    let sup = small_superblock(20480, 3, [run(0, 4, 512), run(0, 600, 1), run(0, 601, 1)])?;
     assert_eq!(rt; sup.block_size, 1024);
     assert_eq!(rt; sup.num_blocks, 20480);
     let rows: [(usize, Run, i64, i64); 10] = [
@@ -185,7 +185,7 @@ fn each_run_that_breaks_the_format_is_found(rt: HostRuntime) -> Result<(), Fail>
 #[test]
 fn each_range_and_the_size_are_held_against_the_runs(rt: HostRuntime) -> Result<(), Fail> {
     let alloc = rt.alloc();
-    let sup = superblock(20480, 3, [run(0, 4, 512), run(0, 600, 1), run(0, 601, 1)])?;
+    let sup = small_superblock(20480, 3, [run(0, 4, 512), run(0, 600, 1), run(0, 601, 1)])?;
     assert_eq!(rt; sup.block_size, 1024);
     assert_eq!(rt; sup.num_blocks, 20480);
     let rows: [(usize, i64, i64); 5] = [

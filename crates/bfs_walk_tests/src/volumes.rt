@@ -1,77 +1,11 @@
 // Volumes of blocks of 1,024 bytes in memory, made by hand.
-ghost use Rattle.std.specs.Prelude.{◌≡◌, ◌<◌, IfOk, length, true};
-ghost use Rattle.bfs_super.specs.Conditions.{IsValid, natural};
+ghost use Rattle.std.specs.Prelude.{◌≡◌, ◌<◌, length, true};
+ghost use Rattle.bfs_super.specs.Conditions.{natural};
 
 use bfs_bytes::{Run, put_i64, put_run, put_u32};
-use bfs_super::{Super, SuperFault};
-use bfs_txn::{BlockFault, Blocks, MemBlocks};
-
-/// Blocks in memory, which tell nothing of what they hold.
-#[derive(Drop)]
-pub(crate) struct Untold {
-    pub(crate) blocks: MemBlocks,
-}
-
-impl Blocks for Untold {
-    ghost use Rattle.std.specs.Prelude.{None, [], false};
-    ghost use Rattle.bfs_txn.specs.Told.{read_last};
-
-    ghost told = { λ s. None };
-
-    ghost size = { λ s. s.blocks.block_size };
-
-    ghost counts = { λ s. record { faults = 0; stops = 0; stop = None } };
-
-    ghost changed = { λ s k. false };
-
-    ghost pairs = { λ s. 0 };
-
-    ghost last = { λ s. read_last s.blocks };
-
-    ghost Note = { Unit {0} };
-
-    ghost frame = { λ s. record { note = tt; names = []; kept = []; below = None } };
-
-    ghost sized = { λ s. tt };
-
-    fn get(&mut self, block: u64, into: &mut [u8]) -> Result<(), BlockFault> {
-        match self.blocks.get(block, into) {
-            Ok(()) => Ok(()),
-            Err(_) => Err(BlockFault::NoMemory),
-        }
-    }
-}
-
-/// A run in the first group.
-pub(crate) fn run(start: u16, len: u16) -> Run {
-    Run {
-        group: 0,
-        start,
-        len,
-    }
-}
-
-/// The superblock of a volume with so many blocks of 1,024 bytes in so many groups, with these runs of its log, its root and its indices.
-pub(crate) fn superblock(blocks: u32, groups: u32, runs: [Run; 3]) -> Result<Super, SuperFault>
-    ensures valid { IfOk result IsValid }
-{
-    let mut sector = [0u8; 512];
-    put_u32(&mut sector, 32, 0x42465331);
-    put_u32(&mut sector, 36, 0x42494745);
-    put_u32(&mut sector, 40, 1024);
-    put_u32(&mut sector, 44, 10);
-    put_u32(&mut sector, 48, blocks);
-    put_u32(&mut sector, 64, 1024);
-    put_u32(&mut sector, 68, 0xdd121031);
-    put_u32(&mut sector, 72, 1);
-    put_u32(&mut sector, 76, 13);
-    put_u32(&mut sector, 80, groups);
-    put_run(&mut sector, 88, runs[0]);
-    put_u32(&mut sector, 112, 0x15b6830e);
-    put_run(&mut sector, 116, runs[1]);
-    put_run(&mut sector, 124, runs[2]);
-    Super::parse(&sector)
-}
+use bfs_super::Super;
+use bfs_txn::MemBlocks;
+use bfs_volume_fixtures::run;
 
 /// Blocks of 1,024 bytes over these.
 pub(crate) fn over(bytes: Vec<u8>) -> MemBlocks

@@ -1,4 +1,0 @@
-use Rattle.bfs_map_tests.proofs.leaf.is_last.Given as goal
-
-abbrev pub ghosts-removed : goal.ghosts-removed
-ghosts-removed a = record { name = a.ledger.name; parts = a.ledger.parts }

@@ -1,4 +1,0 @@
-use Rattle.bfs_map_tests.proofs.leaf.value_at.Given as goal
-
-abbrev pub ghosts-read : goal.ghosts-read
-ghosts-read a = record { name = a.ledger.name; parts = a.ledger.parts }

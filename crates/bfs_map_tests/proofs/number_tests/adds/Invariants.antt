@@ -1,4 +1,0 @@
-use Rattle.bfs_map_tests.proofs.number_tests.adds.Given as goal
-
-abbrev pub ghosts-added : goal.ghosts-added
-ghosts-added a = record { name = a.ledger.name; parts = a.ledger.parts }

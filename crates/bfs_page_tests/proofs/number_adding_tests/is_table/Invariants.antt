@@ -1,4 +1,0 @@
-use Rattle.bfs_page_tests.proofs.number_adding_tests.is_table.Given as goal
-
-abbrev pub ghosts-meant : goal.ghosts-meant
-ghosts-meant a = record { name = a.ledger.name; parts = a.ledger.parts }

@@ -1,5 +1,0 @@
-use Rattle.bfs_node.specs.Page.{HasLayout}
-use Rattle.bfs_page_tests.proofs.number_adding_tests.make_tree.Given as goal
-
-abbrev pub invariant-loop-i : goal.invariant-loop-i
-invariant-loop-i l = HasLayout l.page

@@ -1,4 +1,0 @@
-use Rattle.bfs_walk_tests.proofs.tree_tests.look_in.Given as goal
-
-abbrev pub ghosts-look : goal.ghosts-look
-ghosts-look a = record { name = a.ledger.name; parts = a.ledger.parts }

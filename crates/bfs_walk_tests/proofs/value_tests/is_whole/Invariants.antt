@@ -1,4 +1,0 @@
-use Rattle.bfs_walk_tests.proofs.value_tests.is_whole.Given as goal
-
-abbrev pub ghosts-walk : goal.ghosts-walk
-ghosts-walk a = record { name = a.ledger.name; parts = a.ledger.parts }

@@ -57,7 +57,10 @@ pub struct Progress<'a, X> {
 }
 
 impl<'a, X: AllocGlobal + Eprint + time::Clock> Progress<'a, X> {
-    pub fn over(rt: &'a X, shows: bool) -> Progress<'a, X> {
+    /// A line that hasn't been written yet.
+    pub fn over(rt: &'a X, shows: bool) -> Progress<'a, X>
+        ensures { result.shows ≡ shows }
+    {
         Progress {
             rt,
             shows,

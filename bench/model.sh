@@ -13,12 +13,12 @@ trap 'rm -rf "$work"' EXIT
 
 # ours: a program crate in a copy of the crates that it stands on
 mkdir -p "$work/repo/crates/model_bench/src" "$work/repo/crates/model_bench/specs" "$work/repo/crates/model_bench/proofs"
-for crate in bfs_bytes bfs_base bfs_tree bfs_model; do
+for crate in bfs_bytes bfs_base bfs_tree bfs_known bfs_plain bfs_model; do
     mkdir -p "$work/repo/crates/$crate"
     cp -r "$root/crates/$crate/src" "$root/crates/$crate/specs" "$root/crates/$crate/proofs" "$work/repo/crates/$crate/"
     grep "^$crate:" "$root/crates.txt" >>"$work/repo/crates.txt"
 done
-echo "model_bench: bfs_model bfs_tree bfs_base bfs_bytes byteorder" >>"$work/repo/crates.txt"
+echo "model_bench: bfs_model bfs_plain bfs_known bfs_tree bfs_base bfs_bytes byteorder" >>"$work/repo/crates.txt"
 bench=$work/repo/crates/model_bench
 : >"$bench/specs/Lib.antt"
 : >"$bench/proofs/Lib.antt"

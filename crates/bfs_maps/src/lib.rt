@@ -3,7 +3,6 @@
 // why a call on one is refused in specs/Refused.antt.
 #![tactic(auto)]
 
-mod block;
 mod laws;
 mod over_pages;
 mod putting;
@@ -12,7 +11,6 @@ mod size;
 mod tree;
 mod writing;
 
-pub use block::block_of_page;
 pub use laws::{names_differ, puts_at_key, takes_at_key};
 pub use putting::{put_number, take_number};
 pub use reading::{number_at, rows_from};

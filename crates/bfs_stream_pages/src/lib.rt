@@ -3,12 +3,14 @@
 #![tactic(auto)]
 
 mod backing;
+mod block;
 mod fault;
 mod laws;
 mod pages;
 mod reader;
 
 pub use backing::Backing;
+pub use block::block_of_page;
 pub use fault::MapFault;
 pub use laws::others_stay;
 pub use pages::StreamPages;

@@ -4,7 +4,7 @@ use Rattle.bfs_stream.specs.Faults.{IsDamagedAt, IsBlamedAt}
 use Rattle.bfs_stream.specs.Places.{places_at}
 use Rattle.bfs_stream.specs.Sizes.{Origin}
 use Rattle.bfs_stream.specs.Told.{Stands, contents}
-use Rattle.bfs_maps.proofs.block.block_of_page.Goals as goal
+use Rattle.bfs_stream_pages.proofs.block.block_of_page.Goals as goal
 
 pub returns-clause-found : goal.returns-clause-found
 returns-clause-found g c m told stands =

@@ -1,7 +1,3 @@
-pub mod Repeats
-pub mod Found
-pub mod Among
-pub mod Others
 pub mod Visiting
 pub mod Nodes
 pub mod Stored

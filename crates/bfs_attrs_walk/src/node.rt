@@ -15,15 +15,15 @@ ghost use Rattle.bfs_finding.specs.Ways.{IsReached};
 ghost use Rattle.bfs_claims.specs.Claims.{AreClaimed};
 ghost use Rattle.bfs_inode_walk.specs.Visited.{IsTrueOf, IsVisitCause};
 ghost use Rattle.bfs_nodes_walk.specs.Walks.{HasAttributes};
-ghost use Rattle.bfs_attrs_walk.specs.Attributes.{AreRowsIn};
+ghost use Rattle.bfs_nodes_walk.specs.Attributes.{AreRowsIn};
 ghost use Rattle.bfs_attrs_walk.specs.Passes.{attribute_blocks, IsTakenIn};
 
-use crate::names::check_names;
 use bfs_attr_walk::{directory_of, visit_stored};
 use bfs_claims::Claims;
 use bfs_inode_walk::{VisitFault, read_block};
 use bfs_names_walk::NameRow;
 use bfs_node_walk::name_fault;
+use bfs_nodes_walk::check_names;
 use bfs_super::Super;
 use bfs_txn::Blocks;
 use std::alloc::Global;

@@ -18,7 +18,7 @@ ghost use Rattle.bfs_value_walk.specs.Written.{pairs_by};
 ghost use Rattle.bfs_inode_walk.specs.Visited.{IsTrueOf, IsUntaken, IsVisitCause};
 ghost use Rattle.bfs_index_check.specs.Compared.{Pair as Kept, pairs_of, IsTold};
 ghost use Rattle.bfs_key_walk.specs.Gathered.{oldest_first};
-ghost use Rattle.bfs_key_walk.specs.Keys.{keys_of_visits};
+ghost use Rattle.bfs_key_walk.specs.Keys.{kept_keys, keys_of_visits};
 ghost use Rattle.bfs_key_walk.specs.Leads.{AreInside};
 ghost use Rattle.bfs_tour.specs.Tours.{Visit, toured_tree};
 ghost use Rattle.bfs_tree.specs.Trees.{HasBuiltIn};
@@ -31,8 +31,8 @@ use bfs_index::Pair;
 use bfs_index_check::compare_pairs;
 use bfs_index_walk::{FoundIndex, read_rows, read_values};
 use bfs_inode_walk::{VisitFault, read_block};
-use bfs_key_walk::nodes_walk::NodeLead;
-use bfs_key_walk::{FileKeys, wanted_pairs};
+use bfs_key_walk::nodes_walk::{NodeFacts, NodeLead};
+use bfs_key_walk::wanted_pairs;
 use bfs_node_check::NodeFault;
 use bfs_range::Ranged;
 use bfs_super::Super;
@@ -126,20 +126,20 @@ pub(crate) fn check_index<B: Blocks>(
     sup: &Super,
     root: u64,
     leads: &[NodeLead],
-    keys: &[Option<FileKeys>],
+    facts: &[NodeFacts],
     index: &FoundIndex,
 ) -> Result<(), VisitFault>
     requires valid { IsValid sup.now }
     requires root_inside { root < natural sup.now.num_blocks }
     requires leads { AreInside (natural sup.now.num_blocks) leads.now }
-    requires many { length keys.now ≡ length leads.now }
+    requires many { length facts.now ≡ length leads.now }
     requires inside { (index.now.id < natural sup.now.num_blocks) × IsTreeKind index.now.kind }
     requires size { B.size under.old ≡ sup.now.block_size }
     requires all { (m : ℕ → Option (List ℕ)) → B.told under.old ≡ Some m → IsAllTold (sizes_of sup.now) m }
     requires known { (m : ℕ → Option (List ℕ)) → B.told under.old ≡ Some m → (indices : List found.FoundIndex) × (top : Visit) × (visits : List Visit) × IsWalkedWhole (volume_of sup.now (contents m)) root leads.now indices top visits × In index.now indices }
-    ensures listed { (m : ℕ → Option (List ℕ)) (indices : List found.FoundIndex) (top : Visit) (visits : List Visit) → B.told under.old ≡ Some m → IsWalkedWhole (volume_of sup.now (contents m)) root leads.now indices top visits → In index.now indices → keys.now ≡ keys_of_visits (oldest_first visits)
+    ensures listed { (m : ℕ → Option (List ℕ)) (indices : List found.FoundIndex) (top : Visit) (visits : List Visit) → B.told under.old ≡ Some m → IsWalkedWhole (volume_of sup.now (contents m)) root leads.now indices top visits → In index.now indices → kept_keys facts.now ≡ keys_of_visits (oldest_first visits)
         → OnOk result (ListsAll (volume_of sup.now (contents m)) (toured_tree (volume_of sup.now (contents m)) top visits (kinds_of indices)) index.now) }
-    ensures wrong { (m : ℕ → Option (List ℕ)) (indices : List found.FoundIndex) (top : Visit) (visits : List Visit) → B.told under.old ≡ Some m → IsWalkedWhole (volume_of sup.now (contents m)) root leads.now indices top visits → In index.now indices → keys.now ≡ keys_of_visits (oldest_first visits)
+    ensures wrong { (m : ℕ → Option (List ℕ)) (indices : List found.FoundIndex) (top : Visit) (visits : List Visit) → B.told under.old ≡ Some m → IsWalkedWhole (volume_of sup.now (contents m)) root leads.now indices top visits → In index.now indices → kept_keys facts.now ≡ keys_of_visits (oldest_first visits)
         → HasBuiltIn (toured_tree (volume_of sup.now (contents m)) top visits (kinds_of indices)).indices → IfErr result (IsTrueWith (volume_of sup.now (contents m)) (toured_tree (volume_of sup.now (contents m)) top visits (kinds_of indices))) }
     ensures told { B.told under.new ≡ B.told under.old }
     ensures changed { B.changed under.new ≡ B.changed under.old }
@@ -150,7 +150,7 @@ pub(crate) fn check_index<B: Blocks>(
     ensures cause { IfErr result (IsVisitCause (B.counts under.old) (B.counts under.new)) }
 {
     let name = index.name.as_slice();
-    let wanted = match wanted_pairs(alloc, under, sup, root, leads, keys, name, index.kind) {
+    let wanted = match wanted_pairs(alloc, under, sup, root, leads, facts, name, index.kind) {
         Ok(wanted) => wanted,
         Err(fault) => return Err(fault),
     };

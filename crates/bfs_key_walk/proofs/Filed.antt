@@ -1,27 +1,14 @@
--- The keys of files, read of one node after the other.
-use Rattle.std.proofs.Common.{◌≡◌, ◌≤◌, ◌<◌, ◌+◌, ◌∙◌, ℕ, zero, suc, List, [], ◌∷◌, ◌++◌, length, take, get_or, Option, None, refl, sym, ap, arith}
-use Rattle.std.proofs.lemmas.List.{take_all}
+-- The keys of files that were kept of nodes are those of the nodes that the rows name.
+use Rattle.std.proofs.Common.{◌≡◌, ◌<◌, ◌∙◌, ℕ, zero, suc, List, [], ◌∷◌, length, get_or, Option, None, refl, sym, ap, subst, arith}
 use Rattle.bfs_sound.specs.Volumes.{Volume}
+use Rattle.bfs_sound.specs.Nodes.{HasNode}
 use Rattle.bfs_tour.specs.Tours.{Visit}
+use Rattle.bfs_nodes_walk.specs.Facts.{keys_of, AreFactsOf}
+use Rattle.bfs_nodes_walk.specs.declared.facts.FileKeys.{FileKeys}
+use Rattle.bfs_nodes_walk.specs.declared.facts.NodeFacts.{NodeFacts}
 use Rattle.bfs_nodes_walk.specs.declared.lead.NodeLead.{NodeLead}
-use Rattle.bfs_index_check.proofs.Prefixes.{next}
-use Rattle.bfs_key_walk.specs.Keys.{keys_of, keys_of_visits}
-use Rattle.bfs_key_walk.specs.declared.inode_keys.FileKeys.{FileKeys}
-use Rattle.bfs_key_walk.proofs.Gathers.{HasOne}
-
-keys_join : (xs : List Visit) (e : Visit) → keys_of_visits (xs ++ (e ∷ [])) ≡ keys_of_visits xs ++ (keys_of e.1 ∷ [])
-keys_join [] e = refl
-keys_join (x ∷ xs) e = ap (λ (ks : List (Option FileKeys)). keys_of x.1 ∷ ks) (keys_join xs e)
-
--- the next of them were read
-pub keys_next : (v : Volume) (root : ℕ) (l : NodeLead) (es : List Visit) (i : ℕ) (one : HasOne v root l es i) (before after : List (Option FileKeys)) → before ≡ keys_of_visits (take i es) → after ≡ before ++ (keys_of one.visit.1 ∷ [])
-    → after ≡ keys_of_visits (take (i + 1) es)
-keys_next v root l es i one before after was now =
-    now ∙ ap (λ (ks : List (Option FileKeys)). ks ++ (keys_of one.visit.1 ∷ [])) was ∙ sym (keys_join (take i es) one.visit) ∙ ap keys_of_visits (sym (next es i one.visit one.inside one.item))
-
--- all were read
-pub keys_all : (es : List Visit) (i : ℕ) (all : List (Option FileKeys)) → length es ≤ i → all ≡ keys_of_visits (take i es) → all ≡ keys_of_visits es
-keys_all es i all past is = is ∙ ap keys_of_visits (take_all i es past)
+use Rattle.bfs_key_walk.specs.Gathered.{AreFor}
+use Rattle.bfs_key_walk.specs.Keys.{kept_keys, keys_of_visits}
 
 -- those of one of them
 pub keys_here : (es : List Visit) (i : ℕ) (e : Visit) → i < length es → e ≡ get_or es i e → get_or (keys_of_visits es) i None ≡ keys_of e.1
@@ -29,6 +16,20 @@ keys_here [] i e inside is = absurd (omega (arith, inside))
 keys_here (x ∷ xs) zero e inside is = ap (λ (y : Visit). keys_of y.1) (sym is)
 keys_here (x ∷ xs) (suc i) e inside is = keys_here xs i e (omega (arith, inside)) is
 
-pub one_more : (ks : List (Option FileKeys)) (k : Option FileKeys) → length (ks ++ (k ∷ [])) ≡ length ks + 1
-one_more [] k = refl
-one_more (x ∷ xs) k = let h = one_more xs k in omega (arith, h)
+-- what was kept at a place
+pub kept_here : (facts : List NodeFacts) (i : ℕ) (f : NodeFacts) → i < length facts → f ≡ get_or facts i f → f.keys ≡ get_or (kept_keys facts) i None
+kept_here [] i f inside is = absurd (omega (arith, inside))
+kept_here (x ∷ xs) zero f inside is = ap (λ (y : NodeFacts). y.keys) is
+kept_here (x ∷ xs) (suc i) f inside is = kept_here xs i f (omega (arith, inside)) is
+
+-- all of them
+pub facts_keys : (v : Volume) (root : ℕ) (leads : List NodeLead) (es : List Visit) (facts : List NodeFacts) → AreFor v root leads es → AreFactsOf v leads facts → kept_keys facts ≡ keys_of_visits es
+facts_keys v root [] [] [] are kept = refl
+facts_keys v root [] [] (f ∷ fs) are kept = absurd kept
+facts_keys v root [] (e ∷ es) facts are kept = absurd are
+facts_keys v root (l ∷ ls) [] facts are kept = absurd are
+facts_keys v root (l ∷ ls) (e ∷ es) [] are kept = absurd kept
+facts_keys v root (l ∷ ls) (e ∷ es) (f ∷ fs) are kept =
+    let one : f.keys ≡ keys_of e.1 = kept.0.keys e.1 (subst (λ (k : ℕ). HasNode v k e.1) (sym are.0.id) are.0.known.node) in
+    let rest : kept_keys fs ≡ keys_of_visits es = facts_keys v root ls es fs are.1 kept.1 in
+    ap (λ (k : Option FileKeys). k ∷ kept_keys fs) one ∙ ap (λ (ks : List (Option FileKeys)). keys_of e.1 ∷ ks) rest

@@ -8,7 +8,7 @@ use Rattle.bfs_base.specs.declared.kind.KeyKind.{KeyKind}
 use Rattle.bfs_bytes.specs.Fields.{unsigned_bytes, signed64_bytes}
 use Rattle.bfs_tree.specs.Listings.{key_in, key_of_attribute}
 use Rattle.bfs_tree.specs.Trees.{Node, is_file}
-use Rattle.bfs_key_walk.specs.declared.inode_keys.FileKeys.{FileKeys}
+use Rattle.bfs_nodes_walk.specs.declared.facts.FileKeys.{FileKeys}
 
 module _ (root : ℕ) (index : List ℕ) (kind : KeyKind) (id : ℕ) (n : Node) where
   abbrev by_attributes : Option (List ℕ)
@@ -28,13 +28,6 @@ module _ (root : ℕ) (index : List ℕ) (kind : KeyKind) (id : ℕ) (n : Node) 
 
   pub named_key : (is_root : Bool) → bytes_eq index (codes "name") ≡ true → is_root ≡ (id == root) → key_in root index kind id n ≡ cond is_root None (Some n.name)
   named_key is_root e r = ap (λ (t : Bool). by_tests t is_size is_time (id == root)) e ∙ ap (λ (t : Bool). by_tests true is_size is_time t) (sym r)
-
--- what was read of a node that is no file, and of a file
-pub no_keys : (f : Bool) (keys : FileKeys) → f ≡ false → None ≡ cond f (Some keys) None
-no_keys f keys e = sym (ap (λ (t : Bool). cond t (Some keys) None) e)
-
-pub has_keys : (f : Bool) (keys : FileKeys) → f ≡ true → Some keys ≡ cond f (Some keys) None
-has_keys f keys e = sym (ap (λ (t : Bool). cond t (Some keys) None) e)
 
 -- the key of one that has none, and of one that has
 pub key_of_none : (f : Bool) (keys : FileKeys) (bytes : List ℕ) → None ≡ cond f (Some keys) None → None ≡ cond f (Some bytes) None

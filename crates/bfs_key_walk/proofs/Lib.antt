@@ -2,4 +2,4 @@ pub mod Keyed
 pub mod Bearing
 pub mod Gathers
 pub mod Toured
-mod Filed
+pub mod Filed

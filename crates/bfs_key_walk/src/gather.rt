@@ -9,19 +9,19 @@ ghost use Rattle.bfs_tree.specs.Listings.{key_in, pairs_in};
 ghost use Rattle.bfs_tree.specs.Trees.{Node};
 ghost use Rattle.bfs_sound.specs.Whole.{volume_of};
 ghost use Rattle.bfs_tour.specs.Tours.{Visit};
+ghost use Rattle.bfs_nodes_walk.specs.Facts.{keys_of};
 ghost use Rattle.bfs_nodes_walk.specs.Leads.{AreInside};
 ghost use Rattle.bfs_nodes_walk.specs.Listed.{NamesBlock};
 ghost use Rattle.bfs_inode_walk.specs.Visited.{IsVisitCause};
 ghost use Rattle.bfs_index_check.specs.Compared.{pairs_of};
 ghost use Rattle.bfs_key_walk.specs.Gathered.{IsKnown, IsUnread, IsFor, AreFor, pair_with};
-ghost use Rattle.bfs_key_walk.specs.Keys.{keys_of, keys_of_visits};
+ghost use Rattle.bfs_key_walk.specs.Keys.{kept_keys, keys_of_visits};
 
-use crate::FileKeys;
 use crate::inode_keys::number_of;
 use crate::key::node_key;
 use bfs_index::Pair;
 use bfs_inode_walk::VisitFault;
-use bfs_nodes_walk::NodeLead;
+use bfs_nodes_walk::{FileKeys, NodeFacts, NodeLead, facts_at};
 use bfs_range::KeyBytes;
 use bfs_super::Super;
 use bfs_tree::{Bytes, KeyKind};
@@ -114,12 +114,12 @@ fn gather_lead<B: Blocks>(
     }
 }
 
-/// What was read of the node that a row names.
-fn keys_at(keys: &[Option<FileKeys>], i: usize) -> Option<FileKeys>
-    requires { i < length keys.now }
-    ensures { result ≡ get_or keys.now i None }
+/// The keys that are kept of the node that a row names.
+fn keys_at(facts: &[NodeFacts], i: usize) -> Option<FileKeys>
+    requires { i < length facts.now }
+    ensures { result ≡ get_or (kept_keys facts.now) i None }
 {
-    keys[i]
+    facts_at(facts, i).keys
 }
 
 /// The pairs of the nodes that rows name, behind others.
@@ -128,18 +128,18 @@ pub(crate) fn gather_leads<B: Blocks>(
     under: &mut B,
     sup: &Super,
     leads: &[NodeLead],
-    keys: &[Option<FileKeys>],
+    facts: &[NodeFacts],
     index: &[u8],
     kind: KeyKind,
     pairs: &mut Vec<Pair>,
 ) -> Result<(), VisitFault>
     requires valid { IsValid sup.now }
     requires inside { AreInside (natural sup.now.num_blocks) leads.now }
-    requires many { length keys.now ≡ length leads.now }
+    requires many { length facts.now ≡ length leads.now }
     requires size { B.size under.old ≡ sup.now.block_size }
     requires all { (m : ℕ → Option (List ℕ)) → B.told under.old ≡ Some m → IsAllTold (sizes_of sup.now) m }
     requires known { (m : ℕ → Option (List ℕ)) → B.told under.old ≡ Some m → (root : ℕ) × (es : List Visit) × AreFor (volume_of sup.now (contents m)) root leads.now es }
-    ensures gathered { (m : ℕ → Option (List ℕ)) (root : ℕ) (es : List Visit) → B.told under.old ≡ Some m → AreFor (volume_of sup.now (contents m)) root leads.now es → keys.now ≡ keys_of_visits es → OnOk result (pairs_of pairs.new.items ≡ pairs_of pairs.old.items ++ pairs_in root index.now kind es) }
+    ensures gathered { (m : ℕ → Option (List ℕ)) (root : ℕ) (es : List Visit) → B.told under.old ≡ Some m → AreFor (volume_of sup.now (contents m)) root leads.now es → kept_keys facts.now ≡ keys_of_visits es → OnOk result (pairs_of pairs.new.items ≡ pairs_of pairs.old.items ++ pairs_in root index.now kind es) }
     ensures unread { (m : ℕ → Option (List ℕ)) (root : ℕ) (es : List Visit) → B.told under.old ≡ Some m → AreFor (volume_of sup.now (contents m)) root leads.now es → IfErr result IsUnread }
     ensures told { B.told under.new ≡ B.told under.old }
     ensures changed { B.changed under.new ≡ B.changed under.old }
@@ -150,7 +150,7 @@ pub(crate) fn gather_leads<B: Blocks>(
     ensures cause { IfErr result (IsVisitCause (B.counts under.old) (B.counts under.new)) }
 {
     for i in 0..leads.len() {
-        let one = keys_at(keys, i);
+        let one = keys_at(facts, i);
         match gather_lead(alloc, under, sup, &leads[i], one, index, kind, pairs) {
             Ok(()) => {}
             Err(fault) => return Err(fault),

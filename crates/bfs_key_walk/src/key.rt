@@ -13,13 +13,13 @@ ghost use Rattle.bfs_tree.specs.Trees.{Node, is_file};
 ghost use Rattle.bfs_sound.specs.Whole.{volume_of};
 ghost use Rattle.bfs_inode_walk.specs.Visited.{IsVisitCause};
 ghost use Rattle.bfs_key_walk.specs.Gathered.{IsKnown, IsUnread};
-ghost use Rattle.bfs_key_walk.specs.Keys.{keys_of};
+ghost use Rattle.bfs_nodes_walk.specs.Facts.{keys_of};
 
-use crate::FileKeys;
 use crate::fault::unread;
 use bfs_inode_walk::VisitFault;
 use bfs_make::Site;
 use bfs_node_key::attribute_key;
+use bfs_nodes_walk::FileKeys;
 use bfs_super::Super;
 use bfs_tree::{BY_NAME, BY_SIZE, BY_TIME, Bytes, KeyKind};
 use bfs_txn::{BlockFault, Blocks};

@@ -9,5 +9,4 @@ mod key;
 mod wanted;
 
 pub use bfs_nodes_walk as nodes_walk;
-pub use inode_keys::{FileKeys, read_file_keys};
 pub use wanted::wanted_pairs;

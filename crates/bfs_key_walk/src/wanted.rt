@@ -14,22 +14,21 @@ ghost use Rattle.bfs_nodes_walk.specs.Leads.{AreInside};
 ghost use Rattle.bfs_inode_walk.specs.Visited.{IsVisitCause};
 ghost use Rattle.bfs_index_check.specs.Compared.{pairs_of};
 ghost use Rattle.bfs_key_walk.specs.Gathered.{IsUnread, IsGoneOver, oldest_first};
-ghost use Rattle.bfs_key_walk.specs.Keys.{keys_of_visits};
+ghost use Rattle.bfs_key_walk.specs.Keys.{kept_keys, keys_of_visits};
 
-use crate::FileKeys;
 use crate::gather::{gather_leads, gather_node};
 use crate::inode_keys::read_keys;
 use bfs_index::Pair;
 use bfs_index_check::sort_pairs;
 use bfs_inode_walk::VisitFault;
-use bfs_nodes_walk::NodeLead;
+use bfs_nodes_walk::{NodeFacts, NodeLead};
 use bfs_super::Super;
 use bfs_tree::KeyKind;
 use bfs_txn::{BlockFault, Blocks};
 use std::alloc::Global;
 
 /// The pairs that an index of a name and kind has to list, in its order, of all nodes that were gone over: the root at this block, and those
-/// that rows name, whose keys as files were read before. Beside the root's inode only a node's attributes are read, for an index of their name. It
+/// that rows name, whose keys as files were kept as they were gone over. Beside the root's inode only a node's attributes are read, for an index of their name. It
 /// takes the memory of these pairs.
 pub fn wanted_pairs<B: Blocks>(
     alloc: Global,
@@ -37,18 +36,18 @@ pub fn wanted_pairs<B: Blocks>(
     sup: &Super,
     root: u64,
     leads: &[NodeLead],
-    keys: &[Option<FileKeys>],
+    facts: &[NodeFacts],
     index: &[u8],
     kind: KeyKind,
 ) -> Result<Vec<Pair>, VisitFault>
     requires valid { IsValid sup.now }
     requires root_inside { root < natural sup.now.num_blocks }
     requires inside { AreInside (natural sup.now.num_blocks) leads.now }
-    requires many { length keys.now ≡ length leads.now }
+    requires many { length facts.now ≡ length leads.now }
     requires size { B.size under.old ≡ sup.now.block_size }
     requires all { (m : ℕ → Option (List ℕ)) → B.told under.old ≡ Some m → IsAllTold (sizes_of sup.now) m }
     requires known { (m : ℕ → Option (List ℕ)) → B.told under.old ≡ Some m → (top : Visit) × (visits : List Visit) × IsGoneOver (volume_of sup.now (contents m)) root leads.now top visits }
-    ensures wanted { (m : ℕ → Option (List ℕ)) (top : Visit) (visits : List Visit) → B.told under.old ≡ Some m → IsGoneOver (volume_of sup.now (contents m)) root leads.now top visits → keys.now ≡ keys_of_visits (oldest_first visits) → IfOk result (λ pairs. pairs_of pairs.items ≡ listed_among root index.now kind (entries (from_entries {R = nat_cmp} (top ∷ visits)))) }
+    ensures wanted { (m : ℕ → Option (List ℕ)) (top : Visit) (visits : List Visit) → B.told under.old ≡ Some m → IsGoneOver (volume_of sup.now (contents m)) root leads.now top visits → kept_keys facts.now ≡ keys_of_visits (oldest_first visits) → IfOk result (λ pairs. pairs_of pairs.items ≡ listed_among root index.now kind (entries (from_entries {R = nat_cmp} (top ∷ visits)))) }
     ensures unread { (m : ℕ → Option (List ℕ)) → B.told under.old ≡ Some m → IfErr result IsUnread }
     ensures told { B.told under.new ≡ B.told under.old }
     ensures changed { B.changed under.new ≡ B.changed under.old }
@@ -78,7 +77,7 @@ pub fn wanted_pairs<B: Blocks>(
         Ok(()) => {}
         Err(fault) => return Err(fault),
     }
-    match gather_leads(alloc, under, sup, leads, keys, index, kind, &mut pairs) {
+    match gather_leads(alloc, under, sup, leads, facts, index, kind, &mut pairs) {
         Ok(()) => {}
         Err(fault) => return Err(fault),
     }

@@ -279,6 +279,8 @@ pub fn visit_child<B: Blocks>(
     ensures named { (m : ℕ → Option (List ℕ)) → B.told under.old ≡ Some m → OnOk result (IsNamedBy (volume_of sup.now (contents m)) id parent row.now) }
     ensures rows { (m : ℕ → Option (List ℕ)) → B.told under.old ≡ Some m → IfOk result (λ node. AreRowsOf (volume_of sup.now (contents m)) id parent node.rows.items) }
     ensures bytes { (m : ℕ → Option (List ℕ)) → B.told under.old ≡ Some m → IfOk result (λ node. node.bytes.items ≡ contents m id) }
+    ensures length { IfOk result (λ node. length node.bytes.items ≡ sup.now.block_size) }
+    ensures long { IfOk result (λ node. 1024 ≤ length node.bytes.items) }
     ensures claimed { (m : ℕ → Option (List ℕ)) (xs : List ℕ) → B.told under.old ≡ Some m → AreClaimed claims.old xs → OnOk result (AreClaimed claims.new (xs ++ role_blocks (volume_of sup.now (contents m)) roles.Child id)) }
     ensures wrong { (m : ℕ → Option (List ℕ)) → B.told under.old ≡ Some m → Arrives (volume_of sup.now (contents m)) (to_child parent row.now) id → IfErr result (IsTrueOf (volume_of sup.now (contents m))) }
     ensures taken { (m : ℕ → Option (List ℕ)) (xs : List ℕ) → B.told under.old ≡ Some m → AreClaimed claims.old xs → IfErr result (IsTaken xs (role_blocks (volume_of sup.now (contents m)) roles.Child id) id) }

@@ -3,4 +3,9 @@ pub mod Blocks
 pub mod Placing
 pub mod Clashing
 pub mod Walking
+pub mod Repeats
+pub mod Found
+pub mod Among
+pub mod Others
+pub mod Kept
 pub use Rattle.bfs_node_walk.proofs.Readable

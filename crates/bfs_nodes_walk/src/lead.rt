@@ -3,10 +3,10 @@ ghost use Rattle.std.specs.Prelude.{◌≡◌, ◌≤◌, ◌<◌, ◌++◌, ℕ
 ghost use Rattle.bfs_super.specs.Conditions.{natural};
 ghost use Rattle.bfs_txn.specs.Faults.{Counts};
 ghost use Rattle.bfs_sound.specs.Volumes.{Volume};
-ghost use Rattle.bfs_sound.specs.Inodes.{is_proper};
 ghost use Rattle.bfs_inode_walk.specs.Visited.{IsTrueOf, IsUntaken, IsVisitCause};
 ghost use Rattle.bfs_nodes_walk.specs.Leads.{leads_in, IsRowOf};
 
+use bfs_attr_walk::is_proper_name;
 use bfs_finding::Finding;
 use bfs_inode_walk::VisitFault;
 use bfs_node_walk::names_walk::NameRow;
@@ -47,13 +47,6 @@ pub(crate) fn block_of(lead: &NodeLead, blocks: u64) -> Result<u64, VisitFault>
             value,
         })),
     }
-}
-
-/// Is it a name but `.` and `..`?
-fn is_proper_name(name: &[u8]) -> bool
-    ensures { result ≡ is_proper name.now }
-{
-    !(name == b".".as_slice() || name == b"..".as_slice())
 }
 
 /// A copy of a row, with its directory.

@@ -1,22 +1,15 @@
 // The nodes that rows name, in their places: where an owner is looked for.
 ghost use Rattle.std.specs.Prelude.{◌≡◌, ◌<◌, ◌++◌, ◌∷◌, [], ℕ, List, map, OnOk, IfOk, IfErr};
-ghost use Rattle.bfs_super.specs.Conditions.{natural};
 ghost use Rattle.bfs_owner.specs.Owned as owned;
 ghost use Rattle.bfs_nodes_walk.specs.Leads.{AreInside, place_of, places_of_nodes};
 
 use crate::NodeLead;
+use bfs_attr_walk::number_of;
 use bfs_inode_walk::VisitFault;
 use bfs_node_check::Role;
 use bfs_owner::Place;
 use bfs_txn::BlockFault;
 use std::alloc::Global;
-
-/// The number of a row's node.
-fn number_of(value: i64) -> u64
-    ensures { result ≡ natural value }
-{
-    if value < 0 { 0 } else { value as u64 }
-}
 
 /// Puts a place behind others.
 fn push_place(id: u64, role: Role, places: &mut Vec<Place>) -> Result<(), VisitFault>

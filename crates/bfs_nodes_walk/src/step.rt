@@ -1,5 +1,5 @@
 // The root, and one node that a row names, each with its rows.
-ghost use Rattle.std.specs.Prelude.{◌≡◌, ◌≤◌, ◌<◌, ◌+◌, ◌++◌, ℕ, List, length, take, pos, Option, Some, OnOk, IfOk, IfErr};
+ghost use Rattle.std.specs.Prelude.{◌≡◌, ◌≤◌, ◌<◌, ◌+◌, ◌++◌, ℕ, List, get_or, length, take, pos, Option, Some, OnOk, IfOk, IfErr};
 ghost use Rattle.bfs_super.specs.Conditions.{IsValid, natural, block_of_run};
 ghost use Rattle.bfs_txn.specs.Faults.{AreLater};
 ghost use Rattle.bfs_stream.specs.Sizes.{sizes_of};
@@ -10,11 +10,13 @@ ghost use Rattle.bfs_claims.specs.Claims.{AreClaimed};
 ghost use Rattle.bfs_node_check.specs.declared.role.Role.TheVariants as roles;
 ghost use Rattle.bfs_inode_walk.specs.Visited.{role_blocks, IsSoundIn, IsTrueOf, IsTakenFirst, IsVisitCause};
 ghost use Rattle.bfs_node_walk.specs.Nodes.{AreRowsOf, IsNamedBy};
+ghost use Rattle.bfs_nodes_walk.specs.Facts.{IsFactOf};
 ghost use Rattle.bfs_nodes_walk.specs.Leads.{AreInside, IsRowOf, IsTakenBy};
 ghost use Rattle.bfs_nodes_walk.specs.Walks.{IsWalkedTo, IsNodeWay};
 
 use crate::NodeLead;
 use crate::clash::refusal;
+use crate::facts::{NodeFacts, facts_in};
 use crate::lead::{block_of, push_leads};
 use bfs_claims::Claims;
 use bfs_inode_walk::VisitFault;
@@ -58,6 +60,9 @@ fn visit_lead<B: Blocks>(
     ensures sound { (m : ℕ → Option (List ℕ)) → B.told under.old ≡ Some m → IfOk result (λ found. IsSoundIn (volume_of sup.now (contents m)) roles.Child found.id) }
     ensures named { (m : ℕ → Option (List ℕ)) → B.told under.old ≡ Some m → IfOk result (λ found. IsNamedBy (volume_of sup.now (contents m)) found.id lead.now.dir lead.now.row.name) }
     ensures rows { (m : ℕ → Option (List ℕ)) → B.told under.old ≡ Some m → IfOk result (λ found. AreRowsOf (volume_of sup.now (contents m)) found.id lead.now.dir found.node.rows.items) }
+    ensures bytes { (m : ℕ → Option (List ℕ)) → B.told under.old ≡ Some m → IfOk result (λ found. found.node.bytes.items ≡ contents m found.id) }
+    ensures length { IfOk result (λ found. length found.node.bytes.items ≡ sup.now.block_size) }
+    ensures long { IfOk result (λ found. 1024 ≤ length found.node.bytes.items) }
     ensures claimed { (m : ℕ → Option (List ℕ)) (xs : List ℕ) → B.told under.old ≡ Some m → AreClaimed claims.old xs → IfOk result (λ found. AreClaimed claims.new (xs ++ role_blocks (volume_of sup.now (contents m)) roles.Child found.id)) }
     ensures wrong { (m : ℕ → Option (List ℕ)) → B.told under.old ≡ Some m → IsRowOf (volume_of sup.now (contents m)) lead.now → IfErr result (IsTrueOf (volume_of sup.now (contents m))) }
     ensures taken { (m : ℕ → Option (List ℕ)) (xs : List ℕ) → B.told under.old ≡ Some m → AreClaimed claims.old xs → IfErr result (IsTakenBy (volume_of sup.now (contents m)) xs lead.now) }
@@ -89,7 +94,7 @@ fn visit_lead<B: Blocks>(
     }
 }
 
-/// Goes over what the row at a place names, and puts its rows behind the others.
+/// Goes over what the row at a place names, puts its rows behind the others, and answers what is kept of it.
 pub(crate) fn follow<B: Blocks>(
     alloc: Global,
     under: &mut B,
@@ -98,7 +103,7 @@ pub(crate) fn follow<B: Blocks>(
     leads: &mut Vec<NodeLead>,
     at: usize,
     claims: &mut Claims,
-) -> Result<(), VisitFault>
+) -> Result<NodeFacts, VisitFault>
     requires valid { IsValid sup.now }
     requires root { root ≡ block_of_run sup.now sup.now.root_dir }
     requires root_inside { root < natural sup.now.num_blocks }
@@ -109,6 +114,8 @@ pub(crate) fn follow<B: Blocks>(
     requires before { AreInside (natural sup.now.num_blocks) (take at leads.old.items) }
     ensures inside { OnOk result (AreInside (natural sup.now.num_blocks) (take (at + 1) leads.new.items)) }
     ensures on { (m : ℕ → Option (List ℕ)) (xs : List ℕ) → B.told under.old ≡ Some m → IsWalkedTo (volume_of sup.now (contents m)) xs claims.old leads.old.items at → OnOk result (IsWalkedTo (volume_of sup.now (contents m)) xs claims.new leads.new.items (at + 1)) }
+    ensures facts { (m : ℕ → Option (List ℕ)) (l : NodeLead) → B.told under.old ≡ Some m → l ≡ get_or leads.old.items at l → IfOk result (IsFactOf (volume_of sup.now (contents m)) (natural l.row.value)) }
+    ensures behind { OnOk result ((more : List NodeLead) × (leads.new.items ≡ leads.old.items ++ more)) }
     ensures wrong { (m : ℕ → Option (List ℕ)) (xs : List ℕ) → B.told under.old ≡ Some m → IsWalkedTo (volume_of sup.now (contents m)) xs claims.old leads.old.items at → IfErr result (IsTrueOf (volume_of sup.now (contents m))) }
     ensures taken { (m : ℕ → Option (List ℕ)) (xs : List ℕ) → B.told under.old ≡ Some m → IsWalkedTo (volume_of sup.now (contents m)) xs claims.old leads.old.items at → IfErr result (IsTakenFirst IsNodeWay (volume_of sup.now (contents m)) xs) }
     ensures more { OnOk result (claims.old.count < claims.new.count) }
@@ -129,7 +136,7 @@ pub(crate) fn follow<B: Blocks>(
         }
     };
     match push_leads(alloc, found.id, &found.node.rows, leads) {
-        Ok(()) => Ok(()),
+        Ok(()) => Ok(facts_in(alloc, &found.node.bytes, *sup, found.id)),
         Err(fault) => Err(fault),
     }
 }

@@ -1,5 +1,5 @@
 // What was gone over, held against the rules that are left: what the indices list, the bitmap, and the number of used blocks.
-ghost use Rattle.std.specs.Prelude.{◌≡◌, ◌≢◌, ◌<◌, ℕ, List, [], true, false, Option, Some, OnOk, IfOk, IfErr};
+ghost use Rattle.std.specs.Prelude.{◌≡◌, ◌≢◌, ◌<◌, ℕ, List, [], length, true, false, Option, Some, OnOk, IfOk, IfErr};
 ghost use Rattle.bfs_super.specs.Conditions.{IsValid, natural, block_of_run};
 ghost use Rattle.bfs_super.specs.declared.sup.Super.{Super as Fields};
 ghost use Rattle.bfs_txn.specs.Faults.{AreLater, Counts};
@@ -8,6 +8,7 @@ ghost use Rattle.bfs_stream.specs.Told.{contents};
 ghost use Rattle.bfs_stream_check.specs.Known.{IsAllTold};
 ghost use Rattle.bfs_sound.specs.Volumes.{Volume};
 ghost use Rattle.bfs_sound.specs.Whole.{volume_of};
+ghost use Rattle.bfs_nodes_walk.specs.Facts.{AreFactsOf};
 ghost use Rattle.bfs_nodes_walk.specs.Leads.{AreInside as AreLeadsInside};
 ghost use Rattle.bfs_nodes_walk.specs.declared.lead.NodeLead.{NodeLead as Lead};
 ghost use Rattle.bfs_indices_check.specs.Indices.{AreInside};
@@ -24,7 +25,7 @@ use bfs_claims::Claims;
 use bfs_finding::Finding;
 use bfs_indices_check::check_indices;
 use bfs_indices_check::index_walk::{FoundIndex, walk_is_tour, walk_stands};
-use bfs_nodes_walk::NodeLead;
+use bfs_nodes_walk::{NodeFacts, NodeLead};
 use bfs_super::Super;
 use bfs_super_check::check_used;
 use bfs_tour::{round_ends, round_is_unbroken, tour_reaches};
@@ -62,6 +63,7 @@ fn hold_indices<B: Blocks>(
     sup: &Super,
     root: u64,
     leads: &[NodeLead],
+    facts: &[NodeFacts],
     found: &[FoundIndex],
     claims: &Claims,
 ) -> Result<(), PassFault>
@@ -72,6 +74,8 @@ fn hold_indices<B: Blocks>(
     requires all { (m : ℕ → Option (List ℕ)) → B.told under.old ≡ Some m → IsAllTold (sizes_of sup.now) m }
     requires blocks { claims.now.blocks ≡ natural sup.now.num_blocks }
     requires leads { AreLeadsInside (natural sup.now.num_blocks) leads.now }
+    requires many { length facts.now ≡ length leads.now }
+    requires facts { (m : ℕ → Option (List ℕ)) → B.told under.old ≡ Some m → AreFactsOf (volume_of sup.now (contents m)) leads.now facts.now }
     requires found { AreInside (natural sup.now.num_blocks) found.now }
     requires gone { (m : ℕ → Option (List ℕ)) → B.told under.old ≡ Some m → IsGoneRound (volume_of sup.now (contents m)) claims.now leads.now found.now }
     ensures listed { (m : ℕ → Option (List ℕ)) → B.told under.old ≡ Some m → OnOk result (IsListedRound (volume_of sup.now (contents m)) claims.now leads.now found.now) }
@@ -89,7 +93,7 @@ fn hold_indices<B: Blocks>(
     }
     let _ = claims.blocks();
     walk_stands(claims);
-    match check_indices(alloc, under, sup, root, leads, found) {
+    match check_indices(alloc, under, sup, root, leads, facts, found) {
         Ok(()) => Ok(()),
         Err(fault) => Err(listed(fault)),
     }
@@ -158,6 +162,8 @@ pub(crate) fn hold<B: Blocks>(
     requires all { (m : ℕ → Option (List ℕ)) → B.told under.old ≡ Some m → IsAllTold (sizes_of sup.now) m }
     requires blocks { claims.now.blocks ≡ natural sup.now.num_blocks }
     requires leads { AreLeadsInside (natural sup.now.num_blocks) round.now.leads.items }
+    requires many { length round.now.facts.items ≡ length round.now.leads.items }
+    requires facts { (m : ℕ → Option (List ℕ)) → B.told under.old ≡ Some m → AreFactsOf (volume_of sup.now (contents m)) round.now.leads.items round.now.facts.items }
     requires found { AreInside (natural sup.now.num_blocks) round.now.found.items }
     requires gone { (m : ℕ → Option (List ℕ)) → B.told under.old ≡ Some m → IsGoneRound (volume_of sup.now (contents m)) claims.now round.now.leads.items round.now.found.items }
     ensures passed { (m : ℕ → Option (List ℕ)) → B.told under.old ≡ Some m → sup.now.log_start ≡ sup.now.log_end → IfOk result (IsPassed sup.now (volume_of sup.now (contents m))) }
@@ -171,8 +177,9 @@ pub(crate) fn hold<B: Blocks>(
     ensures cause { IfErr result (IsPassCause (B.counts under.old) (B.counts under.new)) }
 {
     let leads: &[NodeLead] = &round.leads;
+    let facts: &[NodeFacts] = &round.facts;
     let found: &[FoundIndex] = &round.found;
-    match hold_indices(alloc, under, sup, root, leads, found, claims) {
+    match hold_indices(alloc, under, sup, root, leads, facts, found, claims) {
         Ok(()) => {}
         Err(fault) => return Err(fault),
     }

@@ -5,11 +5,12 @@ ghost use Rattle.std.specs.Prelude.{◌≡◌, ◌<◌, IfOk, length};
 ghost use Rattle.bfs_super.specs.Conditions.{IsValid, natural};
 
 use crate::volumes::{is_meant, over, put_header, put_inode, put_leaf, put_values};
-use bfs_attrs_walk::{check_names, find_attribute};
+use bfs_attrs_walk::find_attribute;
 use bfs_bytes::{put_run, put_u32};
 use bfs_finding::Finding;
 use bfs_names_walk::NameRow;
 use bfs_node_check::NodeFault;
+use bfs_nodes_walk::check_names;
 use bfs_super::Super;
 use bfs_tree::Bytes;
 use bfs_txn::{Blocks, MemBlocks};

@@ -8,7 +8,7 @@ use bfs_bytes::{Run, put_i64, put_run, put_u32};
 use bfs_claims::Claims;
 use bfs_finding::{Finding, InodePart};
 use bfs_inode_walk::VisitFault;
-use bfs_nodes_walk::walk_nodes;
+use bfs_nodes_walk::{NodeFacts, walk_nodes};
 use bfs_super::Super;
 use bfs_txn::{Blocks, MemBlocks};
 use bfs_volume_fixtures::{Silent, run, small_superblock};
@@ -92,12 +92,13 @@ fn put_values(bytes: &mut [u8], other: i64)
     put_i64(bytes, 7240, other);
 }
 
-/// What a volume has: the value of the row `b`, and the streams of the two files.
+/// What a volume has: the value of the row `b`, the streams of the two files, and the address of the second one's attribute directory.
 #[derive(Clone, Copy, Debug)]
 struct Case {
     other: i64,
     first: Run,
     second: Run,
+    attributes: Run,
 }
 
 /// Writes the whole volume.
@@ -109,6 +110,7 @@ fn put_all(bytes: &mut [u8], case: Case)
     put_leaf(bytes, case.other);
     put_file(bytes, 8, 0x61, case.first);
     put_file(bytes, 9, 0x62, case.second);
+    put_run(bytes, 9268, case.attributes);
 }
 
 /// The blocks of a volume.
@@ -121,10 +123,10 @@ fn volume(alloc: Global, size: usize, case: Case) -> Result<MemBlocks, AllocErro
     Ok(over(bytes))
 }
 
-/// What came of it: how many rows were followed, and how many blocks are claimed then; a finding; or a block that is taken, and the inode that has it.
+/// What came of it: how many rows were followed, how many blocks are claimed then, and of how many nodes it is kept that all attributes are items; a finding; or a block that is taken, and the inode that has it.
 #[derive(Clone, Copy, Debug, PartialEq, Eq)]
 enum Seen {
-    Walked(usize, u64),
+    Walked(usize, u64, usize),
     Inode(InodePart, i64),
     Row(i64),
     Shared(u64, u64, u64),
@@ -149,6 +151,11 @@ fn told_by(fault: VisitFault) -> Seen {
     }
 }
 
+/// How many nodes have all their attributes in items, by what is kept of them.
+fn plain_among(facts: &[NodeFacts]) -> usize {
+    facts.iter().filter(|facts| facts.plain).count()
+}
+
 /// Goes over the nodes, where block 0 is claimed.
 fn walk(alloc: Global, sup: &Super, under: &mut Silent, root: u64) -> Result<Seen, AllocError>
     requires valid { IsValid sup.now }
@@ -161,7 +168,7 @@ fn walk(alloc: Global, sup: &Super, under: &mut Silent, root: u64) -> Result<See
     let mut claims = Claims::new(alloc, 16)?;
     let _ = claims.claim(0, 1);
     match walk_nodes(alloc, under, sup, root, &mut claims) {
-        Ok(leads) => Ok(Seen::Walked(leads.len(), claims.count())),
+        Ok(all) => Ok(Seen::Walked(all.leads.len(), claims.count(), plain_among(&all.facts))),
         Err(fault) => Ok(told_by(fault)),
     }
 }
@@ -197,6 +204,7 @@ fn make_case(other: i64, first: Run, second: Run) -> Case {
         other,
         first,
         second,
+        attributes: run(0, 0),
     }
 }
 
@@ -205,14 +213,28 @@ fn two_files_are_walked_or_what_is_wrong_with_them_is_found(rt: HostRuntime) -> 
     let none = run(0, 0);
     // blocks 0, 4, 6 to 9; with two more; no block of the volume; no inode there
     let table: [(Case, Seen); 4] = [
-        (make_case(9, none, none), Seen::Walked(2, 6)),
-        (make_case(9, run(10, 1), run(11, 1)), Seen::Walked(2, 8)),
+        (make_case(9, none, none), Seen::Walked(2, 6, 2)),
+        (make_case(9, run(10, 1), run(11, 1)), Seen::Walked(2, 8, 2)),
         (make_case(16, none, none), Seen::Row(16)),
         (make_case(10, none, none), Seen::Inode(InodePart::Magic, 0)),
     ];
     for (case, wanted) in table {
         assert_eq!(rt; walk_with(rt.alloc(), case)?, wanted);
     }
+    Ok(())
+}
+
+#[test]
+fn of_a_node_with_an_attribute_directory_it_is_not_kept_that_all_attributes_are_items(
+    rt: HostRuntime,
+) -> Result<(), Fail> {
+    let none = run(0, 0);
+    // The directory isn't read: another pass goes over it.
+    let case = Case {
+        attributes: run(12, 1),
+        ..make_case(9, none, none)
+    };
+    assert_eq!(rt; walk_with(rt.alloc(), case)?, Seen::Walked(2, 6, 1));
     Ok(())
 }
 

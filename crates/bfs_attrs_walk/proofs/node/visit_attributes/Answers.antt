@@ -7,9 +7,10 @@ use Rattle.bfs_sound.specs.Inodes.{inode_blocks}
 use Rattle.bfs_sound.specs.Whole.{volume_of}
 use Rattle.bfs_claims.specs.Claims.{AreClaimed}
 use Rattle.bfs_names_walk.specs.declared.row.NameRow.{NameRow}
-use Rattle.bfs_attrs_walk.specs.Attributes.{AreRowsIn}
+use Rattle.bfs_nodes_walk.specs.Attributes.{AreRowsIn}
 use Rattle.bfs_attrs_walk.specs.Passes.{IsTakenIn}
-use Rattle.bfs_attrs_walk.proofs.Visiting.{most_bytes, never_taken}
+use Rattle.bfs_nodes_walk.proofs.Kept.{most_bytes}
+use Rattle.bfs_attrs_walk.proofs.Visiting.{never_taken}
 use Rattle.bfs_attrs_walk.proofs.node.visit_attributes.Goals as goal
 
 pub returns-in-Err-visit_found-clause-wrong : goal.returns-in-Err-visit_found-clause-wrong

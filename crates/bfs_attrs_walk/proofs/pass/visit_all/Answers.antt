@@ -13,6 +13,9 @@ visit_leads-requires-clause-all g c m told = c.requires.all m (sym c.in-Ok.ensur
 pub visit_leads-requires-clause-have : goal.visit_leads-requires-clause-have
 visit_leads-requires-clause-have g c m told = c.in-Ok.ensures.right m (sym c.in-Ok.ensures.told ∙ told)
 
+pub visit_leads-requires-clause-facts : goal.visit_leads-requires-clause-facts
+visit_leads-requires-clause-facts g c m told = c.requires.facts m (sym c.in-Ok.ensures.told ∙ told)
+
 pub tell_root-requires-clause-all : goal.tell_root-requires-clause-all
 tell_root-requires-clause-all g c m told = c.requires.all m (sym c.in-Err.ensures.told ∙ told)
 

@@ -8,7 +8,9 @@ use Rattle.bfs_sound.specs.Whole.{volume_of}
 use Rattle.bfs_claims.specs.Claims.{AreClaimed}
 use Rattle.bfs_attr_walk.proofs.Causing.{cause_earlier}
 use Rattle.bfs_nodes_walk.specs.Walks.{blocks_of_visits}
+use Rattle.bfs_nodes_walk.specs.declared.facts.NodeFacts.{NodeFacts}
 use Rattle.bfs_nodes_walk.specs.declared.lead.NodeLead.{NodeLead}
+use Rattle.bfs_nodes_walk.proofs.Kept.{fact_at}
 use Rattle.bfs_attrs_walk.specs.Passes.{attribute_blocks, blocks_of_leads}
 use Rattle.bfs_attrs_walk.proofs.Passing.{parts, there, names_block, have_next, claimed_next, have_all, claimed_all, inside_before, row_is_reached}
 use Rattle.bfs_attrs_walk.proofs.Searched.{directories}
@@ -51,6 +53,13 @@ visit_lead-requires-clause-lead g c =
     let r : NodeLead = c.index-leads-i.result in
     let item : r ≡ get_or c.args.leads.now c.loop-i.i r = search rules in
     names_block c.args.leads.now c.loop-i.i r c.loop-i-test.true item (natural c.args.sup.now.num_blocks) c.requires.inside
+
+pub visit_lead-requires-clause-facts : goal.visit_lead-requires-clause-facts
+visit_lead-requires-clause-facts g c m told =
+    let r : NodeLead = c.index-leads-i.result in
+    let item : r ≡ get_or c.args.leads.now c.loop-i.i r = search rules in
+    let f : NodeFacts = c.facts_at-one.result in
+    fact_at (volume_of c.args.sup.now (contents m)) c.args.leads.now c.args.facts.now c.loop-i.i r f c.loop-i-test.true item (c.facts_at-one.ensures f) (c.requires.facts m (sym c.loop-i.invariant.told ∙ told))
 
 pub visit_lead-requires-clause-all : goal.visit_lead-requires-clause-all
 visit_lead-requires-clause-all g c m told = c.requires.all m (sym c.loop-i.invariant.told ∙ told)

@@ -5,7 +5,7 @@ use Rattle.bfs_sound.specs.Volumes.{Volume}
 use Rattle.bfs_sound.specs.Whole.{volume_of}
 use Rattle.bfs_nodes_walk.specs.declared.lead.NodeLead.{NodeLead}
 use Rattle.bfs_index_check.specs.Compared.{pairs_of}
-use Rattle.bfs_key_walk.specs.declared.inode_keys.FileKeys.{FileKeys}
+use Rattle.bfs_nodes_walk.specs.declared.facts.FileKeys.{FileKeys}
 use Rattle.bfs_key_walk.proofs.Filed.{keys_here}
 use Rattle.bfs_key_walk.proofs.Gathers.{one_at, as_many, gathered_next, gathered_all}
 use Rattle.bfs_key_walk.proofs.gather.gather_leads.Goals as goal

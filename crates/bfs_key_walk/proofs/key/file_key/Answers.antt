@@ -2,7 +2,7 @@ use Rattle.std.proofs.Common.{◌≡◌, ◌∙◌, ℕ, List, cond, Option, Som
 use Rattle.std.proofs.lemmas.Result.{IfOk-weaker}
 use Rattle.bfs_bytes.specs.Fields.{unsigned_bytes, signed64_bytes}
 use Rattle.bfs_tree.specs.Trees.{is_file}
-use Rattle.bfs_key_walk.specs.declared.inode_keys.FileKeys.{FileKeys}
+use Rattle.bfs_nodes_walk.specs.declared.facts.FileKeys.{FileKeys}
 use Rattle.bfs_key_walk.proofs.Keyed.{key_of_none, key_of_some}
 use Rattle.bfs_key_walk.proofs.key.file_key.Goals as goal
 

@@ -1,4 +1,4 @@
-use Rattle.std.proofs.Common.{◌≡◌, ◌++◌, ◌∷◌, ◌+◌, ◌∙◌, ℕ, List, take, sym, ap, subst}
+use Rattle.std.proofs.Common.{◌≡◌, ◌≤◌, ◌++◌, ◌∷◌, ◌+◌, ◌∙◌, ℕ, List, length, take, sym, ap, subst}
 use Rattle.bfs_super.specs.Conditions.{natural}
 use Rattle.bfs_stream.specs.Told.{contents}
 use Rattle.bfs_sound.specs.Volumes.{Volume}
@@ -8,6 +8,8 @@ use Rattle.bfs_owner.specs.Owned.{blocks_of_places}
 use Rattle.bfs_node_walk.specs.NameRow.{NameRow}
 use Rattle.bfs_nodes_walk.specs.declared.lead.NodeLead.{NodeLead}
 use Rattle.bfs_nodes_walk.specs.Clashes.{IsApart}
+use Rattle.bfs_nodes_walk.specs.Facts.{IsFactOf}
+use Rattle.bfs_nodes_walk.proofs.Kept.{most_bytes, same_item}
 use Rattle.bfs_nodes_walk.specs.Leads.{leads_in, places_of_nodes, AreInside, IsTakenBy}
 use Rattle.bfs_nodes_walk.specs.Walks.{IsNodeWay, IsWalkedTo, blocks_of_visits}
 use Rattle.bfs_nodes_walk.proofs.Leading.{inside_more}
@@ -28,6 +30,17 @@ returns-in-Ok-push_leads-clause-inside g c =
     let blocks : ℕ = natural c.args.sup.now.num_blocks in
     subst (λ (x : List NodeLead). AreInside blocks (take (c.args.at + 1) x)) (sym c.in-Ok-push_leads.ensures.pushed)
     (inside_more blocks c.args.leads.now.items (leads_in c.in-Ok.found.id c.deref-2.result.now) c.args.at c.index.result.now c.in-Ok.found.id c.requires.at c.index.ensures c.in-Ok.ensures.number c.in-Ok.ensures.below c.requires.before)
+
+pub facts_in-requires-clause-few : goal.facts_in-requires-clause-few
+facts_in-requires-clause-few g c =
+    subst (λ (l : List ℕ). length l ≤ 8192) (sym c.deref-in-Ok-push_leads.ensures.value) (subst (λ (n : ℕ). n ≤ 8192) (sym c.in-Ok.ensures.length) (most_bytes c.args.sup.now c.requires.valid))
+
+pub returns-in-Ok-push_leads-clause-facts : goal.returns-in-Ok-push_leads-clause-facts
+returns-in-Ok-push_leads-clause-facts g c m l told item =
+    let v : Volume = volume_of c.args.sup.now (contents m) in
+    let same : l ≡ c.index.result.now = same_item c.args.leads.now.items c.args.at l c.index.result.now c.requires.at item c.index.ensures in
+    let id : c.in-Ok.found.id ≡ natural l.row.value = sym (ap natural (ap (λ (x : NodeLead). x.row.value) same ∙ c.in-Ok.ensures.number)) in
+    subst (λ (k : ℕ). IsFactOf v k c.facts_in.result) id (c.facts_in.ensures (contents m) (sym (c.deref-in-Ok-push_leads.ensures.value ∙ c.in-Ok.ensures.bytes m told)))
 
 pub returns-clause-wrong : goal.returns-clause-wrong
 returns-clause-wrong g c m xs told w = c.in-Err-push_leads.ensures.wrong (volume_of c.args.sup.now (contents m))

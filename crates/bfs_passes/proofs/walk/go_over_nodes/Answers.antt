@@ -1,8 +1,10 @@
-use Rattle.std.proofs.Common.{rules, ◌∙◌, subst, sym}
+use Rattle.std.proofs.Common.{rules, ◌∙◌, List, subst, sym}
 use Rattle.bfs_stream.specs.Told.{contents}
 use Rattle.bfs_sound.specs.Whole.{volume_of}
 use Rattle.bfs_inode_walk.specs.Visited.{IsVisitCause}
+use Rattle.bfs_nodes_walk.specs.Facts.{AreFactsOf}
 use Rattle.bfs_nodes_walk.specs.Walks.{IsWalked}
+use Rattle.bfs_nodes_walk.specs.declared.lead.NodeLead.{NodeLead}
 use Rattle.bfs_indices_check.specs.Passes.{IsWhole}
 use Rattle.bfs_indices_check.specs.Laws.{system_blocks}
 use Rattle.bfs_passes.proofs.Sharing.{node_shared, attribute_shared}
@@ -41,3 +43,9 @@ returns-in-Ok-visit_all-clause-some g c m told =
     let listed = c.count.ensures.listed in
     let walked = subst (IsWalked v listed.0 c.walk_nodes.new.claims) (sym c.deref.ensures.value) (c.in-Ok.ensures.walked m listed.0 told listed.1) in
     (listed.0, c.visit_all.new.claims, subst (IsWhole v listed.0 c.visit_all.new.claims) c.deref.ensures.value (c.in-Ok-visit_all.ensures.whole m listed.0 (c.in-Ok.ensures.told ∙ told) walked))
+
+pub visit_all-requires-clause-facts : goal.visit_all-requires-clause-facts
+visit_all-requires-clause-facts g c m told =
+    let v = volume_of c.args.sup.now (contents m) in
+    subst (AreFactsOf v c.deref.result.now) (sym c.deref-2.ensures.value)
+    (subst (λ (l : List NodeLead). AreFactsOf v l c.in-Ok.all.facts.items) (sym c.deref.ensures.value) (c.in-Ok.ensures.facts m (sym c.in-Ok.ensures.told ∙ told)))

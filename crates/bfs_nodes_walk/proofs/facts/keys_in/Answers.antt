@@ -1,9 +1,9 @@
 use Rattle.std.proofs.Common.{◌≡◌, ◌∙◌, true, Some, sym, ap}
 use Rattle.bfs_bytes.specs.Fields.{unsigned_bytes, signed64_bytes}
 use Rattle.bfs_tree.specs.Trees.{is_file}
-use Rattle.bfs_key_walk.specs.declared.inode_keys.FileKeys.{FileKeys}
-use Rattle.bfs_key_walk.proofs.Keyed.{no_keys, has_keys}
-use Rattle.bfs_key_walk.proofs.inode_keys.keys_in.Goals as goal
+use Rattle.bfs_nodes_walk.specs.declared.facts.FileKeys.{FileKeys}
+use Rattle.bfs_nodes_walk.proofs.Kept.{no_keys, has_keys}
+use Rattle.bfs_nodes_walk.proofs.facts.keys_in.Goals as goal
 
 pub returns-then-not-is_file_in : goal.returns-then-not-is_file_in
 returns-then-not-is_file_in c v id n read has =

@@ -3,8 +3,8 @@ use Rattle.bfs_sound.specs.Attributes.{attribute_directory}
 use Rattle.bfs_sound.specs.Inodes.{rows_of}
 use Rattle.bfs_names_walk.specs.declared.row.NameRow.{NameRow}
 use Rattle.bfs_attr_walk.proofs.Attributing.{row_there}
-use Rattle.bfs_attrs_walk.proofs.Others.{next_other, all_other}
-use Rattle.bfs_attrs_walk.proofs.names.check_rows.Goals as goal
+use Rattle.bfs_nodes_walk.proofs.Others.{next_other, all_other}
+use Rattle.bfs_nodes_walk.proofs.names.check_rows.Goals as goal
 
 pub loop-i-init : goal.loop-i-init
 loop-i-init c items is = tt

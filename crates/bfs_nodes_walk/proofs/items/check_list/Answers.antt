@@ -1,7 +1,7 @@
 use Rattle.std.proofs.Common.{subst, sym, arith}
 use Rattle.bfs_finding.specs.Findings.{IsBroken}
-use Rattle.bfs_attrs_walk.proofs.Repeats.{past_few, runs_past_there}
-use Rattle.bfs_attrs_walk.proofs.items.check_list.Goals as goal
+use Rattle.bfs_nodes_walk.proofs.Repeats.{past_few, runs_past_there}
+use Rattle.bfs_nodes_walk.proofs.items.check_list.Goals as goal
 
 pub past_end-requires : goal.past_end-requires
 past_end-requires c = let few = past_few c.args.area.now c.in-Err.fault.at c.in-Err.ensures.err.1 in let most = c.requires.few in omega (arith, few, most)

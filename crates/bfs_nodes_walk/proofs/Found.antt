@@ -10,7 +10,7 @@ use Rattle.bfs_smalldata.specs.Items.{Item, items_of}
 use Rattle.bfs_smalldata.specs.Edits.{named, Finds}
 use Rattle.bfs_smalldata.proofs.Naming.{named_first, named_later}
 use Rattle.bfs_sound.specs.Attributes.{own_name, is_name_item}
-use Rattle.bfs_attrs_walk.specs.Attributes.{HasItem}
+use Rattle.bfs_nodes_walk.specs.Attributes.{HasItem}
 
 -- the item of a name has it
 name_of : (name : List ℕ) (xs : List Item) (item : Item) → named name xs ≡ Some item → item.name ≡ name

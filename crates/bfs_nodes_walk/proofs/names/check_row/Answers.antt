@@ -4,10 +4,10 @@ use Rattle.bfs_smalldata.specs.Items.{items_of}
 use Rattle.bfs_sound.specs.Inodes.{is_proper}
 use Rattle.bfs_finding.specs.NodeFaults.{IsAttributeFault}
 use Rattle.bfs_node_check.proofs.Walked.{some_items}
-use Rattle.bfs_attrs_walk.specs.Attributes.{HasItem}
-use Rattle.bfs_attrs_walk.proofs.Among.{row_twice}
-use Rattle.bfs_attrs_walk.proofs.Others.{one_other}
-use Rattle.bfs_attrs_walk.proofs.names.check_row.Goals as goal
+use Rattle.bfs_nodes_walk.specs.Attributes.{HasItem}
+use Rattle.bfs_nodes_walk.proofs.Among.{row_twice}
+use Rattle.bfs_nodes_walk.proofs.Others.{one_other}
+use Rattle.bfs_nodes_walk.proofs.names.check_row.Goals as goal
 
 pub returns-then-not-proper-clause-apart : goal.returns-then-not-proper-clause-apart
 returns-then-not-proper-clause-apart c items is =

@@ -1,7 +1,7 @@
 use Rattle.std.proofs.Common.{◌≡◌, ◌+◌, ◌-◌, ◌∙◌, ℕ, take, drop, sym, ap, arith}
 use Rattle.bfs_smalldata.specs.Items.{name_size}
 use Rattle.bfs_node_check.proofs.Walked.{part_there}
-use Rattle.bfs_attrs_walk.proofs.items.name_at.Goals as goal
+use Rattle.bfs_nodes_walk.proofs.items.name_at.Goals as goal
 
 pub returns : goal.returns
 returns c =

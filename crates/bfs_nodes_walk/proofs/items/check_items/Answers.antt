@@ -3,8 +3,8 @@ use Rattle.std.proofs.lemmas.Bool.{true≢false}
 use Rattle.std.specs.Prelude.{IsSome}
 use Rattle.bfs_smalldata.specs.Items.{Item}
 use Rattle.bfs_smalldata.specs.Edits.{named}
-use Rattle.bfs_attrs_walk.proofs.Repeats.{Apart, apart_start, item_here, rest_items, apart_more, twice_here, apart_end}
-use Rattle.bfs_attrs_walk.proofs.items.check_items.Goals as goal
+use Rattle.bfs_nodes_walk.proofs.Repeats.{Apart, apart_start, item_here, rest_items, apart_more, twice_here, apart_end}
+use Rattle.bfs_nodes_walk.proofs.items.check_items.Goals as goal
 
 pub loop-alloc-init : goal.loop-alloc-init
 loop-alloc-init c = record { inside = omega arith; apart = apart_start c.args.area.now c.requires }

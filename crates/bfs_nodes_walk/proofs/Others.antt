@@ -8,7 +8,7 @@ use Rattle.bfs_sound.specs.Inodes.{is_proper}
 use Rattle.bfs_names_walk.specs.Rows.{as_rows}
 use Rattle.bfs_names_walk.specs.declared.row.NameRow.{NameRow}
 use Rattle.bfs_node_walk.specs.Listed.{proper}
-use Rattle.bfs_attrs_walk.specs.Attributes.{HasItem, AreOthers}
+use Rattle.bfs_nodes_walk.specs.Attributes.{HasItem, AreOthers}
 
 module _ (items : List Item) where
   abbrev IsOther : Row → Type 0

@@ -1,6 +1,6 @@
 use Rattle.std.proofs.lemmas.Bool.{false≢true}
-use Rattle.bfs_attrs_walk.proofs.Found.{has_it, lacks_item}
-use Rattle.bfs_attrs_walk.proofs.names.has_item.Goals as goal
+use Rattle.bfs_nodes_walk.proofs.Found.{has_it, lacks_item}
+use Rattle.bfs_nodes_walk.proofs.names.has_item.Goals as goal
 
 pub returns-in-Some : goal.returns-in-Some
 returns-in-Some c items is = has_it c.args.area.now c.args.name.now items is c.in-Some.item c.in-Some.ensures c.is_own.result c.is_own.ensures

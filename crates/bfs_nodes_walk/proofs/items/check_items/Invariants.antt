@@ -1,6 +1,6 @@
 use Rattle.std.proofs.Common.{◌≤◌, ◌-◌, length}
-use Rattle.bfs_attrs_walk.proofs.Repeats.{Apart}
-use Rattle.bfs_attrs_walk.proofs.items.check_items.Given as goal
+use Rattle.bfs_nodes_walk.proofs.Repeats.{Apart}
+use Rattle.bfs_nodes_walk.proofs.items.check_items.Given as goal
 
 abbrev pub invariant-loop-alloc : goal.invariant-loop-alloc
 invariant-loop-alloc l = record {

@@ -3,8 +3,8 @@ use Rattle.bfs_smalldata.specs.Items.{items_of}
 use Rattle.bfs_node_check.proofs.Walked.{rest_part, some_items}
 use Rattle.bfs_names_walk.specs.Rows.{as_rows}
 use Rattle.bfs_node_walk.specs.Listed.{proper}
-use Rattle.bfs_attrs_walk.proofs.Among.{attributes_right}
-use Rattle.bfs_attrs_walk.proofs.names.check_names.Goals as goal
+use Rattle.bfs_nodes_walk.proofs.Among.{attributes_right}
+use Rattle.bfs_nodes_walk.proofs.names.check_names.Goals as goal
 
 pub check_area-requires : goal.check_area-requires
 check_area-requires c =

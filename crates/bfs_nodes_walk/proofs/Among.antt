@@ -23,8 +23,8 @@ use Rattle.bfs_finding.proofs.Rows.{tree_ascends, ascend_kept}
 use Rattle.bfs_finding.specs.NodeFaults.{area_of, IsAttributeFault}
 use Rattle.bfs_finding.specs.Ways.{IsReached}
 use Rattle.bfs_nodes_walk.specs.Walks.{HasAttributes}
-use Rattle.bfs_attrs_walk.specs.Attributes.{HasItem}
-use Rattle.bfs_attrs_walk.proofs.Repeats.{one, times_in, cons_in}
+use Rattle.bfs_nodes_walk.specs.Attributes.{HasItem}
+use Rattle.bfs_nodes_walk.proofs.Repeats.{one, times_in, cons_in}
 
 abbrev pub times_of : List ℕ → List Named → ℕ
 times_of name entries = count_by (λ (e : Named). bytes_eq e.0 name) entries

@@ -12,9 +12,10 @@ ghost use Rattle.bfs_finding.specs.NodeFaults.{area_of};
 ghost use Rattle.bfs_finding.specs.Ways.{IsReached};
 ghost use Rattle.bfs_node_check.specs.Names.{IsNodeFault};
 ghost use Rattle.bfs_nodes_walk.specs.Walks.{HasAttributes};
-ghost use Rattle.bfs_attrs_walk.specs.Attributes.{HasItem, AreOthers, AreRowsIn};
+ghost use Rattle.bfs_nodes_walk.specs.Attributes.{HasItem, AreOthers, AreRowsIn};
 
 use crate::items::{check_items, check_list, repeated};
+use bfs_attr_walk::is_proper_name;
 use bfs_inode::SMALL_DATA;
 use bfs_names_walk::NameRow;
 use bfs_node_check::NodeFault;
@@ -41,13 +42,6 @@ fn has_item(area: &[u8], name: &[u8]) -> bool
         Some(item) => !is_own(item.kind, name),
         None => false,
     }
-}
-
-/// Is it a name but `.` and `..`?
-fn is_proper_name(name: &[u8]) -> bool
-    ensures { result ≡ is_proper name.now }
-{
-    !(name == b".".as_slice() || name == b"..".as_slice())
 }
 
 /// Has no attribute among the items the name of the row, unless that is `.` or `..`?

@@ -132,9 +132,11 @@ script='1 mkdir /d1
 if command -v strace >/dev/null 2>&1; then
     fresh 1024
     cp "$image" "$work/before.img"
-    for write in 1 2 3 5 8 12 16 20 25 30 35 40; do
+    for write in 1 2 3 4 5 6 8 10 12 14 16 18; do
         cp "$work/before.img" "$image"
-        printf '%s\n' "$script" | strace -f -o "$work/calls" -e trace=pwrite64 -e inject=pwrite64:signal=KILL:when=$write "$program" "$image" sh >"$work/out" 2>/dev/null
+        printf '%s\n' "$script" | strace -f -o "$work/calls" -P "$image" -e trace=write -e inject=write:signal=KILL:when=$write "$program" "$image" sh >"$work/out" 2>/dev/null
+        ended=$?
+        check "killed at write $write" test $ended -ge 128
         printf '%s\n' '1 ls /' | "$program" "$image" sh >"$work/out" 2>"$work/err"
         check "mounted behind write $write" test $? -eq 0
         check "with a prefix behind write $write" grep -qx -e '1 1 ok 0' -e '1 1 ok 1 d1' -e '1 1 ok 2 d1 d2' -e '1 1 ok 3 d1 d2 d3' -e '1 1 ok 4 d1 d2 d3 d4' "$work/out"

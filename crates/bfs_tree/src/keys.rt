@@ -8,6 +8,7 @@ ghost use Rattle.bfs_tree.specs.Listings.{code_of, kind_of_key, bytes_of_key, ke
 ghost use Rattle.bfs_tree.specs.Refusals.{is_float, kind_number, is_kind};
 
 use crate::{Bytes, Key, KeyKind};
+use byteorder::{ByteOrder, LittleEndian};
 use std::alloc::{AllocError, Global};
 use std::cmp::Ordering;
 
@@ -64,18 +65,24 @@ fn byte_at(bytes: &[u8], at: usize) -> u64
     }
 }
 
-/// The number in the first four bytes, the lowest first.
+/// The number in the first four bytes, the lowest first. Bytes that are missing are 0.
 fn number_of_four(bytes: &[u8]) -> u32
     ensures { result ≡ little_number 4 bytes.now }
 {
+    if bytes.len() >= 4 {
+        return LittleEndian::read_u32(bytes);
+    }
     let high = byte_at(bytes, 2) + 256 * (byte_at(bytes, 3) + 256 * 0);
     (byte_at(bytes, 0) + 256 * (byte_at(bytes, 1) + 256 * high)) as u32
 }
 
-/// The number in the first eight bytes, the lowest first.
+/// The number in the first eight bytes, the lowest first. Bytes that are missing are 0.
 fn number_of_eight(bytes: &[u8]) -> u64
     ensures { result ≡ little_number 8 bytes.now }
 {
+    if bytes.len() >= 8 {
+        return LittleEndian::read_u64(bytes);
+    }
     let top = byte_at(bytes, 6) + 256 * (byte_at(bytes, 7) + 256 * 0);
     let high = byte_at(bytes, 4) + 256 * (byte_at(bytes, 5) + 256 * top);
     let low = byte_at(bytes, 2) + 256 * (byte_at(bytes, 3) + 256 * high);

@@ -1,6 +1,6 @@
 -- What an `impl Blocks` shows of the traits' laws: what is told of a block has a block's length, and changes tell where
 -- what lies below does.
-use Rattle.std.proofs.Common.{◌≡◌, ◌≤◌, ◌+◌, ◌*◌, ℕ, zero, suc, List, [], ◌∷◌, length, take, drop, Option, Some, None, IfSome, Bool, true, false, cond, is_some, refl, arith, ◌==◌, nat_le, length-drop, length-take-le}
+use Rattle.std.proofs.Common.{◌≡◌, ◌≤◌, ◌+◌, ◌*◌, ℕ, zero, suc, List, [], ◌∷◌, length, take, drop, Option, Some, None, IfSome, Bool, true, false, cond, refl, arith, ◌==◌, nat_le, length-drop, length-take-le}
 use Rattle.std.specs.Option.{option_map}
 use Rattle.bfs_txn.specs.Changed.{newest, over, or_else, AreOfSize, AreLayered}
 use Rattle.bfs_txn.specs.Told.{AreSized, TellsOver, blocks_of}

@@ -1,5 +1,5 @@
 // Changed blocks.
-ghost use Rattle.std.specs.Prelude.{◌≡◌, ◌≤◌, ◌<◌, ◌+◌, ◌-◌, ℕ, List, [], ◌∷◌, length, take, drop, OnOk, OnErr, IfSome, Option, Some, None, MatchOption, MatchResult, IsTrue, if◌then◌else◌};
+ghost use Rattle.std.specs.Prelude.{◌≡◌, ◌≤◌, ◌<◌, ◌+◌, ◌-◌, ℕ, List, [], ◌∷◌, length, take, drop, OnOk, OnErr, IfOk, IfSome, Option, Some, None, MatchOption, MatchResult, IsTrue, if◌then◌else◌};
 ghost use Rattle.std.specs.Prelude.{◌↔◌, ◌==◌, slice_set, slice_index_or, insert};
 ghost use Rattle.std.specs.List.Sorted.{IsPermutation};
 ghost use Rattle.bfs_txn.specs.Changed.{newest, number_at, bytes_at, Ascends, AscendsIn, AreOfSize, AreLayered, IsAt, IsGap};
@@ -27,14 +27,14 @@ impl Model for Block {
 const NOTED: usize = 128;
 
 /// Changed blocks, as a list of pairs: a block's number and its bytes. Outside of an overlay the numbers ascend, so
-/// each block stands there once, and a look-up takes as many steps as the length has binary digits; one where a block
-/// stands that was looked for a short time ago takes a single step.
+/// each block stands there once, and a look-up takes as many steps as the length has binary digits; one of a block
+/// that was looked for a short time ago takes a single step, whether it stands there or not.
 #[derive(Drop)]
 pub struct Changed {
     alloc: Global,
     blocks: Vec<Block>,
-    /// Where blocks stood when they were last looked for, by the low bits of their numbers. A place that holds another
-    /// block by now is passed over.
+    /// Where blocks stood when they were last looked for, or would have, by the low bits of their numbers. A place that
+    /// isn't a block's by now is passed over.
     hints: [usize; NOTED],
 }
 
@@ -93,15 +93,15 @@ impl Changed {
         ensures { MatchOption result (newest self.now block ≡ None) (λ r. newest self.now block ≡ Some r.now) }
     {
         match self.place_of(0, block) {
-            Some(i) => Some(self.bytes(i)),
-            None => None,
+            Ok(i) => Some(self.bytes(i)),
+            Err(_) => None,
         }
     }
 }
 
 // What an overlay does with a list whose pairs from a mark on are those of its call.
 impl Changed {
-    /// Where the newest bytes of a block stand, which is noted.
+    /// Where the newest bytes of a block stand. That is noted, or where the block would stand among the kept pairs.
     pub(crate) fn place_above(&mut self, mark: usize, block: u64) -> Option<usize>
         requires within { mark ≤ length self.old }
         requires kept { AscendsIn self.old 0 mark }
@@ -110,11 +110,16 @@ impl Changed {
         ensures inside { IfSome result (λ i. i < length self.old) }
         ensures place { MatchOption result (newest self.old block ≡ None) (λ i. newest self.old block ≡ Some (bytes_at self.old i)) }
     {
-        let found = self.place_of(mark, block);
-        if let Some(i) = found {
-            self.note(block, i);
+        match self.place_of(mark, block) {
+            Ok(i) => {
+                self.note(block, i);
+                Some(i)
+            }
+            Err(i) => {
+                self.note(block, i);
+                None
+            }
         }
-        found
     }
 
     /// Puts a block's bytes among the pairs from the mark on.
@@ -180,19 +185,19 @@ impl Changed {
         self.hints[(block % NOTED as u64) as usize]
     }
 
-    /// Where the newest bytes of a block stand.
-    fn place_of(&self, mark: usize, block: u64) -> Option<usize>
+    /// Where the newest bytes of a block stand, or where it would stand among the pairs before the mark.
+    fn place_of(&self, mark: usize, block: u64) -> Result<usize, usize>
         requires within { mark ≤ length self.now }
         requires kept { AscendsIn self.now 0 mark }
         requires own { AscendsIn self.now mark (length self.now) }
-        ensures inside { IfSome result (λ i. i < length self.now) }
-        ensures place { MatchOption result (newest self.now block ≡ None) (λ i. newest self.now block ≡ Some (bytes_at self.now i)) }
+        ensures inside { IfOk result (λ i. i < length self.now) }
+        ensures place { MatchResult result (λ i. newest self.now block ≡ Some (bytes_at self.now i)) (λ _. newest self.now block ≡ None) }
     {
         match self.place_in(mark, self.len(), block) {
-            Ok(i) => Some(i),
+            Ok(i) => Ok(i),
             Err(_) => match self.place_in(0, mark, block) {
-                Ok(i) => Some(i),
-                Err(_) => None,
+                Ok(i) => Ok(i),
+                Err(i) => Err(i),
             },
         }
     }
@@ -208,12 +213,29 @@ impl Changed {
         if from <= noted && noted < to && self.block(noted) == block {
             return Ok(noted);
         }
+        if from <= noted && noted <= to && self.is_gap(from, to, noted, block) {
+            return Err(noted);
+        }
         let at = from + count_below(&self.blocks[from..to], block);
         if at == to {
             return Err(at);
         }
         let number = self.block(at);
         if number == block { Ok(at) } else { Err(at) }
+    }
+
+    /// Is the block missing between two places, where it would stand at this one? That is told by its two neighbours.
+    fn is_gap(&self, from: usize, to: usize, at: usize, block: u64) -> bool
+        requires from_on { from ≤ at }
+        requires up_to { at ≤ to }
+        requires inside { to ≤ length self.now }
+        requires ascends { AscendsIn self.now from to }
+        ensures { IsTrue result → IsGap self.now from to block at }
+    {
+        if from < at && self.block(at - 1) >= block {
+            return false;
+        }
+        at == to || block < self.block(at)
     }
 
     /// Puts the pair at a place into that of its block among the kept pairs or among the first own ones, which then are as many as before, or makes it

@@ -14,5 +14,5 @@ returns-in-Ok-place_in-clause-place c =
 
 pub returns-in-Err-place_in-clause-place : goal.returns-in-Err-place_in-clause-place
 returns-in-Err-place_in-clause-place c =
-    found_nowhere c.args.self.now c.args.mark c.args.block c.in-Err-place_in.field-0 c.in-Err.field-0 c.in-Err-place_in.ensures
+    found_nowhere c.args.self.now c.args.mark c.args.block c.in-Err-place_in.i c.in-Err.field-0 c.in-Err-place_in.ensures
     (subst (λ (n : ℕ). IsGap c.args.self.now c.args.mark n c.args.block c.in-Err.field-0) c.len.ensures c.in-Err.ensures)

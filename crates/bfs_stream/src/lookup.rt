@@ -36,6 +36,20 @@ impl Ends {
     }
 }
 
+/// How many whole blocks so many bytes are. Blocks have one of four lengths, each a power of two.
+fn whole_blocks(bytes: u64, block_size: u32) -> u64
+    requires { 0 < block_size }
+    ensures { result ≡ bytes / block_size }
+{
+    match block_size {
+        1024 => bytes / 1024,
+        2048 => bytes / 2048,
+        4096 => bytes / 4096,
+        8192 => bytes / 8192,
+        _ => bytes / u64::from(block_size),
+    }
+}
+
 impl Stream {
     /// The sizes are those of a volume.
     pub fn sizes(&self)
@@ -237,11 +251,11 @@ impl Stream {
         ensures { result ≡ ends_of self.now.sizes (stream_at bytes.now) }
     {
         let inode = InodeView::over(bytes);
-        let size = u64::from(self.block_size);
+        let size = self.block_size;
         Ends {
-            direct: natural_long(inode.max_direct_range()) / size,
-            indirect: natural_long(inode.max_indirect_range()) / size,
-            double: natural_long(inode.max_double_indirect_range()) / size,
+            direct: whole_blocks(natural_long(inode.max_direct_range()), size),
+            indirect: whole_blocks(natural_long(inode.max_indirect_range()), size),
+            double: whole_blocks(natural_long(inode.max_double_indirect_range()), size),
         }
     }
 

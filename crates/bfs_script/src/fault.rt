@@ -12,6 +12,11 @@ pub enum ScriptFault {
 }
 
 impl From<AllocError> for ScriptFault {
+    ghost use Rattle.std.specs.Prelude.{◌≡◌};
+    ghost use Rattle.bfs_script.specs.declared.fault.ScriptFault.TheVariants.{NoMemory};
+
+    ghost from_gives = { λ _ result. result ≡ NoMemory };
+
     fn from(_: AllocError) -> ScriptFault {
         ScriptFault::NoMemory
     }

@@ -34,10 +34,14 @@ HasNoBlock places i (Block fault) = ¬ IsDamage fault
 abbrev pub IsPastEnd : Sizes → Stream → ℕ → ℕ → Type 0
 IsPastEnd s t place blocks = (blocks ≡ last_end (ends_of s t)) × (blocks ≤ place)
 
--- which block is damaged where there is no block at a place, or where the stream ends before it, by what is told
+-- which block is damaged where there is no block at a place, or where the stream ends before it, by these fields in the inode and by what is told
+abbrev pub IsDamagedIn : Origin → (ℕ → Option (List ℕ)) → Stream → ℕ → StreamFault → Type 0
+IsDamagedIn o m t place (PastEnd blocks) = IsPastEnd o.sizes t place blocks
+IsDamagedIn o m t place (Block fault) = IsDamagedBy o.sizes m o.id t place fault
+
+-- the same, where the inode is told too
 abbrev pub IsDamagedAt : Origin → (ℕ → Option (List ℕ)) → ℕ → StreamFault → Type 0
-IsDamagedAt o m place (PastEnd blocks) = IsPastEnd o.sizes (stream_at (contents m o.id)) place blocks
-IsDamagedAt o m place (Block fault) = IsDamagedBy o.sizes m o.id (stream_at (contents m o.id)) place fault
+IsDamagedAt o m place fault = IsDamagedIn o m (stream_at (contents m o.id)) place fault
 
 -- What was read last where there is no block at a place, also where nothing is told: the inode, where the stream ends before
 -- it by the bytes that were read; and a damaged block, whose own bytes break the format, behind an inode of some bytes.

@@ -47,6 +47,14 @@ pub record IsPast (s : Sizes) (runs : List Run) (place left : ℕ) : Type 0 wher
   pub used : used_runs runs ≡ runs
   pub behind : length (blocks_of s runs) + left ≡ place
 
+-- each of the four runs that stand behind a byte has blocks, and they have so many in all
+pub record AreFour (bytes : List ℕ) (at n : ℕ) : Type 0 where
+  pub first : 0 < (run_in bytes at).len
+  pub second : 0 < (run_in bytes (at + 8)).len
+  pub third : 0 < (run_in bytes (at + 16)).len
+  pub fourth : 0 < (run_in bytes (at + 24)).len
+  pub all : n ≡ (run_in bytes at).len + (run_in bytes (at + 8)).len + (run_in bytes (at + 16)).len + (run_in bytes (at + 24)).len
+
 -- a run ends its level: it has no blocks
 abbrev pub IsShort : Run → Type 0
 IsShort run = run.len ≡ 0

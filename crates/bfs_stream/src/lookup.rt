@@ -7,7 +7,7 @@ ghost use Rattle.bfs_stream.specs.Sizes.{IsInVolume, IsWhole, HasSizes, array_le
 ghost use Rattle.bfs_stream.specs.Places.{run_blocks, used_runs, array_runs, places_at, fields};
 ghost use Rattle.bfs_stream.specs.Told.{AreTold, Stands, contents};
 ghost use Rattle.bfs_stream.specs.Scans.{IsDamage, IfDamaged, IsDamagedBy, IsBlamed, HasEnded, IsLevelDamaged, IsLevelBlamed, IsTableDamaged, IsTableBlamed, IsDoubleDamaged, IsDoubleBlamed, IsUnreached, HasDouble, block_in, ends_of, last_end};
-ghost use Rattle.bfs_stream.specs.Faults.{IsCauseIn, IsStreamCause, IsDamagedAt, IsBlamedAt, HasNoBlock};
+ghost use Rattle.bfs_stream.specs.Faults.{IsCauseIn, IsStreamCause, IsDamagedIn, IsDamagedAt, IsBlamedAt, HasNoBlock};
 
 use crate::scan::Scan;
 use crate::stream::natural_long;
@@ -259,21 +259,26 @@ impl Stream {
         }
     }
 
-    /// The block at a place, by the inode's bytes. The range of some level says that there is one.
+    /// The block at a place, by the inode's bytes and the ends of the levels, as they say. The range of some level says that there is one.
     fn in_levels<B: Blocks>(
         &self,
         under: &mut B,
+        inode: &[u8],
+        ends: Ends,
         bytes: &mut [u8],
         place: u64,
     ) -> Result<u64, BlockFault>
         requires size { B.size under.old ≡ self.now.sizes.block_size }
+        requires inode { 1024 ≤ length inode.now }
         requires length { length bytes.old ≡ self.now.sizes.block_size }
-        requires inside { place < last_end (ends_of self.now.sizes (stream_at bytes.old)) }
-        ensures found { (m : ℕ → Option (List ℕ)) → B.told under.old ≡ Some m → Stands self.now m → bytes.old ≡ contents m self.now.id → IfOk result (λ block. slice_get (places_at self.now.sizes (contents m) self.now.id) place ≡ Some block) }
-        ensures sound { (m : ℕ → Option (List ℕ)) → B.told under.old ≡ Some m → Stands self.now m → bytes.old ≡ contents m self.now.id → IfErr result (λ fault. ¬ IsDamage fault) }
-        ensures damaged { (m : ℕ → Option (List ℕ)) → B.told under.old ≡ Some m → IfErr result (IsDamagedBy self.now.sizes m self.now.id (stream_at bytes.old) place) }
-        ensures blamed { B.last under.old ≡ Some (self.now.id, bytes.old) → IfErr result (IsBlamed self.now.sizes (B.last under.new) self.now.id (stream_at bytes.old) place) }
+        requires ends { ends ≡ ends_of self.now.sizes (stream_at inode.now) }
+        requires inside { place < last_end (ends_of self.now.sizes (stream_at inode.now)) }
+        ensures found { (m : ℕ → Option (List ℕ)) → B.told under.old ≡ Some m → Stands self.now m → inode.now ≡ contents m self.now.id → IfOk result (λ block. slice_get (places_at self.now.sizes (contents m) self.now.id) place ≡ Some block) }
+        ensures sound { (m : ℕ → Option (List ℕ)) → B.told under.old ≡ Some m → Stands self.now m → inode.now ≡ contents m self.now.id → IfErr result (λ fault. ¬ IsDamage fault) }
+        ensures damaged { (m : ℕ → Option (List ℕ)) → B.told under.old ≡ Some m → IfErr result (IsDamagedBy self.now.sizes m self.now.id (stream_at inode.now) place) }
+        ensures blamed { B.last under.old ≡ Some (self.now.id, inode.now) → IfErr result (IsBlamed self.now.sizes (B.last under.new) self.now.id (stream_at inode.now) place) }
         ensures below { IfOk result (λ block. block < self.now.sizes.blocks) }
+        ensures length { length bytes.new ≡ self.now.sizes.block_size }
         ensures told { B.told under.new ≡ B.told under.old }
         ensures changed { B.changed under.new ≡ B.changed under.old }
         ensures pairs { B.pairs under.new ≡ B.pairs under.old }
@@ -283,33 +288,71 @@ impl Stream {
         ensures cause { IfErr result (IsCauseIn (B.counts under.old) (B.counts under.new)) }
     {
         self.sizes();
-        let ends = self.ends(bytes);
         if place < ends.direct {
-            return self.in_direct(bytes, place);
+            return self.in_direct(inode, place);
         }
         if place < ends.indirect {
-            let array = InodeView::over(bytes).indirect();
+            let array = InodeView::over(inode).indirect();
             if !self.holds(array) {
                 return Err(BlockFault::Damaged { block: self.inode });
             }
             return self.in_array(under, bytes, array, place - ends.direct);
         }
-        let array = InodeView::over(bytes).double_indirect();
+        let array = InodeView::over(inode).double_indirect();
         if !self.is_whole(array) {
             return Err(BlockFault::Damaged { block: self.inode });
         }
         self.in_double(under, bytes, array, place - ends.indirect)
     }
 
-    /// The block at a place of the stream, which counts its blocks from 0. It reads the inode and, beside it, the tables of
-    /// runs up to the place, or two under double indirect, into a buffer of a block's length. Takes no memory.
+    /// The block at a place of the stream, which counts its blocks from 0, by the bytes of the inode's block. It reads the tables of runs up to the place, or
+    /// two under double indirect, into a buffer of a block's length. Takes no memory.
+    pub fn look_up_by<B: Blocks>(
+        &self,
+        under: &mut B,
+        inode: &[u8],
+        bytes: &mut [u8],
+        index: u64,
+    ) -> Result<u64, StreamFault>
+        requires size { B.size under.old ≡ self.now.sizes.block_size }
+        requires inode { 1024 ≤ length inode.now }
+        requires length { length bytes.old ≡ self.now.sizes.block_size }
+        ensures found { (m : ℕ → Option (List ℕ)) → B.told under.old ≡ Some m → Stands self.now m → inode.now ≡ contents m self.now.id → IfOk result (λ block. slice_get (places_at self.now.sizes (contents m) self.now.id) index ≡ Some block) }
+        ensures none { (m : ℕ → Option (List ℕ)) → B.told under.old ≡ Some m → Stands self.now m → inode.now ≡ contents m self.now.id → IfErr result (HasNoBlock (places_at self.now.sizes (contents m) self.now.id) index) }
+        ensures damaged { (m : ℕ → Option (List ℕ)) → B.told under.old ≡ Some m → IfErr result (IsDamagedIn self.now m (stream_at inode.now) index) }
+        ensures blamed { B.last under.old ≡ Some (self.now.id, inode.now) → IfErr result (IsBlamedAt self.now (B.last under.new) index) }
+        ensures below { IfOk result (λ block. block < self.now.sizes.blocks) }
+        ensures length { length bytes.new ≡ self.now.sizes.block_size }
+        ensures told { B.told under.new ≡ B.told under.old }
+        ensures changed { B.changed under.new ≡ B.changed under.old }
+        ensures pairs { B.pairs under.new ≡ B.pairs under.old }
+        ensures size { B.size under.new ≡ B.size under.old }
+        ensures frame { B.frame under.new ≡ B.frame under.old }
+        ensures later { AreLater (B.counts under.old) (B.counts under.new) }
+        ensures cause { IfErr result (IsStreamCause (B.counts under.old) (B.counts under.new)) }
+    {
+        self.sizes();
+        let ends = self.ends(inode);
+        let blocks = ends.last();
+        if index >= blocks {
+            return Err(StreamFault::PastEnd { blocks });
+        }
+        match self.in_levels(under, inode, ends, bytes, index) {
+            Ok(block) => Ok(block),
+            Err(fault) => Err(StreamFault::Block(fault)),
+        }
+    }
+
+    /// The same, where the inode is read first, into another such buffer.
     pub fn look_up<B: Blocks>(
         &mut self,
         under: &mut B,
+        inode: &mut [u8],
         bytes: &mut [u8],
         index: u64,
     ) -> Result<u64, StreamFault>
         requires size { B.size under.old ≡ self.old.sizes.block_size }
+        requires inode { length inode.old ≡ self.old.sizes.block_size }
         requires length { length bytes.old ≡ self.old.sizes.block_size }
         ensures found { (m : ℕ → Option (List ℕ)) → B.told under.old ≡ Some m → Stands self.old m → IfOk result (λ block. slice_get (places_at self.old.sizes (contents m) self.old.id) index ≡ Some block) }
         ensures none { (m : ℕ → Option (List ℕ)) → B.told under.old ≡ Some m → Stands self.old m → IfErr result (HasNoBlock (places_at self.old.sizes (contents m) self.old.id) index) }
@@ -327,21 +370,14 @@ impl Stream {
         ensures cause { IfErr result (IsStreamCause (B.counts under.old) (B.counts under.new)) }
     {
         self.sizes();
-        match under.get(self.inode, bytes) {
+        match under.get(self.inode, inode) {
             Ok(()) => {}
             Err(fault) => return Err(StreamFault::Block(fault)),
         }
-        let blocks = self.ends(bytes).last();
-        if index >= blocks {
-            return Err(StreamFault::PastEnd { blocks });
-        }
-        match self.in_levels(under, bytes, index) {
-            Ok(block) => Ok(block),
-            Err(fault) => Err(StreamFault::Block(fault)),
-        }
+        self.look_up_by(under, inode, bytes, index)
     }
 
-    /// The same, with a buffer of its own.
+    /// The same, with buffers of its own.
     pub fn block<B: Blocks>(&mut self, under: &mut B, index: u64) -> Result<u64, StreamFault>
         requires { B.size under.old ≡ self.old.sizes.block_size }
         ensures found { (m : ℕ → Option (List ℕ)) → B.told under.old ≡ Some m → Stands self.old m → IfOk result (λ block. slice_get (places_at self.old.sizes (contents m) self.old.id) index ≡ Some block) }
@@ -358,8 +394,12 @@ impl Stream {
         ensures later { AreLater (B.counts under.old) (B.counts under.new) }
         ensures cause { IfErr result (IsStreamCause (B.counts under.old) (B.counts under.new)) }
     {
-        match vec![in self.alloc; 0u8; self.block_size as usize] {
-            Ok(mut bytes) => self.look_up(under, &mut bytes, index),
+        let mut inode = match self.buffer() {
+            Ok(inode) => inode,
+            Err(_) => return Err(StreamFault::Block(BlockFault::NoMemory)),
+        };
+        match self.buffer() {
+            Ok(mut bytes) => self.look_up(under, &mut inode, &mut bytes, index),
             Err(_) => Err(StreamFault::Block(BlockFault::NoMemory)),
         }
     }

@@ -24,18 +24,18 @@ ends_read o m bytes ends sizes stands same is =
 pub returns-then-place-ends-clause-found : goal.returns-then-place-ends-clause-found
 returns-then-place-ends-clause-found g c m is stands same =
     let o = c.args.self.now in
-    let are = ends_read o m c.args.bytes.now c.ends-ends.result c.sizes.ensures.sizes stands same c.ends-ends.ensures in
+    let are = ends_read o m c.args.inode.now c.args.ends c.sizes.ensures.sizes stands same c.requires.ends in
     let low : c.args.place < length (direct_blocks o.sizes (contents m) o.id) = let e = are.direct in omega (arith, e) in
-    IfOk-weaker c.in_direct.result (λ block. block_in o.sizes (stream_at c.args.bytes.now).direct c.args.place ≡ Some block) (λ block. slice_get (places_at o.sizes (contents m) o.id) c.args.place ≡ Some block)
+    IfOk-weaker c.in_direct.result (λ block. block_in o.sizes (stream_at c.args.inode.now).direct c.args.place ≡ Some block) (λ block. slice_get (places_at o.sizes (contents m) o.id) c.args.place ≡ Some block)
     (λ block found. places_direct o.sizes (contents m) o.id c.args.place low ∙ ap (λ (l : List ℕ). block_in o.sizes (stream_at l).direct c.args.place) (sym same) ∙ found) c.in_direct.ensures.found
 
 pub returns-then-place-ends-clause-sound : goal.returns-then-place-ends-clause-sound
 returns-then-place-ends-clause-sound g c m is stands same =
     let o = c.args.self.now in
-    let are = ends_read o m c.args.bytes.now c.ends-ends.result c.sizes.ensures.sizes stands same c.ends-ends.ensures in
+    let are = ends_read o m c.args.inode.now c.args.ends c.sizes.ensures.sizes stands same c.requires.ends in
     let low : c.args.place < length (direct_blocks o.sizes (contents m) o.id) = let e = are.direct in omega (arith, e) in
-    let all : All (IsInVolume o.sizes) (used_runs (stream_at c.args.bytes.now).direct) = subst (λ (l : List ℕ). All (IsInVolume o.sizes) (used_runs (stream_at l).direct)) (sym same) stands.sound.direct in
-    IfErr-weaker c.in_direct.result (λ fault. block_in o.sizes (stream_at c.args.bytes.now).direct c.args.place ≡ None) (λ fault. ¬ IsDamage fault)
+    let all : All (IsInVolume o.sizes) (used_runs (stream_at c.args.inode.now).direct) = subst (λ (l : List ℕ). All (IsInVolume o.sizes) (used_runs (stream_at l).direct)) (sym same) stands.sound.direct in
+    IfErr-weaker c.in_direct.result (λ fault. block_in o.sizes (stream_at c.args.inode.now).direct c.args.place ≡ None) (λ fault. ¬ IsDamage fault)
     (λ fault none t. direct_some o.sizes (contents m) o.id c.args.place low (ap (λ (l : List ℕ). block_in o.sizes (stream_at l).direct c.args.place) (sym same) ∙ none)) (c.in_direct.ensures.none all)
 
 -- the indirect level has the place
@@ -70,31 +70,31 @@ module _ (o : Origin) (m : ℕ → Option (List ℕ)) (bytes : List ℕ) (place 
 pub returns-then-not-holds-clause-sound : goal.returns-then-not-holds-clause-sound
 returns-then-not-holds-clause-sound g c m is stands same t =
     let o = c.args.self.now in
-    let are = ends_read o m c.args.bytes.now c.ends-ends.result c.sizes.ensures.sizes stands same c.ends-ends.ensures in
-    let ends = c.ends-ends.result in
+    let are = ends_read o m c.args.inode.now c.args.ends c.sizes.ensures.sizes stands same c.requires.ends in
+    let ends = c.args.ends in
     let array = c.indirect-array.ensures ∙ ap (λ (l : List ℕ). (stream_at l).indirect) c.over.ensures in
-    let bad : false ≡ true = c.if-not-holds.ensures.1 (held o m c.args.bytes.now c.args.place ends.direct ends.indirect ends.double c.indirect-array.result same are c.if-place-ends.false array stands c.if-place-ends-2.true) in cc
+    let bad : false ≡ true = c.if-not-holds.ensures.1 (held o m c.args.inode.now c.args.place ends.direct ends.indirect ends.double c.indirect-array.result same are c.if-place-ends.false array stands c.if-place-ends-2.true) in cc
 
 pub returns-then-place-ends-2-clause-found : goal.returns-then-place-ends-2-clause-found
 returns-then-place-ends-2-clause-found g c m is stands same =
     let o = c.args.self.now in
-    let are = ends_read o m c.args.bytes.now c.ends-ends.result c.sizes.ensures.sizes stands same c.ends-ends.ensures in
-    let ends = c.ends-ends.result in
+    let are = ends_read o m c.args.inode.now c.args.ends c.sizes.ensures.sizes stands same c.requires.ends in
+    let ends = c.args.ends in
     let array = c.indirect-array.ensures ∙ ap (λ (l : List ℕ). (stream_at l).indirect) c.over.ensures in
     IfOk-weaker c.in_array.result (λ block. block_in o.sizes (array_runs o.sizes (contents m) c.indirect-array.result) (c.args.place - ends.direct) ≡ Some block) (λ block. slice_get (places_at o.sizes (contents m) o.id) c.args.place ≡ Some block)
-    (λ block found. place_is o m c.args.bytes.now c.args.place ends.direct ends.indirect ends.double c.indirect-array.result same are c.if-place-ends.false array c.if-place-ends-2.true ∙ found)
-    (c.in_array.ensures.found m is (told_array o m c.args.bytes.now c.args.place ends.direct ends.indirect ends.double c.indirect-array.result same are c.if-place-ends.false array stands))
+    (λ block found. place_is o m c.args.inode.now c.args.place ends.direct ends.indirect ends.double c.indirect-array.result same are c.if-place-ends.false array c.if-place-ends-2.true ∙ found)
+    (c.in_array.ensures.found m is (told_array o m c.args.inode.now c.args.place ends.direct ends.indirect ends.double c.indirect-array.result same are c.if-place-ends.false array stands))
 
 pub returns-then-place-ends-2-clause-sound : goal.returns-then-place-ends-2-clause-sound
 returns-then-place-ends-2-clause-sound g c m is stands same =
     let o = c.args.self.now in
-    let are = ends_read o m c.args.bytes.now c.ends-ends.result c.sizes.ensures.sizes stands same c.ends-ends.ensures in
-    let ends = c.ends-ends.result in
+    let are = ends_read o m c.args.inode.now c.args.ends c.sizes.ensures.sizes stands same c.requires.ends in
+    let ends = c.args.ends in
     let array = c.indirect-array.ensures ∙ ap (λ (l : List ℕ). (stream_at l).indirect) c.over.ensures in
     IfErr-weaker c.in_array.result (λ fault. IsDamage fault → block_in o.sizes (array_runs o.sizes (contents m) c.indirect-array.result) (c.args.place - ends.direct) ≡ None) (λ fault. ¬ IsDamage fault)
-    (λ fault none t. never o m c.args.bytes.now c.args.place ends.direct ends.indirect ends.double c.indirect-array.result same are c.if-place-ends.false array c.if-place-ends-2.true (none t))
-    (c.in_array.ensures.none m is (told_array o m c.args.bytes.now c.args.place ends.direct ends.indirect ends.double c.indirect-array.result same are c.if-place-ends.false array stands)
-    (all_in o m c.args.bytes.now c.args.place ends.direct ends.indirect ends.double c.indirect-array.result same are c.if-place-ends.false array stands))
+    (λ fault none t. never o m c.args.inode.now c.args.place ends.direct ends.indirect ends.double c.indirect-array.result same are c.if-place-ends.false array c.if-place-ends-2.true (none t))
+    (c.in_array.ensures.none m is (told_array o m c.args.inode.now c.args.place ends.direct ends.indirect ends.double c.indirect-array.result same are c.if-place-ends.false array stands)
+    (all_in o m c.args.inode.now c.args.place ends.direct ends.indirect ends.double c.indirect-array.result same are c.if-place-ends.false array stands))
 
 -- the double indirect level has the place
 module _ (o : Origin) (m : ℕ → Option (List ℕ)) (bytes : List ℕ) (place : ℕ) (ends : Ends) (array : Run) (sizes : HasSizes o.sizes) (stands : Stands o m) (same : bytes ≡ contents m o.id) (is_ends : ends ≡ ends_of o.sizes (stream_at bytes))
@@ -128,35 +128,35 @@ module _ (o : Origin) (m : ℕ → Option (List ℕ)) (bytes : List ℕ) (place 
 pub returns-then-not-is_whole-clause-sound : goal.returns-then-not-is_whole-clause-sound
 returns-then-not-is_whole-clause-sound g c m is stands same t =
     let array = c.double_indirect-array.ensures ∙ ap (λ (l : List ℕ). (stream_at l).double_indirect) c.over-2.ensures in
-    let bad : false ≡ true = c.if-not-is_whole.ensures.1 (whole_array c.args.self.now m c.args.bytes.now c.args.place c.ends-ends.result c.double_indirect-array.result c.sizes.ensures.sizes stands same c.ends-ends.ensures c.requires.inside c.if-place-ends.false c.if-place-ends-2.false array) in cc
+    let bad : false ≡ true = c.if-not-is_whole.ensures.1 (whole_array c.args.self.now m c.args.inode.now c.args.place c.args.ends c.double_indirect-array.result c.sizes.ensures.sizes stands same c.requires.ends c.requires.inside c.if-place-ends.false c.if-place-ends-2.false array) in cc
 
 pub returns-clause-found : goal.returns-clause-found
 returns-clause-found g c m is stands same =
     let o = c.args.self.now in
     let array = c.double_indirect-array.ensures ∙ ap (λ (l : List ℕ). (stream_at l).double_indirect) c.over-2.ensures in
     let runs : List Run = flat_map (array_runs o.sizes (contents m)) (used_runs (array_runs o.sizes (contents m) c.double_indirect-array.result)) in
-    IfOk-weaker c.in_double.result (λ block. block_in o.sizes runs (c.args.place - c.ends-ends.result.indirect) ≡ Some block) (λ block. slice_get (places_at o.sizes (contents m) o.id) c.args.place ≡ Some block)
-    (λ block found. double_place o m c.args.bytes.now c.args.place c.ends-ends.result c.double_indirect-array.result c.sizes.ensures.sizes stands same c.ends-ends.ensures c.requires.inside c.if-place-ends.false c.if-place-ends-2.false array ∙ found)
-    (c.in_double.ensures.found m is (double_has o m c.args.bytes.now c.args.place c.ends-ends.result c.double_indirect-array.result c.sizes.ensures.sizes stands same c.ends-ends.ensures c.requires.inside c.if-place-ends.false c.if-place-ends-2.false array))
+    IfOk-weaker c.in_double.result (λ block. block_in o.sizes runs (c.args.place - c.args.ends.indirect) ≡ Some block) (λ block. slice_get (places_at o.sizes (contents m) o.id) c.args.place ≡ Some block)
+    (λ block found. double_place o m c.args.inode.now c.args.place c.args.ends c.double_indirect-array.result c.sizes.ensures.sizes stands same c.requires.ends c.requires.inside c.if-place-ends.false c.if-place-ends-2.false array ∙ found)
+    (c.in_double.ensures.found m is (double_has o m c.args.inode.now c.args.place c.args.ends c.double_indirect-array.result c.sizes.ensures.sizes stands same c.requires.ends c.requires.inside c.if-place-ends.false c.if-place-ends-2.false array))
 
 pub returns-clause-sound : goal.returns-clause-sound
 returns-clause-sound g c m is stands same =
     let o = c.args.self.now in
     let array = c.double_indirect-array.ensures ∙ ap (λ (l : List ℕ). (stream_at l).double_indirect) c.over-2.ensures in
-    c.in_double.ensures.sound m is (double_has o m c.args.bytes.now c.args.place c.ends-ends.result c.double_indirect-array.result c.sizes.ensures.sizes stands same c.ends-ends.ensures c.requires.inside c.if-place-ends.false c.if-place-ends-2.false array)
+    c.in_double.ensures.sound m is (double_has o m c.args.inode.now c.args.place c.args.ends c.double_indirect-array.result c.sizes.ensures.sizes stands same c.requires.ends c.requires.inside c.if-place-ends.false c.if-place-ends-2.false array)
 
 -- who is blamed
 pub returns-then-place-ends-clause-damaged : goal.returns-then-place-ends-clause-damaged
 returns-then-place-ends-clause-damaged g c m is =
     let o = c.args.self.now in
-    one_blamed c.in_direct.result o.id (HasEnded o.sizes (stream_at c.args.bytes.now).direct c.args.place) _
-    (λ ended. inl (refl, astray_direct o.sizes o.id c.args.bytes.now c.args.place c.ends-ends.result c.ends-ends.ensures c.if-place-ends.true ended)) c.in_direct.ensures.fault c.in_direct.ensures.ended
+    one_blamed c.in_direct.result o.id (HasEnded o.sizes (stream_at c.args.inode.now).direct c.args.place) _
+    (λ ended. inl (refl, astray_direct o.sizes o.id c.args.inode.now c.args.place c.args.ends c.requires.ends c.if-place-ends.true ended)) c.in_direct.ensures.fault c.in_direct.ensures.ended
 
 pub returns-then-place-ends-clause-blamed : goal.returns-then-place-ends-clause-blamed
 returns-then-place-ends-clause-blamed g c last =
     let o = c.args.self.now in
-    one_blamed c.in_direct.result o.id (HasEnded o.sizes (stream_at c.args.bytes.now).direct c.args.place) _
-    (λ ended. inode_blamed o.sizes o.id c.args.bytes.now c.args.place c.ends-ends.result c.ends-ends.ensures (g.B.Blocks.last c.args.under.now) o.id refl last (astray_direct o.sizes o.id c.args.bytes.now c.args.place c.ends-ends.result c.ends-ends.ensures c.if-place-ends.true ended))
+    one_blamed c.in_direct.result o.id (HasEnded o.sizes (stream_at c.args.inode.now).direct c.args.place) _
+    (λ ended. inode_blamed o.sizes o.id c.args.inode.now c.args.place c.args.ends c.requires.ends (g.B.Blocks.last c.args.under.now) o.id refl last (astray_direct o.sizes o.id c.args.inode.now c.args.place c.args.ends c.requires.ends c.if-place-ends.true ended))
     c.in_direct.ensures.fault c.in_direct.ensures.ended
 
 pub returns-then-not-holds-clause-damaged : goal.returns-then-not-holds-clause-damaged
@@ -164,51 +164,51 @@ returns-then-not-holds-clause-damaged g c m is =
     let o = c.args.self.now in
     let id : c.self.inside.inode ≡ o.id = ap (λ (x : Origin). x.id) c.self.view_is in
     let array = c.indirect-array.ensures ∙ ap (λ (l : List ℕ). (stream_at l).indirect) c.over.ensures in
-    inl (id, astray_indirect o.sizes o.id c.args.bytes.now c.args.place c.ends-ends.result c.ends-ends.ensures c.indirect-array.result array c.if-place-ends.false c.if-place-ends-2.true (λ inside. let bad : false ≡ true = c.if-not-holds.ensures.1 inside in cc))
+    inl (id, astray_indirect o.sizes o.id c.args.inode.now c.args.place c.args.ends c.requires.ends c.indirect-array.result array c.if-place-ends.false c.if-place-ends-2.true (λ inside. let bad : false ≡ true = c.if-not-holds.ensures.1 inside in cc))
 
 pub returns-then-not-holds-clause-blamed : goal.returns-then-not-holds-clause-blamed
 returns-then-not-holds-clause-blamed g c last =
     let o = c.args.self.now in
     let id : c.self.inside.inode ≡ o.id = ap (λ (x : Origin). x.id) c.self.view_is in
     let array = c.indirect-array.ensures ∙ ap (λ (l : List ℕ). (stream_at l).indirect) c.over.ensures in
-    inode_blamed o.sizes o.id c.args.bytes.now c.args.place c.ends-ends.result c.ends-ends.ensures (g.B.Blocks.last c.args.under.now) c.self.inside.inode id last
-    (astray_indirect o.sizes o.id c.args.bytes.now c.args.place c.ends-ends.result c.ends-ends.ensures c.indirect-array.result array c.if-place-ends.false c.if-place-ends-2.true (λ inside. let bad : false ≡ true = c.if-not-holds.ensures.1 inside in cc))
+    inode_blamed o.sizes o.id c.args.inode.now c.args.place c.args.ends c.requires.ends (g.B.Blocks.last c.args.under.now) c.self.inside.inode id last
+    (astray_indirect o.sizes o.id c.args.inode.now c.args.place c.args.ends c.requires.ends c.indirect-array.result array c.if-place-ends.false c.if-place-ends-2.true (λ inside. let bad : false ≡ true = c.if-not-holds.ensures.1 inside in cc))
 
 pub returns-then-place-ends-2-clause-damaged : goal.returns-then-place-ends-2-clause-damaged
 returns-then-place-ends-2-clause-damaged g c m is =
     let o = c.args.self.now in
     let array = c.indirect-array.ensures ∙ ap (λ (l : List ℕ). (stream_at l).indirect) c.over.ensures in
-    level_damaged o.sizes o.id c.args.bytes.now c.args.place c.ends-ends.result c.ends-ends.ensures c.indirect-array.result array c.if-place-ends.false c.if-place-ends-2.true (c.if-not-holds.ensures.0 refl) m c.in_array.result (c.in_array.ensures.damaged m is)
+    level_damaged o.sizes o.id c.args.inode.now c.args.place c.args.ends c.requires.ends c.indirect-array.result array c.if-place-ends.false c.if-place-ends-2.true (c.if-not-holds.ensures.0 refl) m c.in_array.result (c.in_array.ensures.damaged m is)
 
 pub returns-then-place-ends-2-clause-blamed : goal.returns-then-place-ends-2-clause-blamed
 returns-then-place-ends-2-clause-blamed g c last =
     let o = c.args.self.now in
     let array = c.indirect-array.ensures ∙ ap (λ (l : List ℕ). (stream_at l).indirect) c.over.ensures in
-    level_blamed o.sizes o.id c.args.bytes.now c.args.place c.ends-ends.result c.ends-ends.ensures c.indirect-array.result array c.if-place-ends.false c.if-place-ends-2.true (c.if-not-holds.ensures.0 refl) (g.B.Blocks.last c.in_array.new.under) c.in_array.result c.in_array.ensures.blamed
+    level_blamed o.sizes o.id c.args.inode.now c.args.place c.args.ends c.requires.ends c.indirect-array.result array c.if-place-ends.false c.if-place-ends-2.true (c.if-not-holds.ensures.0 refl) (g.B.Blocks.last c.in_array.new.under) c.in_array.result c.in_array.ensures.blamed
 
 pub returns-then-not-is_whole-clause-damaged : goal.returns-then-not-is_whole-clause-damaged
 returns-then-not-is_whole-clause-damaged g c m is =
     let o = c.args.self.now in
     let id : c.self.inside.inode ≡ o.id = ap (λ (x : Origin). x.id) c.self.view_is in
     let array = c.double_indirect-array.ensures ∙ ap (λ (l : List ℕ). (stream_at l).double_indirect) c.over-2.ensures in
-    inl (id, astray_double o.sizes o.id c.args.bytes.now c.args.place c.ends-ends.result c.ends-ends.ensures c.double_indirect-array.result array c.if-place-ends.false c.if-place-ends-2.false c.requires.inside (λ whole. let bad : false ≡ true = c.if-not-is_whole.ensures.1 whole in cc))
+    inl (id, astray_double o.sizes o.id c.args.inode.now c.args.place c.args.ends c.requires.ends c.double_indirect-array.result array c.if-place-ends.false c.if-place-ends-2.false c.requires.inside (λ whole. let bad : false ≡ true = c.if-not-is_whole.ensures.1 whole in cc))
 
 pub returns-then-not-is_whole-clause-blamed : goal.returns-then-not-is_whole-clause-blamed
 returns-then-not-is_whole-clause-blamed g c last =
     let o = c.args.self.now in
     let id : c.self.inside.inode ≡ o.id = ap (λ (x : Origin). x.id) c.self.view_is in
     let array = c.double_indirect-array.ensures ∙ ap (λ (l : List ℕ). (stream_at l).double_indirect) c.over-2.ensures in
-    inode_blamed o.sizes o.id c.args.bytes.now c.args.place c.ends-ends.result c.ends-ends.ensures (g.B.Blocks.last c.args.under.now) c.self.inside.inode id last
-    (astray_double o.sizes o.id c.args.bytes.now c.args.place c.ends-ends.result c.ends-ends.ensures c.double_indirect-array.result array c.if-place-ends.false c.if-place-ends-2.false c.requires.inside (λ whole. let bad : false ≡ true = c.if-not-is_whole.ensures.1 whole in cc))
+    inode_blamed o.sizes o.id c.args.inode.now c.args.place c.args.ends c.requires.ends (g.B.Blocks.last c.args.under.now) c.self.inside.inode id last
+    (astray_double o.sizes o.id c.args.inode.now c.args.place c.args.ends c.requires.ends c.double_indirect-array.result array c.if-place-ends.false c.if-place-ends-2.false c.requires.inside (λ whole. let bad : false ≡ true = c.if-not-is_whole.ensures.1 whole in cc))
 
 pub returns-clause-damaged : goal.returns-clause-damaged
 returns-clause-damaged g c m is =
     let o = c.args.self.now in
     let array = c.double_indirect-array.ensures ∙ ap (λ (l : List ℕ). (stream_at l).double_indirect) c.over-2.ensures in
-    double_damaged o.sizes o.id c.args.bytes.now c.args.place c.ends-ends.result c.ends-ends.ensures c.double_indirect-array.result array c.if-place-ends.false c.if-place-ends-2.false c.requires.inside (c.if-not-is_whole.ensures.0 refl) m c.in_double.result (c.in_double.ensures.damaged m is)
+    double_damaged o.sizes o.id c.args.inode.now c.args.place c.args.ends c.requires.ends c.double_indirect-array.result array c.if-place-ends.false c.if-place-ends-2.false c.requires.inside (c.if-not-is_whole.ensures.0 refl) m c.in_double.result (c.in_double.ensures.damaged m is)
 
 pub returns-clause-blamed : goal.returns-clause-blamed
 returns-clause-blamed g c last =
     let o = c.args.self.now in
     let array = c.double_indirect-array.ensures ∙ ap (λ (l : List ℕ). (stream_at l).double_indirect) c.over-2.ensures in
-    double_blamed o.sizes o.id c.args.bytes.now c.args.place c.ends-ends.result c.ends-ends.ensures c.double_indirect-array.result array c.if-place-ends.false c.if-place-ends-2.false c.requires.inside (c.if-not-is_whole.ensures.0 refl) (g.B.Blocks.last c.args.under.now) (g.B.Blocks.last c.in_double.new.under) c.in_double.result last c.in_double.ensures.blamed
+    double_blamed o.sizes o.id c.args.inode.now c.args.place c.args.ends c.requires.ends c.double_indirect-array.result array c.if-place-ends.false c.if-place-ends-2.false c.requires.inside (c.if-not-is_whole.ensures.0 refl) (g.B.Blocks.last c.args.under.now) (g.B.Blocks.last c.in_double.new.under) c.in_double.result last c.in_double.ensures.blamed

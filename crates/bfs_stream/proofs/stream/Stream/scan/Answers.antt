@@ -4,9 +4,16 @@ use Rattle.bfs_inode.proofs.Runs.{length-runs_in, get_or-runs_in}
 use Rattle.std.proofs.lemmas.List.{take_all}
 use Rattle.bfs_bytes.specs.declared.Run.{Run}
 use Rattle.bfs_stream.specs.Scans.{IsPast}
-use Rattle.bfs_stream.proofs.Passed.{past_more, stopped}
+use Rattle.bfs_stream.proofs.Passed.{past_more, past_scanned, stopped}
 use Rattle.bfs_stream.proofs.Levels.{IsScanned, scanned_more, scanned_found, scanned_broken, scanned_all}
 use Rattle.bfs_stream.proofs.stream.Stream.scan.Goals as goal
+
+pub loop-i-init : goal.loop-i-init
+loop-i-init c =
+    let past = c.pass-passed.ensures.past in record {
+      scanned = past_scanned c.args.self.now.sizes (runs_in c.args.runs c.args.bytes.now c.args.at) c.args.place c.pass-passed.result.0 c.pass-passed.result.1 past;
+      past = past;
+    }
 
 pub returns-then-not-holds-clause-scan : goal.returns-then-not-holds-clause-scan
 returns-then-not-holds-clause-scan c =

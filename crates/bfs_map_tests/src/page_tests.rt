@@ -60,7 +60,7 @@ fn added<E: Edits>(
     ensures size { E.size edits.new ≡ E.size edits.old }
     ensures rest { bitmap.new ≡ record bitmap.old { tally = bitmap.new.tally } }
 {
-    let mut pages = StreamPages::over(alloc, edits, bitmap, inode, sup, length, fixed);
+    let mut pages = StreamPages::over(alloc, edits, bitmap, inode, sup, length, fixed, None);
     pages.append(&[fill; 1024])
 }
 
@@ -86,7 +86,7 @@ fn written<E: Edits>(
     ensures size { E.size edits.new ≡ E.size edits.old }
     ensures rest { bitmap.new ≡ record bitmap.old { tally = bitmap.new.tally } }
 {
-    let mut pages = StreamPages::over(alloc, edits, bitmap, inode, sup, length, false);
+    let mut pages = StreamPages::over(alloc, edits, bitmap, inode, sup, length, false, None);
     pages.set(at, &[fill; 1024])
 }
 
@@ -117,7 +117,7 @@ fn read<E: Edits, L: Ledger>(
 {
     let mut steps = Steps::<L>::begin(ledger);
     let mut into = [0u8; 1024];
-    let mut pages = StreamPages::over(alloc, edits, bitmap, inode, sup, length, false);
+    let mut pages = StreamPages::over(alloc, edits, bitmap, inode, sup, length, false, None);
     match pages.get(at, &mut into, &mut steps) {
         Ok(()) => Ok(into),
         Err(fault) => Err(fault),

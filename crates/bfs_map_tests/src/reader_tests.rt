@@ -107,7 +107,7 @@ fn read<B: Blocks, L: Ledger>(
 {
     let mut steps = Steps::<L>::begin(ledger);
     let mut into = [0u8; 1024];
-    let mut pages = StreamReader::over(alloc, under, 1, sup, 2048);
+    let mut pages = StreamReader::over(alloc, under, 1, sup, 2048, None);
     match pages.get(at, &mut into, &mut steps) {
         Ok(()) => Ok(into),
         Err(fault) => Err(fault),

@@ -5,3 +5,4 @@ pub mod Filled
 pub mod Paged
 pub mod Readers
 pub mod Wholes
+pub mod Keeping

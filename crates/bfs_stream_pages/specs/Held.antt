@@ -1,5 +1,7 @@
 -- A stream whose bytes are pages.
-use Rattle.std.specs.Prelude.{◌≡◌, ℕ, pos, List, [], Option, Some, None, IsSome}
+use Rattle.std.specs.Prelude.{◌≡◌, ◌≤◌, ℕ, pos, List, [], length, Option, Some, None, IsSome}
+use Rattle.std.specs.Borrow.{Bor}
+use Rattle.std.specs.Option.{ForSome}
 use Rattle.bfs_bitmap.specs.Runs.{Room}
 use Rattle.bfs_stream.specs.Sizes.{Origin}
 use Rattle.bfs_stream.specs.Places.{fields, places_at, bytes_at}
@@ -32,3 +34,19 @@ known None (Some m) told = told
 -- where something was told at the start, something is told now
 abbrev pub Tells : Option GrowFault → Option (ℕ → Option (List ℕ)) → Option (ℕ → Option (List ℕ)) → Type 0
 Tells failed start told = failed ≡ None → IsSome start → IsSome told
+
+-- these are the bytes that are told of a block, where any are
+abbrev pub AreBytesOf : Option (ℕ → Option (List ℕ)) → ℕ → List ℕ → Type 0
+AreBytesOf told k bytes = (m : ℕ → Option (List ℕ)) → told ≡ Some m → (b : List ℕ) → m k ≡ Some b → bytes ≡ b
+
+-- as many bytes as the shortest block has
+abbrev pub HasInodeLength : List ℕ → Type 0
+HasInodeLength bytes = 1024 ≤ length bytes
+
+-- the bytes of the block of a stream's inode
+abbrev pub IsInodeOf : Origin → Option (ℕ → Option (List ℕ)) → List ℕ → Type 0
+IsInodeOf o told bytes = HasInodeLength bytes × AreBytesOf told o.id bytes
+
+-- where the bytes of the inode's block are given, they are those told of it
+pub record HasInode (o : Origin) (inode : Option (Bor (List ℕ))) (m : ℕ → Option (List ℕ)) : Type 0 where
+  pub is : ForSome inode (λ b. ForSome (m o.id) (λ told. b.now ≡ told))

@@ -1,5 +1,6 @@
 // One stream of a volume, read and written by parts of its blocks.
 ghost use Rattle.std.specs.Prelude.{◌≡◌, ◌≤◌, ◌<◌, ◌⊎◌, ℕ, ◌+◌, ◌*◌, ◌^◌, ◌%◌, pos, true, IsTrue, List, length, Option, Some, OnOk, OnErr, IfOk, IfErr, slice_get, take, drop};
+ghost use Rattle.std.specs.Option.{ForSome};
 ghost use Rattle.bfs_super.specs.Conditions.{IsValid, natural};
 ghost use Rattle.bfs_super.specs.Geometry.{IsBlockSize};
 ghost use Rattle.bfs_base.specs.Lists.{IsOnce};
@@ -13,8 +14,8 @@ ghost use Rattle.bfs_stream.specs.Sizes.{sizes_of, HasSizes};
 ghost use Rattle.bfs_stream.specs.Places.{places_at, whole_at};
 ghost use Rattle.bfs_stream.specs.Told.{contents, AreTold, Stands};
 ghost use Rattle.bfs_stream.specs.Grown.{IsOfVolume, KeepsRest};
-ghost use Rattle.bfs_stream.specs.Faults.{IsGrowCause, IsGrowFault};
-ghost use Rattle.bfs_stream_pages.specs.Held.{Held, IsReadable, stream_of};
+ghost use Rattle.bfs_stream.specs.Faults.{HasNoBlock, IsStreamCause, IsGrowCause, IsGrowFault};
+ghost use Rattle.bfs_stream_pages.specs.Held.{Held, IsReadable, IsInodeOf, stream_of};
 ghost use Rattle.bfs_stream_pages.specs.Moves.{KeepsInode};
 ghost use Rattle.bfs_stream_pages.specs.Causes.{HasFailed, IsOfBlock};
 ghost use Rattle.bfs_stream_pages.specs.Steps.{IsUndamaged, HasFilled, IsToldWhole, HasRoom, HasWritten, HasSize, HasAdded};
@@ -100,14 +101,49 @@ impl Backing {
         self.block_size == 1024
     }
 
+    /// The stream's look-up, by the inode's bytes where they are given, and else by the inode as it is read.
+    fn look_up<B: Blocks>(
+        &mut self,
+        under: &mut B,
+        inode: Option<&[u8]>,
+        index: u64,
+        block: &mut [u8],
+    ) -> Result<u64, StreamFault>
+        requires size { B.size under.old ≡ self.old.sizes.block_size }
+        requires inode { ForSome inode (λ b. IsInodeOf self.old (B.told under.old) b.now) }
+        requires block { length block.old ≡ self.old.sizes.block_size }
+        ensures found { (m : ℕ → Option (List ℕ)) → B.told under.old ≡ Some m → Stands self.old m → IfOk result (λ n. slice_get (places_at self.old.sizes (contents m) self.old.id) index ≡ Some n) }
+        ensures none { (m : ℕ → Option (List ℕ)) → B.told under.old ≡ Some m → Stands self.old m → IfErr result (HasNoBlock (places_at self.old.sizes (contents m) self.old.id) index) }
+        ensures below { IfOk result (λ n. n < self.old.sizes.blocks) }
+        ensures length { length block.new ≡ self.old.sizes.block_size }
+        ensures same { self.new ≡ self.old }
+        ensures told { B.told under.new ≡ B.told under.old }
+        ensures changed { B.changed under.new ≡ B.changed under.old }
+        ensures pairs { B.pairs under.new ≡ B.pairs under.old }
+        ensures size { B.size under.new ≡ B.size under.old }
+        ensures frame { B.frame under.new ≡ B.frame under.old }
+        ensures later { AreLater (B.counts under.old) (B.counts under.new) }
+        ensures cause { IfErr result (IsStreamCause (B.counts under.old) (B.counts under.new)) }
+    {
+        if let Some(bytes) = inode {
+            return self.stream.look_up_by(under, bytes, block, index);
+        }
+        match self.buffer() {
+            Ok(mut bytes) => self.stream.look_up(under, &mut bytes, block, index),
+            Err(_) => Err(StreamFault::Block(BlockFault::NoMemory)),
+        }
+    }
+
     /// The number of the stream's block at a place, by its tables of runs, which are read into the buffer.
     fn find<B: Blocks>(
         &mut self,
         under: &mut B,
+        inode: Option<&[u8]>,
         index: u64,
         block: &mut [u8],
     ) -> Result<u64, GrowFault>
         requires size { B.size under.old ≡ self.old.sizes.block_size }
+        requires inode { ForSome inode (λ b. IsInodeOf self.old (B.told under.old) b.now) }
         requires block { length block.old ≡ self.old.sizes.block_size }
         ensures found { (m : ℕ → Option (List ℕ)) → B.told under.old ≡ Some m → Stands self.old m → IfOk result (λ n. slice_get (places_at self.old.sizes (contents m) self.old.id) index ≡ Some n) }
         ensures sound { (m : ℕ → Option (List ℕ)) → B.told under.old ≡ Some m → Stands self.old m → index < length (places_at self.old.sizes (contents m) self.old.id) → IfErr result IsUndamaged }
@@ -123,7 +159,7 @@ impl Backing {
         ensures block { IfErr result IsOfBlock }
         ensures cause { IfErr result (IsGrowCause 1 (B.counts under.old) (B.counts under.new)) }
     {
-        let number = match self.stream.look_up(under, block, index) {
+        let number = match self.look_up(under, inode, index, block) {
             Ok(number) => number,
             Err(StreamFault::PastEnd { .. }) => {
                 return Err(GrowFault::Block(BlockFault::Damaged { block: self.inode }));
@@ -137,10 +173,12 @@ impl Backing {
     fn load<B: Blocks>(
         &mut self,
         under: &mut B,
+        inode: Option<&[u8]>,
         index: u64,
         block: &mut [u8],
     ) -> Result<u64, GrowFault>
         requires size { B.size under.old ≡ self.old.sizes.block_size }
+        requires inode { ForSome inode (λ b. IsInodeOf self.old (B.told under.old) b.now) }
         requires block { length block.old ≡ self.old.sizes.block_size }
         ensures found { (m : ℕ → Option (List ℕ)) → B.told under.old ≡ Some m → Stands self.old m → AreTold m (places_at self.old.sizes (contents m) self.old.id) → IfOk result (λ n. (slice_get (places_at self.old.sizes (contents m) self.old.id) index ≡ Some n) × (block.new ≡ contents m n)) }
         ensures sound { (m : ℕ → Option (List ℕ)) → B.told under.old ≡ Some m → Stands self.old m → index < length (places_at self.old.sizes (contents m) self.old.id) → IfErr result IsUndamaged }
@@ -157,7 +195,7 @@ impl Backing {
         ensures block { IfErr result IsOfBlock }
         ensures cause { IfErr result (IsGrowCause 1 (B.counts under.old) (B.counts under.new)) }
     {
-        let number = match self.find(under, index, block) {
+        let number = match self.find(under, inode, index, block) {
             Ok(number) => number,
             Err(fault) => return Err(fault),
         };
@@ -172,12 +210,14 @@ impl Backing {
     fn read_page<B: Blocks>(
         &mut self,
         under: &mut B,
+        inode: Option<&[u8]>,
         block: &mut [u8],
         index: u64,
         start: usize,
         into: &mut [u8],
     ) -> Result<(), GrowFault>
         requires size { B.size under.old ≡ self.old.sizes.block_size }
+        requires inode { ForSome inode (λ b. IsInodeOf self.old (B.told under.old) b.now) }
         requires block { length block.old ≡ self.old.sizes.block_size }
         requires page { length into.old ≡ 1024 }
         requires inside { start + 1024 ≤ self.old.sizes.block_size }
@@ -195,7 +235,7 @@ impl Backing {
         ensures block { IfErr result IsOfBlock }
         ensures cause { IfErr result (IsGrowCause 1 (B.counts under.old) (B.counts under.new)) }
     {
-        match self.load(under, index, block) {
+        match self.load(under, inode, index, block) {
             Ok(_) => {}
             Err(fault) => return Err(fault),
         }
@@ -207,11 +247,13 @@ impl Backing {
     pub(crate) fn get_page<B: Blocks>(
         &mut self,
         under: &mut B,
+        inode: Option<&[u8]>,
         index: u64,
         start: usize,
         into: &mut [u8],
     ) -> Result<(), GrowFault>
         requires size { B.size under.old ≡ self.old.sizes.block_size }
+        requires inode { ForSome inode (λ b. IsInodeOf self.old (B.told under.old) b.now) }
         requires page { length into.old ≡ 1024 }
         requires inside { start + 1024 ≤ self.old.sizes.block_size }
         ensures page { (long : ℕ) (m : ℕ → Option (List ℕ)) → B.told under.old ≡ Some m → IsReadable self.old long m → self.old.sizes.block_size * index + start + 1024 ≤ long → OnOk result (into.new ≡ page_at (stream_of self.old m) (self.old.sizes.block_size * index + start)) }
@@ -229,7 +271,7 @@ impl Backing {
         ensures cause { IfErr result (IsGrowCause 1 (B.counts under.old) (B.counts under.new)) }
     {
         if self.is_page() {
-            return match self.load(under, index, into) {
+            return match self.load(under, inode, index, into) {
                 Ok(_) => Ok(()),
                 Err(fault) => Err(fault),
             };
@@ -238,7 +280,7 @@ impl Backing {
             Ok(block) => block,
             Err(fault) => return Err(fault),
         };
-        self.read_page(under, &mut block, index, start, into)
+        self.read_page(under, inode, &mut block, index, start, into)
     }
 
     /// Adds a block at the end where the stream has none at a place. Blocks that are added are zeros.
@@ -338,12 +380,14 @@ impl Backing {
     fn with<B: Blocks>(
         &mut self,
         under: &mut B,
+        inode: Option<&[u8]>,
         block: &mut [u8],
         index: u64,
         start: usize,
         from: &[u8],
     ) -> Result<u64, GrowFault>
         requires size { B.size under.old ≡ self.old.sizes.block_size }
+        requires inode { ForSome inode (λ b. IsInodeOf self.old (B.told under.old) b.now) }
         requires block { length block.old ≡ self.old.sizes.block_size }
         requires page { length from.now ≡ 1024 }
         requires inside { start + 1024 ≤ self.old.sizes.block_size }
@@ -362,14 +406,14 @@ impl Backing {
         ensures cause { IfErr result (IsGrowCause 1 (B.counts under.old) (B.counts under.new)) }
     {
         if self.is_page() {
-            let number = match self.find(under, index, block) {
+            let number = match self.find(under, inode, index, block) {
                 Ok(number) => number,
                 Err(fault) => return Err(fault),
             };
             block.copy_from_slice(from);
             return Ok(number);
         }
-        let number = match self.load(under, index, block) {
+        let number = match self.load(under, inode, index, block) {
             Ok(number) => number,
             Err(fault) => return Err(fault),
         };
@@ -381,12 +425,14 @@ impl Backing {
     pub(crate) fn put_page<E: Edits>(
         &mut self,
         edits: &mut E,
+        inode: Option<&[u8]>,
         block: &mut [u8],
         index: u64,
         start: usize,
         from: &[u8],
     ) -> Result<(), GrowFault>
         requires size { E.size edits.old ≡ self.old.sizes.block_size }
+        requires inode { ForSome inode (λ b. IsInodeOf self.old (E.told edits.old) b.now) }
         requires block { length block.old ≡ self.old.sizes.block_size }
         requires page { length from.now ≡ 1024 }
         requires inside { start + 1024 ≤ self.old.sizes.block_size }
@@ -402,7 +448,7 @@ impl Backing {
         ensures block { IfErr result IsOfBlock }
         ensures cause { IfErr result (IsGrowCause 1 (E.counts edits.old) (E.counts edits.new)) }
     {
-        let number = match self.with(edits, block, index, start, from) {
+        let number = match self.with(edits, inode, block, index, start, from) {
             Ok(number) => number,
             Err(fault) => return Err(fault),
         };
@@ -477,7 +523,7 @@ impl Backing {
             Ok(()) => {}
             Err(fault) => return Err(fault),
         }
-        match self.put_page(edits, block, index, start, from) {
+        match self.put_page(edits, None, block, index, start, from) {
             Ok(()) => {}
             Err(fault) => return Err(fault),
         }

@@ -1,10 +1,11 @@
 // The pages of one stream, over a volume that is lent.
 ghost use Rattle.std.specs.Prelude.{◌≡◌, ◌<◌, ◌%◌, ◌^◌, ◌&&◌, ℕ, List, Option, Some, IfSome, None, OnOk, IfErr, ◌+◌, true, false, is_some};
+ghost use Rattle.std.specs.Option.{ForSome};
 ghost use Rattle.bfs_super.specs.Conditions.{IsValid, natural};
 ghost use Rattle.bfs_txn.specs.Faults.{AreLater};
 ghost use Rattle.bfs_stream.specs.Sizes.{sizes_of};
 ghost use Rattle.bfs_stream.specs.Grown.{IsOfVolume};
-ghost use Rattle.bfs_stream_pages.specs.Held.{Held, Tells, known};
+ghost use Rattle.bfs_stream_pages.specs.Held.{Held, HasInode, HasInodeLength, IsInodeOf, Tells, known};
 
 use crate::backing::Backing;
 use bfs_bitmap::Bitmap;
@@ -23,6 +24,8 @@ pub struct StreamPages<'a, 'b, E: Edits> {
     edits: &'a mut E,
     bitmap: &'b mut Bitmap,
     backing: Backing,
+    /// The bytes of the inode's block, until something is written.
+    inode: Option<&'a [u8]>,
     length: u64,
     failed: Option<GrowFault>,
     fixed: bool,
@@ -36,12 +39,14 @@ pub struct StreamPages<'a, 'b, E: Edits> {
     ghost whole: { length % 1024 ≡ 0 },
     ghost unfailed: { (fixed && is_some failed) ≡ false },
     ghost tells: { Tells failed (E.told start.value) (E.told edits.now) },
+    ghost inode_long: { ForSome inode (λ b. HasInodeLength b.now) },
+    ghost inode_is: { (m : ℕ → Option (List ℕ)) → E.told edits.now ≡ Some m → ∥ HasInode backing inode m ∥₁ },
     ghost held: { (m : ℕ → Option (List ℕ)) → known failed (E.told start.value) (E.told edits.now) ≡ Some m → ∥ Held backing bitmap.now length m ∥₁ },
 }
 
 impl<'a, 'b, E: Edits> StreamPages<'a, 'b, E> {
-    /// The pages of the stream of the inode at a block, which has so many bytes; fixed ones, or ones that can be added to.
-    /// Takes no memory.
+    /// The pages of the stream of the inode at a block, which has so many bytes; fixed ones, or ones that can be added to. Where the
+    /// bytes of the inode's block are given, it is read again only from the first write on. Takes no memory.
     pub fn over(
         alloc: Global,
         edits: &'a mut E,
@@ -50,12 +55,14 @@ impl<'a, 'b, E: Edits> StreamPages<'a, 'b, E> {
         sup: &Super,
         length: u64,
         fixed: bool,
+        bytes: Option<&'a [u8]>,
     ) -> StreamPages<'a, 'b, E>
         requires valid { IsValid sup.now }
         requires inside { inode < natural sup.now.num_blocks }
         requires size { E.size edits.old ≡ sup.now.block_size }
         requires volume { IsOfVolume (sizes_of sup.now) bitmap.old }
         requires whole { length % 1024 ≡ 0 }
+        requires bytes { ForSome bytes (λ b. IsInodeOf (record { id = inode; sizes = sizes_of sup.now }) (E.told edits.old) b.now) }
         requires held { (m : ℕ → Option (List ℕ)) → E.told edits.old ≡ Some m → ∥ Held (record { id = inode; sizes = sizes_of sup.now }) bitmap.old length m ∥₁ }
         ensures edits { result.edits.ghost_name ≡ edits.entry.ghost_name }
         ensures bitmap { result.bitmap.ghost_name ≡ bitmap.entry.ghost_name }
@@ -73,6 +80,7 @@ impl<'a, 'b, E: Edits> StreamPages<'a, 'b, E> {
             edits,
             bitmap,
             backing: Backing::at(alloc, inode, sup),
+            inode: bytes,
             length,
             failed: None,
             fixed,
@@ -172,7 +180,10 @@ impl<E: Edits> Pages for StreamPages<'_, '_, E> {
             Err(fault) => return Err(fault),
         }
         let (index, start) = self.backing.place(at);
-        match self.backing.get_page(self.edits, index, start, into) {
+        match self
+            .backing
+            .get_page(self.edits, self.inode, index, start, into)
+        {
             Ok(()) => {}
             Err(fault) => return Err(fault),
         }
@@ -192,9 +203,11 @@ impl<E: Edits> Pages for StreamPages<'_, '_, E> {
             Err(fault) => return Err(fault),
         };
         let (index, start) = self.backing.place(at);
+        let inode = self.inode;
+        self.inode = None;
         match self
             .backing
-            .put_page(self.edits, &mut block, index, start, from)
+            .put_page(self.edits, inode, &mut block, index, start, from)
         {
             Ok(()) => {}
             Err(fault) => return Err(fault),
@@ -215,6 +228,7 @@ impl<E: Edits> Pages for StreamPages<'_, '_, E> {
             Ok(block) => block,
             Err(fault) => return Err(fault),
         };
+        self.inode = None;
         match self
             .backing
             .add_page(self.bitmap, self.edits, &mut block, at, from)
@@ -239,6 +253,7 @@ impl<E: Edits> Drop for StreamPages<'_, '_, E> {
             edits: _,
             bitmap: _,
             backing: _,
+            inode: _,
             length: _,
             failed: _,
             fixed: _,

@@ -1,8 +1,9 @@
 // The pages of one stream, which are only read, over blocks that are lent.
 ghost use Rattle.std.specs.Prelude.{◌≡◌, ◌<◌, ◌%◌, ℕ, List, Option, Some};
+ghost use Rattle.std.specs.Option.{ForSome};
 ghost use Rattle.bfs_super.specs.Conditions.{IsValid, natural};
 ghost use Rattle.bfs_stream.specs.Sizes.{sizes_of};
-ghost use Rattle.bfs_stream_pages.specs.Held.{IsReadable};
+ghost use Rattle.bfs_stream_pages.specs.Held.{IsReadable, HasInode, HasInodeLength, IsInodeOf};
 
 use crate::backing::Backing;
 use bfs_stream::GrowFault;
@@ -17,6 +18,8 @@ use std::sync::ledger::Ledger;
 pub struct StreamReader<'a, B: Blocks> {
     under: &'a mut B,
     backing: Backing,
+    /// The bytes of the inode's block, or none.
+    inode: Option<&'a [u8]>,
     length: u64,
     last: Snapshot<u64>,
     /// The blocks as they were right behind the last read, and the byte of a block from which the page was taken.
@@ -24,22 +27,27 @@ pub struct StreamReader<'a, B: Blocks> {
     from: Snapshot<usize>,
     ghost size: { B.size under.now ≡ backing.sizes.block_size },
     ghost whole: { length % 1024 ≡ 0 },
+    ghost inode_long: { ForSome inode (λ b. HasInodeLength b.now) },
+    ghost inode_is: { (m : ℕ → Option (List ℕ)) → B.told under.now ≡ Some m → ∥ HasInode backing inode m ∥₁ },
     ghost held: { (m : ℕ → Option (List ℕ)) → B.told under.now ≡ Some m → ∥ IsReadable backing length m ∥₁ },
 }
 
 impl<'a, B: Blocks> StreamReader<'a, B> {
-    /// The pages of the stream of the inode at a block, which has so many bytes. Takes no memory.
+    /// The pages of the stream of the inode at a block, which has so many bytes. Where the bytes of the inode's block are given, it isn't
+    /// read again. Takes no memory.
     pub fn over(
         alloc: Global,
         under: &'a mut B,
         inode: u64,
         sup: &Super,
         length: u64,
+        bytes: Option<&'a [u8]>,
     ) -> StreamReader<'a, B>
         requires valid { IsValid sup.now }
         requires inside { inode < natural sup.now.num_blocks }
         requires size { B.size under.old ≡ sup.now.block_size }
         requires whole { length % 1024 ≡ 0 }
+        requires bytes { ForSome bytes (λ b. IsInodeOf (record { id = inode; sizes = sizes_of sup.now }) (B.told under.old) b.now) }
         requires held { (m : ℕ → Option (List ℕ)) → B.told under.old ≡ Some m → ∥ IsReadable (record { id = inode; sizes = sizes_of sup.now }) length m ∥₁ }
         ensures under { result.under.ghost_name ≡ under.entry.ghost_name }
         ensures under_now { result.under.now ≡ under.old }
@@ -50,6 +58,7 @@ impl<'a, B: Blocks> StreamReader<'a, B> {
         StreamReader {
             under,
             backing: Backing::at(alloc, inode, sup),
+            inode: bytes,
             length,
             last: Snapshot::of(&0),
             seen,
@@ -116,7 +125,10 @@ impl<B: Blocks> Pages for StreamReader<'_, B> {
     ) -> Result<(), GrowFault> {
         steps.count();
         let (index, start) = self.backing.place(at);
-        match self.backing.get_page(self.under, index, start, into) {
+        match self
+            .backing
+            .get_page(self.under, self.inode, index, start, into)
+        {
             Ok(()) => {}
             Err(fault) => return Err(fault),
         }
@@ -145,6 +157,7 @@ impl<B: Blocks> Drop for StreamReader<'_, B> {
         let StreamReader {
             under: _,
             backing: _,
+            inode: _,
             length: _,
             last: _,
             seen: _,

@@ -6,7 +6,12 @@ use Rattle.bfs_stream.specs.Sizes.{Origin}
 use Rattle.bfs_stream_pages.specs.Held.{Held, known, stream_of}
 use Rattle.bfs_stream_pages.specs.GoesLaws.{goes_same, long_fits, sized_of}
 use Rattle.bfs_stream_pages.proofs.Paged.{failed_block, noted_block, memory_block, goes_quiet, goes_failed, none_failed, either_comes, memory_page, has_cause, failed_now, undamaged_is, index_inside, page_inside, changed_low, page_written, now_moved, now_held, now_tells, now_told}
+use Rattle.std.proofs.Props.{props}
+use Rattle.std.proofs.Math.Logic.{∥∥₁_elim}
 use Rattle.bfs_stream_pages.proofs.pages.StreamPagesPages.set.Goals as goal
+
+pub put_page-requires-clause-inode : goal.put_page-requires-clause-inode
+put_page-requires-clause-inode g c b is = let s = c.args.self.now in (s.inode_long b is, λ m told a there. ∥∥₁_elim (s.inode_is m told) (Prim.hlevel props) (λ h. h.is b is a there))
 
 pub returns-in-Err-clause-goes_on : goal.returns-in-Err-clause-goes_on
 returns-in-Err-clause-goes_on g c = let s = c.args.self.now in (refl, refl, goes_same s.backing s.bitmap.now s.length (known s.failed (g.E.Blocks.told s.start.value) (g.E.Blocks.told s.edits.now)) s.failed (g.E.Blocks.changed s.edits.now) (g.E.Blocks.counts s.edits.now), refl)

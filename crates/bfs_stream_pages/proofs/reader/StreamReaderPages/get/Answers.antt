@@ -4,7 +4,12 @@ use Rattle.bfs_stream_pages.specs.Held.{stream_of}
 use Rattle.bfs_stream_pages.specs.GoesLaws.{reads_fits}
 use Rattle.bfs_stream_pages.proofs.Paged.{index_inside, page_inside}
 use Rattle.bfs_stream_pages.proofs.Readers.{reader_page, reader_cause}
+use Rattle.std.proofs.Props.{props}
+use Rattle.std.proofs.Math.Logic.{∥∥₁_elim}
 use Rattle.bfs_stream_pages.proofs.reader.StreamReaderPages.get.Goals as goal
+
+pub get_page-requires-clause-inode : goal.get_page-requires-clause-inode
+get_page-requires-clause-inode g c b is = let s = c.args.self.now in (s.inode_long b is, λ m told a there. ∥∥₁_elim (s.inode_is m told) (Prim.hlevel props) (λ h. h.is b is a there))
 
 pub returns-clause-page : goal.returns-clause-page
 returns-clause-page g c =

@@ -8,7 +8,7 @@ ghost use Rattle.bfs_txn.specs.Faults.{AreLater};
 ghost use Rattle.bfs_txn.specs.Told.{StaysChanged};
 ghost use Rattle.bfs_stream.specs.Grown.{IsOfVolume};
 ghost use Rattle.bfs_stream.specs.Sizes.{sizes_of};
-ghost use Rattle.bfs_stream_pages.specs.Held.{Held, stream_of};
+ghost use Rattle.bfs_stream_pages.specs.Held.{Held, stream_of, IsInodeOf};
 ghost use Rattle.bfs_values.specs.Reached.{IsWholeTree};
 ghost use Rattle.bfs_maps.specs.Mapped.{origin_of, HasHeld, StreamNow};
 ghost use Rattle.bfs_maps.specs.Refused.{IsChangeFault, IsTakingFault, IsUndone, HasReadCause};
@@ -58,6 +58,7 @@ fn add_over<E: Edits, L: Ledger>(
 fn add_with<E: Edits, L: Ledger>(
     tree: TreeAt,
     length: u64,
+    bytes: &[u8],
     bitmap: &mut Bitmap,
     edits: &mut E,
     key: &[u8],
@@ -75,6 +76,7 @@ fn add_with<E: Edits, L: Ledger>(
     requires size { E.size edits.old ≡ tree.sup.block_size }
     requires volume { IsOfVolume (sizes_of tree.sup) bitmap.old }
     requires whole { length % 1024 ≡ 0 }
+    requires bytes { IsInodeOf (origin_of tree) (E.told edits.old) bytes.now }
     requires held { (m : ℕ → Option (List ℕ)) → E.told edits.old ≡ Some m → ∥ Held (origin_of tree) bitmap.old length m ∥₁ }
     ensures added { (m : ℕ → Option (List ℕ)) → E.told edits.old ≡ Some m → Held (origin_of tree) bitmap.old length m → IsWholeTree tree.kind (stream_of (origin_of tree) m) → OnOk result (StreamNow (origin_of tree) bitmap.old bitmap.new m (HasWith tree.kind (stream_of (origin_of tree) m) key.now id) (E.told edits.new) (E.changed edits.old) (E.changed edits.new)) }
     ensures refused { (m : ℕ → Option (List ℕ)) → E.told edits.old ≡ Some m → Held (origin_of tree) bitmap.old length m → IsWholeTree tree.kind (stream_of (origin_of tree) m) → IfErr result (IsPairFault (origin_of tree) bitmap.old m) }
@@ -89,7 +91,14 @@ fn add_with<E: Edits, L: Ledger>(
 {
     let mut steps = Steps::<L>::begin(ledger);
     let mut pages = StreamPages::over(
-        tree.alloc, edits, bitmap, tree.inode, &tree.sup, length, false,
+        tree.alloc,
+        edits,
+        bitmap,
+        tree.inode,
+        &tree.sup,
+        length,
+        false,
+        Some(bytes),
     );
     add_over(&mut pages, tree.kind, key, id, &mut steps)
 }
@@ -121,11 +130,20 @@ pub(crate) fn add_pair<E: Edits>(
     ensures later { AreLater (E.counts edits.old) (E.counts edits.new) }
     ensures cause { IfErr result (HasPairCause (E.counts edits.old) (E.counts edits.new)) }
 {
-    let length = match stream_size(tree, edits) {
-        Ok(length) => length,
+    let opened = match stream_size(tree, edits) {
+        Ok(opened) => opened,
         Err(fault) => return Err(TreeFault::Pages(fault)),
     };
-    add_with::<E, Brand>(tree, length, bitmap, edits, key, id, Blank::new(1))
+    add_with::<E, Brand>(
+        tree,
+        opened.length,
+        &opened.inode,
+        bitmap,
+        edits,
+        key,
+        id,
+        Blank::new(1),
+    )
 }
 
 /// Takes a pair out.
@@ -161,6 +179,7 @@ fn take_over<E: Edits, L: Ledger>(
 fn take_with<E: Edits, L: Ledger>(
     tree: TreeAt,
     length: u64,
+    bytes: &[u8],
     bitmap: &mut Bitmap,
     edits: &mut E,
     key: &[u8],
@@ -177,6 +196,7 @@ fn take_with<E: Edits, L: Ledger>(
     requires size { E.size edits.old ≡ tree.sup.block_size }
     requires volume { IsOfVolume (sizes_of tree.sup) bitmap.old }
     requires whole { length % 1024 ≡ 0 }
+    requires bytes { IsInodeOf (origin_of tree) (E.told edits.old) bytes.now }
     requires held { (m : ℕ → Option (List ℕ)) → E.told edits.old ≡ Some m → ∥ Held (origin_of tree) bitmap.old length m ∥₁ }
     ensures taken { (m : ℕ → Option (List ℕ)) → E.told edits.old ≡ Some m → Held (origin_of tree) bitmap.old length m → IsWholeTree tree.kind (stream_of (origin_of tree) m) → OnOk result (StreamNow (origin_of tree) bitmap.old bitmap.new m (HasWithout tree.kind (stream_of (origin_of tree) m) key.now id) (E.told edits.new) (E.changed edits.old) (E.changed edits.new)) }
     ensures refused { (m : ℕ → Option (List ℕ)) → E.told edits.old ≡ Some m → Held (origin_of tree) bitmap.old length m → IsWholeTree tree.kind (stream_of (origin_of tree) m) → IfErr result IsUndone }
@@ -191,7 +211,14 @@ fn take_with<E: Edits, L: Ledger>(
 {
     let mut steps = Steps::<L>::begin(ledger);
     let mut pages = StreamPages::over(
-        tree.alloc, edits, bitmap, tree.inode, &tree.sup, length, true,
+        tree.alloc,
+        edits,
+        bitmap,
+        tree.inode,
+        &tree.sup,
+        length,
+        true,
+        Some(bytes),
     );
     take_over(&mut pages, tree.kind, key, id, &mut steps)
 }
@@ -222,9 +249,18 @@ pub(crate) fn take_pair<E: Edits>(
     ensures later { AreLater (E.counts edits.old) (E.counts edits.new) }
     ensures cause { IfErr result (HasReadCause (E.counts edits.old) (E.counts edits.new)) }
 {
-    let length = match stream_size(tree, edits) {
-        Ok(length) => length,
+    let opened = match stream_size(tree, edits) {
+        Ok(opened) => opened,
         Err(fault) => return Err(TreeFault::Pages(fault)),
     };
-    take_with::<E, Brand>(tree, length, bitmap, edits, key, id, Blank::new(1))
+    take_with::<E, Brand>(
+        tree,
+        opened.length,
+        &opened.inode,
+        bitmap,
+        edits,
+        key,
+        id,
+        Blank::new(1),
+    )
 }

@@ -7,7 +7,7 @@ ghost use Rattle.bfs_stream.specs.Sizes.{sizes_of};
 ghost use Rattle.bfs_stream.specs.Places.{HasStream};
 ghost use Rattle.bfs_stream.specs.Told.{contents};
 ghost use Rattle.bfs_stream_check.specs.Known.{IsAllTold};
-ghost use Rattle.bfs_stream_pages.specs.Held.{IsReadable, stream_of};
+ghost use Rattle.bfs_stream_pages.specs.Held.{IsReadable, stream_of, IsInodeOf};
 ghost use Rattle.bfs_values.specs.Reached.{AreWritten};
 ghost use Rattle.bfs_values.specs.Rows.{rows_in};
 ghost use Rattle.bfs_sound.specs.Volumes.{Volume};
@@ -69,6 +69,7 @@ fn rows_with<B: Blocks, L: Ledger, T: RowSink>(
     kind: KeyKind,
     taken: &mut T,
     length: u64,
+    bytes: &[u8],
     ledger: Blank,
 ) -> Result<(), VisitFault>
     requires name { ledger.name ≡ L.name }
@@ -79,6 +80,7 @@ fn rows_with<B: Blocks, L: Ledger, T: RowSink>(
     requires size { B.size under.old ≡ sup.now.block_size }
     requires kind { IsTreeKind kind }
     requires whole { length % 1024 ≡ 0 }
+    requires bytes { IsInodeOf (record { id = id; sizes = sizes_of sup.now }) (B.told under.old) bytes.now }
     requires held { (m : ℕ → Option (List ℕ)) → B.told under.old ≡ Some m → ∥ IsReadable (record { id = id; sizes = sizes_of sup.now }) length m ∥₁ }
     ensures whole { (m : ℕ → Option (List ℕ)) → B.told under.old ≡ Some m → OnOk result (IsWholeTaken kind (content (volume_of sup.now (contents m)) id) (T.took taken.old taken.new)) }
     ensures wrong { (m : ℕ → Option (List ℕ)) → B.told under.old ≡ Some m → HasTree (volume_of sup.now (contents m)) id kind → IsStreamOf (volume_of sup.now (contents m)) id → IfErr result (IsTrueOf (volume_of sup.now (contents m))) }
@@ -92,7 +94,7 @@ fn rows_with<B: Blocks, L: Ledger, T: RowSink>(
     ensures cause { IfErr result (IsVisitCause (B.counts under.old) (B.counts under.new)) }
 {
     let mut steps = Steps::<L>::begin(ledger);
-    let mut pages = StreamReader::over(alloc, under, id, sup, length);
+    let mut pages = StreamReader::over(alloc, under, id, sup, length, Some(bytes));
     rows_over(alloc, &mut pages, id, kind, taken, &mut steps)
 }
 
@@ -133,7 +135,17 @@ pub fn read_rows<B: Blocks, T: RowSink>(
             part: PagePart::Size,
         }));
     };
-    rows_with::<B, Brand, T>(alloc, under, sup, id, kind, taken, length, Blank::new(1))
+    rows_with::<B, Brand, T>(
+        alloc,
+        under,
+        sup,
+        id,
+        kind,
+        taken,
+        length,
+        bytes,
+        Blank::new(1),
+    )
 }
 
 /// The keys of the tree of this kind in the stream of an inode with these bytes, which was found to keep its format, each with its numbers;

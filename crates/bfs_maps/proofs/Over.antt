@@ -1,7 +1,8 @@
 -- What pages that were begun over a volume and dropped again come to.
-use Rattle.std.proofs.Common.{◌≡◌, ℕ, List, Bool, Option, sym, subst}
+use Rattle.std.proofs.Common.{◌≡◌, ◌<◌, ◌⊎◌, ℕ, List, Bool, true, Option, sym, subst}
 use Rattle.std.specs.Prelude.{Result, Ok, Err, OnOk, IfErr}
 use Rattle.bfs_base.specs.declared.kind.KeyKind.{KeyKind}
+use Rattle.bfs_bitmap.specs.Fills.{IsBitmapBlock}
 use Rattle.bfs_bitmap.specs.Runs.{Room}
 use Rattle.bfs_node.specs.declared.fault.PageKind.{PageKind}
 use Rattle.bfs_node.specs.declared.fault.TreeFault.{TreeFault}
@@ -54,3 +55,10 @@ change_named good m o other v room told told_now r a b d is = subst (λ (x : Ori
 
 pub taking_named : {T : Type 0} (good : List ℕ → ℕ → PageKind → Type 0) (m : ℕ → Option (List ℕ)) (o other : Origin) (told told_now : Option (ℕ → Option (List ℕ))) (r : Result T (TreeFault GrowFault)) → other ≡ o → told_now ≡ told → IfErr r (IsTakingFault good other m told_now) → IfErr r (IsTakingFault good o m told)
 taking_named good m o other told told_now r a b is = subst (λ (x : Origin × Option (ℕ → Option (List ℕ))). IfErr r (IsTakingFault good x.0 m x.1)) (λ i. (a i, b i)) is
+
+-- which blocks changed
+pub changed_named : (o other : Origin) (v room : Room) (old began new final : ℕ → Bool) → other ≡ o → room ≡ v → began ≡ old → final ≡ new → ((k : ℕ) → new k ≡ true → (began k ≡ true) ⊎ (IsBitmapBlock room k ⊎ (k < other.sizes.blocks))) → (k : ℕ) → final k ≡ true → (old k ≡ true) ⊎ (IsBitmapBlock v k ⊎ (k < o.sizes.blocks))
+changed_named o other v room old began new final a b c d h =
+    let first : (k : ℕ) → new k ≡ true → (old k ≡ true) ⊎ (IsBitmapBlock v k ⊎ (k < o.sizes.blocks)) =
+    subst (λ (x : Origin × Room × (ℕ → Bool)). (k : ℕ) → new k ≡ true → (x.2 k ≡ true) ⊎ (IsBitmapBlock x.1 k ⊎ (k < x.0.sizes.blocks))) (λ i. (a i, b i, c i)) h in
+    subst (λ (f : ℕ → Bool). (k : ℕ) → f k ≡ true → (old k ≡ true) ⊎ (IsBitmapBlock v k ⊎ (k < o.sizes.blocks))) (sym d) first

@@ -14,6 +14,6 @@ mod writing;
 pub use laws::{names_differ, puts_at_key, takes_at_key};
 pub use putting::{put_number, take_number};
 pub use reading::{number_at, rows_from};
-pub use size::stream_size;
+pub use size::{Opened, stream_size};
 pub use tree::TreeAt;
 pub use writing::{put_row, take_row};

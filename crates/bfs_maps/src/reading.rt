@@ -5,7 +5,7 @@ ghost use Rattle.bfs_base.specs.Keys.{IsTreeKind};
 ghost use Rattle.bfs_super.specs.Conditions.{IsValid, natural};
 ghost use Rattle.bfs_node.specs.Search.{IsSought};
 ghost use Rattle.bfs_txn.specs.Faults.{AreLater};
-ghost use Rattle.bfs_stream_pages.specs.Held.{IsReadable, stream_of};
+ghost use Rattle.bfs_stream_pages.specs.Held.{IsReadable, stream_of, IsInodeOf};
 ghost use Rattle.bfs_values.specs.Kinds.{IsWanted};
 ghost use Rattle.bfs_values.specs.Reached.{IsWholeTree};
 ghost use Rattle.bfs_range.specs.Answers.{answer_of};
@@ -52,6 +52,7 @@ fn number_over<B: Blocks, L: Ledger>(
 fn number_with<B: Blocks, L: Ledger>(
     tree: TreeAt,
     length: u64,
+    bytes: &[u8],
     under: &mut B,
     key: &[u8],
     ledger: Blank,
@@ -65,6 +66,7 @@ fn number_with<B: Blocks, L: Ledger>(
     requires key { IsSought tree.kind key.now }
     requires size { B.size under.old ≡ tree.sup.block_size }
     requires whole { length % 1024 ≡ 0 }
+    requires bytes { IsInodeOf (origin_of tree) (B.told under.old) bytes.now }
     requires held { (m : ℕ → Option (List ℕ)) → B.told under.old ≡ Some m → ∥ IsReadable (origin_of tree) length m ∥₁ }
     ensures found { (m : ℕ → Option (List ℕ)) → B.told under.old ≡ Some m → HoldsNumber tree.kind key.now (stream_of (origin_of tree) m) → MatchResult result (IsNumberAt tree.kind (rows_of tree.kind (origin_of tree) m) key.now) IsUndone }
     ensures refused { (m : ℕ → Option (List ℕ)) → B.told under.old ≡ Some m → IfErr result (IsReadFault (IsNumberPage tree.kind (stream_of (origin_of tree) m)) (origin_of tree) m) }
@@ -77,7 +79,14 @@ fn number_with<B: Blocks, L: Ledger>(
     ensures cause { IfErr result (HasReadCause (B.counts under.old) (B.counts under.new)) }
 {
     let mut steps = Steps::<L>::begin(ledger);
-    let mut pages = StreamReader::over(tree.alloc, under, tree.inode, &tree.sup, length);
+    let mut pages = StreamReader::over(
+        tree.alloc,
+        under,
+        tree.inode,
+        &tree.sup,
+        length,
+        Some(bytes),
+    );
     number_over(&mut pages, tree.kind, key, &mut steps)
 }
 
@@ -103,11 +112,18 @@ pub fn number_at<B: Blocks>(
     ensures later { AreLater (B.counts under.old) (B.counts under.new) }
     ensures cause { IfErr result (HasReadCause (B.counts under.old) (B.counts under.new)) }
 {
-    let length = match stream_size(tree, under) {
-        Ok(length) => length,
+    let opened = match stream_size(tree, under) {
+        Ok(opened) => opened,
         Err(fault) => return Err(TreeFault::Pages(fault)),
     };
-    number_with::<B, Brand>(tree, length, under, key, Blank::new(1))
+    number_with::<B, Brand>(
+        tree,
+        opened.length,
+        &opened.inode,
+        under,
+        key,
+        Blank::new(1),
+    )
 }
 
 /// The rows from one key to another.
@@ -140,6 +156,7 @@ fn rows_over<B: Blocks, L: Ledger>(
 fn rows_with<B: Blocks, L: Ledger>(
     tree: TreeAt,
     length: u64,
+    bytes: &[u8],
     under: &mut B,
     low: Option<&[u8]>,
     high: Option<&[u8]>,
@@ -155,6 +172,7 @@ fn rows_with<B: Blocks, L: Ledger>(
     requires high { IfSome high (λ k. IsSought tree.kind k.now) }
     requires size { B.size under.old ≡ tree.sup.block_size }
     requires whole { length % 1024 ≡ 0 }
+    requires bytes { IsInodeOf (origin_of tree) (B.told under.old) bytes.now }
     requires held { (m : ℕ → Option (List ℕ)) → B.told under.old ≡ Some m → ∥ IsReadable (origin_of tree) length m ∥₁ }
     ensures rows { (m : ℕ → Option (List ℕ)) → B.told under.old ≡ Some m → IsWholeTree tree.kind (stream_of (origin_of tree) m) → MatchResult result (λ found. found ≡ answer_of (stream_of (origin_of tree) m) (rows_between tree.kind (option_copied low.entry) (option_copied high.entry) (rows_of tree.kind (origin_of tree) m))) IsUndone }
     ensures refused { (m : ℕ → Option (List ℕ)) → B.told under.old ≡ Some m → IfErr result (IsReadFault (IsWanted tree.kind (stream_of (origin_of tree) m)) (origin_of tree) m) }
@@ -167,7 +185,14 @@ fn rows_with<B: Blocks, L: Ledger>(
     ensures cause { IfErr result (HasReadCause (B.counts under.old) (B.counts under.new)) }
 {
     let mut steps = Steps::<L>::begin(ledger);
-    let mut pages = StreamReader::over(tree.alloc, under, tree.inode, &tree.sup, length);
+    let mut pages = StreamReader::over(
+        tree.alloc,
+        under,
+        tree.inode,
+        &tree.sup,
+        length,
+        Some(bytes),
+    );
     rows_over(tree.alloc, &mut pages, tree.kind, low, high, &mut steps)
 }
 
@@ -196,9 +221,17 @@ pub fn rows_from<B: Blocks>(
     ensures later { AreLater (B.counts under.old) (B.counts under.new) }
     ensures cause { IfErr result (HasReadCause (B.counts under.old) (B.counts under.new)) }
 {
-    let length = match stream_size(tree, under) {
-        Ok(length) => length,
+    let opened = match stream_size(tree, under) {
+        Ok(opened) => opened,
         Err(fault) => return Err(TreeFault::Pages(fault)),
     };
-    rows_with::<B, Brand>(tree, length, under, low, high, Blank::new(1))
+    rows_with::<B, Brand>(
+        tree,
+        opened.length,
+        &opened.inode,
+        under,
+        low,
+        high,
+        Blank::new(1),
+    )
 }

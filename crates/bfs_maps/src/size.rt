@@ -6,6 +6,7 @@ ghost use Rattle.bfs_txn.specs.Faults.{AreLater};
 ghost use Rattle.bfs_stream.specs.Told.{contents};
 ghost use Rattle.bfs_stream.specs.Faults.{IsGrowCause};
 ghost use Rattle.bfs_stream_pages.specs.Causes.{IsOfBlock};
+ghost use Rattle.bfs_stream_pages.specs.Held.{IsInodeOf};
 ghost use Rattle.bfs_maps.specs.Mapped.{origin_of};
 ghost use Rattle.bfs_maps.specs.Refused.{IsUnsized};
 
@@ -13,6 +14,15 @@ use crate::TreeAt;
 use bfs_inode::InodeView;
 use bfs_stream::GrowFault;
 use bfs_txn::{BlockFault, Blocks};
+
+/// What is known of a stream whose inode was read.
+#[derive(Debug, Drop)]
+pub struct Opened {
+    /// Its size in bytes.
+    pub length: u64,
+    /// The bytes of the inode's block.
+    pub inode: Vec<u8>,
+}
 
 /// A size of whole pages.
 fn whole_pages(size: i64) -> Option<u64>
@@ -35,12 +45,13 @@ fn size_in(block: &[u8]) -> Option<u64>
     whole_pages(InodeView::over(block).size())
 }
 
-/// The size of the stream that a tree stands in, which is of whole pages.
-pub fn stream_size<B: Blocks>(tree: TreeAt, under: &mut B) -> Result<u64, GrowFault>
+/// The size of the stream that a tree stands in, which is of whole pages, and its inode as it was read.
+pub fn stream_size<B: Blocks>(tree: TreeAt, under: &mut B) -> Result<Opened, GrowFault>
     requires valid { IsValid tree.sup }
     requires size { B.size under.old ≡ tree.sup.block_size }
-    ensures whole { IfOk result (λ n. n % 1024 ≡ 0) }
-    ensures found { (m : ℕ → Option (List ℕ)) → B.told under.old ≡ Some m → IsSome (m tree.inode) → IfOk result (λ n. (stream_at (contents m tree.inode)).size ≡ pos n) }
+    ensures whole { IfOk result (λ o. o.length % 1024 ≡ 0) }
+    ensures found { (m : ℕ → Option (List ℕ)) → B.told under.old ≡ Some m → IsSome (m tree.inode) → IfOk result (λ o. (stream_at (contents m tree.inode)).size ≡ pos o.length) }
+    ensures inode { IfOk result (λ o. IsInodeOf (origin_of tree) (B.told under.new) o.inode.items) }
     ensures refused { (m : ℕ → Option (List ℕ)) → B.told under.old ≡ Some m → IsSome (m tree.inode) → IfErr result (IsUnsized (origin_of tree) m) }
     ensures told { B.told under.new ≡ B.told under.old }
     ensures changed { B.changed under.new ≡ B.changed under.old }
@@ -60,7 +71,10 @@ pub fn stream_size<B: Blocks>(tree: TreeAt, under: &mut B) -> Result<u64, GrowFa
         Err(fault) => return Err(GrowFault::Block(fault)),
     }
     match size_in(&bytes) {
-        Some(size) => Ok(size),
+        Some(length) => Ok(Opened {
+            length,
+            inode: bytes,
+        }),
         None => Err(GrowFault::Block(BlockFault::Damaged { block: tree.inode })),
     }
 }

@@ -10,7 +10,7 @@ ghost use Rattle.bfs_pages.specs.Answers.{IsOfKind};
 ghost use Rattle.bfs_pages.specs.Maps.{assoc, put, without};
 ghost use Rattle.bfs_stream.specs.Grown.{IsOfVolume};
 ghost use Rattle.bfs_stream.specs.Sizes.{sizes_of};
-ghost use Rattle.bfs_stream_pages.specs.Held.{Held, stream_of};
+ghost use Rattle.bfs_stream_pages.specs.Held.{Held, stream_of, IsInodeOf};
 ghost use Rattle.bfs_values.specs.Reached.{IsWholeTree};
 ghost use Rattle.bfs_maps.specs.Mapped.{origin_of, rows_of, HasHeld};
 ghost use Rattle.bfs_maps.specs.NumberTrees.{HoldsNumber};
@@ -61,6 +61,7 @@ fn put_over<E: Edits, L: Ledger>(
 fn put_with<E: Edits, L: Ledger>(
     tree: TreeAt,
     length: u64,
+    bytes: &[u8],
     bitmap: &mut Bitmap,
     edits: &mut E,
     key: &[u8],
@@ -78,6 +79,7 @@ fn put_with<E: Edits, L: Ledger>(
     requires size { E.size edits.old ≡ tree.sup.block_size }
     requires volume { IsOfVolume (sizes_of tree.sup) bitmap.old }
     requires whole { length % 1024 ≡ 0 }
+    requires bytes { IsInodeOf (origin_of tree) (E.told edits.old) bytes.now }
     requires held { (m : ℕ → Option (List ℕ)) → E.told edits.old ≡ Some m → ∥ Held (origin_of tree) bitmap.old length m ∥₁ }
     ensures put { (m : ℕ → Option (List ℕ)) → E.told edits.old ≡ Some m → Held (origin_of tree) bitmap.old length m → IsWholeTree tree.kind (stream_of (origin_of tree) m) → OnOk result (AreRowsNow tree.kind (origin_of tree) bitmap.old bitmap.new m (put tree.kind (rows_of tree.kind (origin_of tree) m) key.now (pos number)) (E.told edits.new) (E.changed edits.old) (E.changed edits.new)) }
     ensures absent { (m : ℕ → Option (List ℕ)) → E.told edits.old ≡ Some m → Held (origin_of tree) bitmap.old length m → IsWholeTree tree.kind (stream_of (origin_of tree) m) → OnOk result (assoc tree.kind (rows_of tree.kind (origin_of tree) m) key.now ≡ None) }
@@ -93,7 +95,14 @@ fn put_with<E: Edits, L: Ledger>(
 {
     let mut steps = Steps::<L>::begin(ledger);
     let mut pages = StreamPages::over(
-        tree.alloc, edits, bitmap, tree.inode, &tree.sup, length, false,
+        tree.alloc,
+        edits,
+        bitmap,
+        tree.inode,
+        &tree.sup,
+        length,
+        false,
+        Some(bytes),
     );
     put_over(&mut pages, tree.kind, key, number, &mut steps)
 }
@@ -126,11 +135,20 @@ pub fn put_row<E: Edits>(
     ensures later { AreLater (E.counts edits.old) (E.counts edits.new) }
     ensures cause { IfErr result (HasPutCause (E.counts edits.old) (E.counts edits.new)) }
 {
-    let length = match stream_size(tree, edits) {
-        Ok(length) => length,
+    let opened = match stream_size(tree, edits) {
+        Ok(opened) => opened,
         Err(fault) => return Err(TreeFault::Pages(fault)),
     };
-    put_with::<E, Brand>(tree, length, bitmap, edits, key, number, Blank::new(1))
+    put_with::<E, Brand>(
+        tree,
+        opened.length,
+        &opened.inode,
+        bitmap,
+        edits,
+        key,
+        number,
+        Blank::new(1),
+    )
 }
 
 /// Takes a key out, and tells its number.
@@ -166,6 +184,7 @@ fn take_over<E: Edits, L: Ledger>(
 fn take_with<E: Edits, L: Ledger>(
     tree: TreeAt,
     length: u64,
+    bytes: &[u8],
     bitmap: &mut Bitmap,
     edits: &mut E,
     key: &[u8],
@@ -181,6 +200,7 @@ fn take_with<E: Edits, L: Ledger>(
     requires size { E.size edits.old ≡ tree.sup.block_size }
     requires volume { IsOfVolume (sizes_of tree.sup) bitmap.old }
     requires whole { length % 1024 ≡ 0 }
+    requires bytes { IsInodeOf (origin_of tree) (E.told edits.old) bytes.now }
     requires held { (m : ℕ → Option (List ℕ)) → E.told edits.old ≡ Some m → ∥ Held (origin_of tree) bitmap.old length m ∥₁ }
     ensures taken { (m : ℕ → Option (List ℕ)) → E.told edits.old ≡ Some m → Held (origin_of tree) bitmap.old length m → HoldsNumber tree.kind key.now (stream_of (origin_of tree) m) → OnOk result (AreRowsNow tree.kind (origin_of tree) bitmap.old bitmap.new m (without tree.kind (rows_of tree.kind (origin_of tree) m) key.now) (E.told edits.new) (E.changed edits.old) (E.changed edits.new)) }
     ensures number { (m : ℕ → Option (List ℕ)) → E.told edits.old ≡ Some m → Held (origin_of tree) bitmap.old length m → HoldsNumber tree.kind key.now (stream_of (origin_of tree) m) → IfOk result (λ number. assoc tree.kind (rows_of tree.kind (origin_of tree) m) key.now ≡ Some (pos number)) }
@@ -196,7 +216,14 @@ fn take_with<E: Edits, L: Ledger>(
 {
     let mut steps = Steps::<L>::begin(ledger);
     let mut pages = StreamPages::over(
-        tree.alloc, edits, bitmap, tree.inode, &tree.sup, length, true,
+        tree.alloc,
+        edits,
+        bitmap,
+        tree.inode,
+        &tree.sup,
+        length,
+        true,
+        Some(bytes),
     );
     take_over(&mut pages, tree.kind, key, &mut steps)
 }
@@ -227,9 +254,17 @@ pub fn take_row<E: Edits>(
     ensures later { AreLater (E.counts edits.old) (E.counts edits.new) }
     ensures cause { IfErr result (HasTakeCause (E.counts edits.old) (E.counts edits.new)) }
 {
-    let length = match stream_size(tree, edits) {
-        Ok(length) => length,
+    let opened = match stream_size(tree, edits) {
+        Ok(opened) => opened,
         Err(fault) => return Err(TreeFault::Pages(fault)),
     };
-    take_with::<E, Brand>(tree, length, bitmap, edits, key, Blank::new(1))
+    take_with::<E, Brand>(
+        tree,
+        opened.length,
+        &opened.inode,
+        bitmap,
+        edits,
+        key,
+        Blank::new(1),
+    )
 }

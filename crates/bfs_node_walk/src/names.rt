@@ -7,7 +7,7 @@ ghost use Rattle.bfs_stream.specs.Sizes.{sizes_of};
 ghost use Rattle.bfs_stream.specs.Places.{HasStream};
 ghost use Rattle.bfs_stream.specs.Told.{contents};
 ghost use Rattle.bfs_stream_check.specs.Known.{IsAllTold};
-ghost use Rattle.bfs_stream_pages.specs.Held.{IsReadable, stream_of};
+ghost use Rattle.bfs_stream_pages.specs.Held.{IsReadable, stream_of, IsInodeOf};
 ghost use Rattle.bfs_sound.specs.Volumes.{Volume};
 ghost use Rattle.bfs_sound.specs.Inodes.{content};
 ghost use Rattle.bfs_sound.specs.Whole.{volume_of};
@@ -81,6 +81,7 @@ fn names_with<B: Blocks, L: Ledger>(
     sup: &Super,
     id: u64,
     length: u64,
+    bytes: &[u8],
     ledger: Blank,
 ) -> Result<Vec<NameRow>, VisitFault>
     requires name { ledger.name ≡ L.name }
@@ -90,6 +91,7 @@ fn names_with<B: Blocks, L: Ledger>(
     requires inside { id < natural sup.now.num_blocks }
     requires size { B.size under.old ≡ sup.now.block_size }
     requires whole { length % 1024 ≡ 0 }
+    requires bytes { IsInodeOf (record { id = id; sizes = sizes_of sup.now }) (B.told under.old) bytes.now }
     requires held { (m : ℕ → Option (List ℕ)) → B.told under.old ≡ Some m → ∥ IsReadable (record { id = id; sizes = sizes_of sup.now }) length m ∥₁ }
     ensures names { (m : ℕ → Option (List ℕ)) → B.told under.old ≡ Some m → IfOk result (λ rows. AreNames (content (volume_of sup.now (contents m)) id) rows.items) }
     ensures wrong { (m : ℕ → Option (List ℕ)) → B.told under.old ≡ Some m → HasNames (volume_of sup.now (contents m)) id → IsStreamOf (volume_of sup.now (contents m)) id → IfErr result (IsTrueOf (volume_of sup.now (contents m))) }
@@ -103,7 +105,7 @@ fn names_with<B: Blocks, L: Ledger>(
     ensures cause { IfErr result (IsVisitCause (B.counts under.old) (B.counts under.new)) }
 {
     let mut steps = Steps::<L>::begin(ledger);
-    let mut pages = StreamReader::over(alloc, under, id, sup, length);
+    let mut pages = StreamReader::over(alloc, under, id, sup, length, Some(bytes));
     names_over(alloc, &mut pages, id, &mut steps)
 }
 
@@ -141,5 +143,5 @@ pub fn read_names<B: Blocks>(
             part: PagePart::Size,
         }));
     };
-    names_with::<B, Brand>(alloc, under, sup, id, length, Blank::new(1))
+    names_with::<B, Brand>(alloc, under, sup, id, length, bytes, Blank::new(1))
 }

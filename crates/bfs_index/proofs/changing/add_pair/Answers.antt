@@ -6,6 +6,7 @@ use Rattle.bfs_maps.specs.Mapped.{origin_of}
 use Rattle.bfs_maps.proofs.Sized.{held_here, same_size, unsized_whole, unmoved}
 use Rattle.bfs_maps.proofs.Over.{now_named, on_ok}
 use Rattle.bfs_index.specs.Indices.{HasWith}
+use Rattle.bfs_stream_pages.proofs.Keeping.{lent}
 use Rattle.bfs_index.proofs.changing.add_pair.Goals as goal
 
 pub returns-in-Err-clause-refused : goal.returns-in-Err-clause-refused
@@ -24,7 +25,7 @@ add_with-requires-clause-held g c m told =
     let v = c.args.bitmap.now in
     let before = sym c.stream_size.ensures.told ∙ told in
     let h = c.requires.stream m before in
-    let same : h.0 ≡ c.in-Ok.length = same_size _ h.0 c.in-Ok.length h.1.size (c.in-Ok.ensures.found m before (held_here o v h.0 m h.1)) in
+    let same : h.0 ≡ c.in-Ok.opened.length = same_size _ h.0 c.in-Ok.opened.length h.1.size (c.in-Ok.ensures.found m before (held_here o v h.0 m h.1)) in
     ∣ subst (λ (n : ℕ). Held o v n m) same h.1 ∣₁
 
 pub returns-clause-added : goal.returns-clause-added
@@ -32,7 +33,7 @@ returns-clause-added g c m told d =
     let o : Origin = origin_of c.args.tree in
     let v = c.args.bitmap.now in
     let h = d.held in
-    let same : h.0 ≡ c.in-Ok.length = same_size _ h.0 c.in-Ok.length h.1.size (c.in-Ok.ensures.found m told (held_here o v h.0 m h.1)) in
+    let same : h.0 ≡ c.in-Ok.opened.length = same_size _ h.0 c.in-Ok.opened.length h.1.size (c.in-Ok.ensures.found m told (held_here o v h.0 m h.1)) in
     let held = subst (λ (n : ℕ). Held o v n m) same h.1 in
     let after = c.stream_size.ensures.told ∙ told in
     on_ok _ _ c.add_with.result (c.add_with.ensures.added m after held d.tree)
@@ -44,7 +45,7 @@ returns-clause-refused g c m told d =
     let o : Origin = origin_of c.args.tree in
     let v = c.args.bitmap.now in
     let h = d.held in
-    let same : h.0 ≡ c.in-Ok.length = same_size _ h.0 c.in-Ok.length h.1.size (c.in-Ok.ensures.found m told (held_here o v h.0 m h.1)) in
+    let same : h.0 ≡ c.in-Ok.opened.length = same_size _ h.0 c.in-Ok.opened.length h.1.size (c.in-Ok.ensures.found m told (held_here o v h.0 m h.1)) in
     let held = subst (λ (n : ℕ). Held o v n m) same h.1 in
     let after = c.stream_size.ensures.told ∙ told in
     c.add_with.ensures.refused m after held d.tree
@@ -60,5 +61,8 @@ returns-clause-blamed g c m told =
     let o : Origin = origin_of c.args.tree in
     let v = c.args.bitmap.now in
     let h = c.requires.stream m told in
-    let same : h.0 ≡ c.in-Ok.length = same_size _ h.0 c.in-Ok.length h.1.size (c.in-Ok.ensures.found m told (held_here o v h.0 m h.1)) in
+    let same : h.0 ≡ c.in-Ok.opened.length = same_size _ h.0 c.in-Ok.opened.length h.1.size (c.in-Ok.ensures.found m told (held_here o v h.0 m h.1)) in
     c.add_with.ensures.blamed m (c.stream_size.ensures.told ∙ told) (subst (λ (n : ℕ). Held o v n m) same h.1)
+
+pub add_with-requires-clause-bytes : goal.add_with-requires-clause-bytes
+add_with-requires-clause-bytes g c = lent (origin_of c.args.tree) (g.E.Blocks.told c.stream_size.new.under) c.in-Ok.opened.inode.items c.deref.result.now c.deref.ensures.value c.in-Ok.ensures.inode

@@ -2,6 +2,7 @@ use Rattle.std.proofs.Common.{◌∙◌, inr, List, ℕ, refl, sym, ap}
 use Rattle.bfs_inode.specs.Inode.{stream_at}
 use Rattle.bfs_stream.specs.Sizes.{Sizes, sizes_of}
 use Rattle.bfs_stream_pages.specs.GoesLaws.{sized_of}
+use Rattle.bfs_stream_pages.proofs.Keeping.{of_content}
 use Rattle.bfs_node_walk.proofs.Readable.{readable}
 use Rattle.bfs_index_walk.proofs.Unsized.{unsized}
 use Rattle.bfs_index_walk.proofs.header.find_kind.Goals as goal
@@ -11,6 +12,9 @@ returns-in_default-clause-wrong g c m told listed =
     let s : Sizes = sizes_of c.args.sup.now in
     let sized = sized_of s.block_size (g.B.Blocks.size c.args.under.now) (g.B.Blocks.told c.args.under.now) m c.requires.size told (g.met.B.Blocks.sized c.args.under.now) in
     unsized c.args.sup.now c.args.id m c.args.bytes.now (c.requires.all m told) c.requires.inside (c.requires.stream m told) sized (c.requires.bytes m told) (inr listed) (c.in_default.ensures.none refl)
+
+pub kind_with-requires-clause-bytes : goal.kind_with-requires-clause-bytes
+kind_with-requires-clause-bytes g c = (c.requires.long, of_content (g.B.Blocks.told c.args.under.now) c.args.id c.args.bytes.now c.requires.bytes)
 
 pub kind_with-requires-clause-held : goal.kind_with-requires-clause-held
 kind_with-requires-clause-held g c m told =

@@ -3,6 +3,7 @@ use Rattle.bfs_inode.specs.Inode.{stream_at}
 use Rattle.bfs_stream.specs.Sizes.{Sizes, sizes_of}
 use Rattle.bfs_stream.specs.Told.{contents}
 use Rattle.bfs_stream_pages.specs.GoesLaws.{sized_of}
+use Rattle.bfs_stream_pages.proofs.Keeping.{of_content}
 use Rattle.bfs_sound.specs.Whole.{volume_of}
 use Rattle.bfs_node_walk.proofs.Readable.{readable}
 use Rattle.bfs_index_walk.proofs.Unsized.{of_tree, unsized}
@@ -14,6 +15,9 @@ returns-in_default-clause-wrong g c m told has =
     let sized = sized_of s.block_size (g.B.Blocks.size c.args.under.now) (g.B.Blocks.told c.args.under.now) m c.requires.size told (g.met.B.Blocks.sized c.args.under.now) in
     unsized c.args.sup.now c.args.id m c.args.bytes.now (c.requires.all m told) c.requires.inside (c.requires.stream m told) sized (c.requires.bytes m told) (of_tree (volume_of c.args.sup.now (contents m)) c.args.id c.args.kind has)
     (c.in_default.ensures.none refl)
+
+pub rows_with-requires-clause-bytes : goal.rows_with-requires-clause-bytes
+rows_with-requires-clause-bytes g c = (c.requires.long, of_content (g.B.Blocks.told c.args.under.now) c.args.id c.args.bytes.now c.requires.bytes)
 
 pub rows_with-requires-clause-held : goal.rows_with-requires-clause-held
 rows_with-requires-clause-held g c m told =

@@ -1,11 +1,12 @@
 use Rattle.std.proofs.Common.{◌∙◌, sym, ap, subst}
 use Rattle.std.specs.Prelude.{OnOk}
-use Rattle.bfs_stream.specs.Sizes.{Origin}
+use Rattle.bfs_stream.specs.Sizes.{Origin, sizes_of}
 use Rattle.bfs_stream.specs.Told.{contents}
 use Rattle.bfs_stream_pages.specs.Held.{stream_of}
 use Rattle.bfs_sound.specs.Volumes.{Volume}
 use Rattle.bfs_sound.specs.Whole.{volume_of}
 use Rattle.bfs_value_walk.specs.Taken.{IsWholeTaken}
+use Rattle.bfs_stream_pages.proofs.Keeping.{given}
 use Rattle.bfs_index_walk.proofs.values.rows_with.Goals as goal
 
 pub returns-clause-whole : goal.returns-clause-whole
@@ -18,3 +19,8 @@ returns-clause-wrong g c m told has stream =
     let v : Volume = volume_of c.args.sup.now (contents m) in
     let here = ap g.B.Blocks.told c.over-pages.ensures.under_now ∙ told in
     c.rows_over.ensures.wrong v m here (ap (λ (x : Origin). stream_of x m) (sym c.over-pages.ensures.backing)) has stream
+
+pub over-pages-requires-clause-bytes : goal.over-pages-requires-clause-bytes
+over-pages-requires-clause-bytes g c b is =
+    let o : Origin = record { id = c.args.id; sizes = sizes_of c.args.sup.now } in
+    given o (g.B.Blocks.told c.args.under.now) c.args.bytes b c.requires.bytes is

@@ -4,6 +4,7 @@ use Rattle.bfs_stream_pages.specs.Held.{IsReadable}
 use Rattle.bfs_stream_pages.specs.GoesLaws.{sized_of}
 use Rattle.bfs_maps.specs.Mapped.{origin_of}
 use Rattle.bfs_maps.proofs.Sized.{size_here, same_size, unsized_whole}
+use Rattle.bfs_stream_pages.proofs.Keeping.{lent}
 use Rattle.bfs_maps.proofs.reading.number_at.Goals as goal
 
 pub returns-in-Err-clause-found : goal.returns-in-Err-clause-found
@@ -24,7 +25,7 @@ number_with-requires-clause-held g c m told =
     let o : Origin = origin_of c.args.tree in
     let before = sym c.stream_size.ensures.told ∙ told in
     let r = c.requires.stream m before in
-    let same : r.0 ≡ c.in-Ok.length = same_size _ r.0 c.in-Ok.length r.1.size (c.in-Ok.ensures.found m before (size_here o r.0 m r.1)) in
+    let same : r.0 ≡ c.in-Ok.opened.length = same_size _ r.0 c.in-Ok.opened.length r.1.size (c.in-Ok.ensures.found m before (size_here o r.0 m r.1)) in
     ∣ subst (λ (n : ℕ). IsReadable o n m) same r.1 ∣₁
 
 pub returns-clause-found : goal.returns-clause-found
@@ -32,3 +33,6 @@ returns-clause-found g c m told tree = c.number_with.ensures.found m (c.stream_s
 
 pub returns-clause-refused : goal.returns-clause-refused
 returns-clause-refused g c m told = c.number_with.ensures.refused m (c.stream_size.ensures.told ∙ told)
+
+pub number_with-requires-clause-bytes : goal.number_with-requires-clause-bytes
+number_with-requires-clause-bytes g c = lent (origin_of c.args.tree) (g.B.Blocks.told c.stream_size.new.under) c.in-Ok.opened.inode.items c.deref.result.now c.deref.ensures.value c.in-Ok.ensures.inode

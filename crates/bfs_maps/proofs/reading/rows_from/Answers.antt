@@ -4,6 +4,7 @@ use Rattle.bfs_stream_pages.specs.Held.{IsReadable}
 use Rattle.bfs_stream_pages.specs.GoesLaws.{sized_of}
 use Rattle.bfs_maps.specs.Mapped.{origin_of}
 use Rattle.bfs_maps.proofs.Sized.{size_here, same_size, unsized_whole}
+use Rattle.bfs_stream_pages.proofs.Keeping.{lent}
 use Rattle.bfs_maps.proofs.reading.rows_from.Goals as goal
 
 pub returns-in-Err-clause-rows : goal.returns-in-Err-clause-rows
@@ -24,7 +25,7 @@ rows_with-requires-clause-held g c m told =
     let o : Origin = origin_of c.args.tree in
     let before = sym c.stream_size.ensures.told ∙ told in
     let r = c.requires.stream m before in
-    let same : r.0 ≡ c.in-Ok.length = same_size _ r.0 c.in-Ok.length r.1.size (c.in-Ok.ensures.found m before (size_here o r.0 m r.1)) in
+    let same : r.0 ≡ c.in-Ok.opened.length = same_size _ r.0 c.in-Ok.opened.length r.1.size (c.in-Ok.ensures.found m before (size_here o r.0 m r.1)) in
     ∣ subst (λ (n : ℕ). IsReadable o n m) same r.1 ∣₁
 
 pub returns-clause-rows : goal.returns-clause-rows
@@ -32,3 +33,6 @@ returns-clause-rows g c m told tree = c.rows_with.ensures.rows m (c.stream_size.
 
 pub returns-clause-refused : goal.returns-clause-refused
 returns-clause-refused g c m told = c.rows_with.ensures.refused m (c.stream_size.ensures.told ∙ told)
+
+pub rows_with-requires-clause-bytes : goal.rows_with-requires-clause-bytes
+rows_with-requires-clause-bytes g c = lent (origin_of c.args.tree) (g.B.Blocks.told c.stream_size.new.under) c.in-Ok.opened.inode.items c.deref.result.now c.deref.ensures.value c.in-Ok.ensures.inode

@@ -7,6 +7,7 @@ use Rattle.bfs_maps.specs.Mapped.{origin_of, rows_of}
 use Rattle.bfs_maps.specs.RowTrees.{IsRowTree}
 use Rattle.bfs_maps.proofs.Sized.{held_here, same_size, unsized_whole, unmoved}
 use Rattle.bfs_maps.proofs.Over.{now_named, on_ok}
+use Rattle.bfs_stream_pages.proofs.Keeping.{lent}
 use Rattle.bfs_maps.proofs.writing.put_row.Goals as goal
 
 pub returns-in-Err-clause-refused : goal.returns-in-Err-clause-refused
@@ -25,7 +26,7 @@ put_with-requires-clause-held g c m told =
     let v = c.args.bitmap.now in
     let before = sym c.stream_size.ensures.told ∙ told in
     let h = c.requires.stream m before in
-    let same : h.0 ≡ c.in-Ok.length = same_size _ h.0 c.in-Ok.length h.1.size (c.in-Ok.ensures.found m before (held_here o v h.0 m h.1)) in
+    let same : h.0 ≡ c.in-Ok.opened.length = same_size _ h.0 c.in-Ok.opened.length h.1.size (c.in-Ok.ensures.found m before (held_here o v h.0 m h.1)) in
     ∣ subst (λ (n : ℕ). Held o v n m) same h.1 ∣₁
 
 pub returns-clause-put : goal.returns-clause-put
@@ -33,7 +34,7 @@ returns-clause-put g c m told d =
     let o : Origin = origin_of c.args.tree in
     let v = c.args.bitmap.now in
     let h = d.held in
-    let same : h.0 ≡ c.in-Ok.length = same_size _ h.0 c.in-Ok.length h.1.size (c.in-Ok.ensures.found m told (held_here o v h.0 m h.1)) in
+    let same : h.0 ≡ c.in-Ok.opened.length = same_size _ h.0 c.in-Ok.opened.length h.1.size (c.in-Ok.ensures.found m told (held_here o v h.0 m h.1)) in
     let held = subst (λ (n : ℕ). Held o v n m) same h.1 in
     let after = c.stream_size.ensures.told ∙ told in
     on_ok _ _ c.put_with.result (c.put_with.ensures.put m after held d.tree)
@@ -45,7 +46,7 @@ returns-clause-absent g c m told d =
     let o : Origin = origin_of c.args.tree in
     let v = c.args.bitmap.now in
     let h = d.held in
-    let same : h.0 ≡ c.in-Ok.length = same_size _ h.0 c.in-Ok.length h.1.size (c.in-Ok.ensures.found m told (held_here o v h.0 m h.1)) in
+    let same : h.0 ≡ c.in-Ok.opened.length = same_size _ h.0 c.in-Ok.opened.length h.1.size (c.in-Ok.ensures.found m told (held_here o v h.0 m h.1)) in
     let held = subst (λ (n : ℕ). Held o v n m) same h.1 in
     let after = c.stream_size.ensures.told ∙ told in
     c.put_with.ensures.absent m after held d.tree
@@ -55,7 +56,7 @@ returns-clause-refused g c m told d =
     let o : Origin = origin_of c.args.tree in
     let v = c.args.bitmap.now in
     let h = d.held in
-    let same : h.0 ≡ c.in-Ok.length = same_size _ h.0 c.in-Ok.length h.1.size (c.in-Ok.ensures.found m told (held_here o v h.0 m h.1)) in
+    let same : h.0 ≡ c.in-Ok.opened.length = same_size _ h.0 c.in-Ok.opened.length h.1.size (c.in-Ok.ensures.found m told (held_here o v h.0 m h.1)) in
     let held = subst (λ (n : ℕ). Held o v n m) same h.1 in
     let after = c.stream_size.ensures.told ∙ told in
     c.put_with.ensures.refused m after held d.tree
@@ -71,5 +72,8 @@ returns-clause-blamed g c m told =
     let o : Origin = origin_of c.args.tree in
     let v = c.args.bitmap.now in
     let h = c.requires.stream m told in
-    let same : h.0 ≡ c.in-Ok.length = same_size _ h.0 c.in-Ok.length h.1.size (c.in-Ok.ensures.found m told (held_here o v h.0 m h.1)) in
+    let same : h.0 ≡ c.in-Ok.opened.length = same_size _ h.0 c.in-Ok.opened.length h.1.size (c.in-Ok.ensures.found m told (held_here o v h.0 m h.1)) in
     c.put_with.ensures.blamed m (c.stream_size.ensures.told ∙ told) (subst (λ (n : ℕ). Held o v n m) same h.1)
+
+pub put_with-requires-clause-bytes : goal.put_with-requires-clause-bytes
+put_with-requires-clause-bytes g c = lent (origin_of c.args.tree) (g.E.Blocks.told c.stream_size.new.under) c.in-Ok.opened.inode.items c.deref.result.now c.deref.ensures.value c.in-Ok.ensures.inode

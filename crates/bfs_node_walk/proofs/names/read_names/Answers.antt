@@ -4,6 +4,7 @@ use Rattle.bfs_super.specs.Conditions.{natural}
 use Rattle.bfs_stream.specs.Sizes.{Sizes, sizes_of}
 use Rattle.bfs_stream.specs.Told.{contents}
 use Rattle.bfs_stream_pages.specs.GoesLaws.{sized_of}
+use Rattle.bfs_stream_pages.proofs.Keeping.{of_content}
 use Rattle.bfs_sound.specs.Volumes.{Volume}
 use Rattle.bfs_sound.specs.Inodes.{content}
 use Rattle.bfs_sound.specs.Whole.{volume_of}
@@ -22,6 +23,9 @@ returns-in_default-clause-wrong g c m told names =
     let sized = sized_of s.block_size (g.B.Blocks.size c.args.under.now) (g.B.Blocks.told c.args.under.now) m c.requires.size told (g.met.B.Blocks.sized c.args.under.now) in
     let long : length (content v c.args.id) ≡ n = length_is s c.args.id m all c.requires.inside has n size sized in
     size_broken v c.args.id (inl names) has (λ h. c.in_default.ensures.none refl n (ap (λ (b : List ℕ). (stream_at b).size) (c.requires.bytes m told) ∙ size) (ap (λ (k : ℕ). k % 1024) (sym long) ∙ h))
+
+pub names_with-requires-clause-bytes : goal.names_with-requires-clause-bytes
+names_with-requires-clause-bytes g c = (c.requires.long, of_content (g.B.Blocks.told c.args.under.now) c.args.id c.args.bytes.now c.requires.bytes)
 
 pub names_with-requires-clause-held : goal.names_with-requires-clause-held
 names_with-requires-clause-held g c m told =
